@@ -1,0 +1,2 @@
+// Laws only, no function: `Ring` solves identities and inequalities of polynomials over ℕ by computation, `Order` turns
+// comparisons into facts and back. A crate above lists `algebra` and writes `use Rattle.algebra.specs.Ring.{..}`.

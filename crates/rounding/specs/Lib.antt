@@ -1,0 +1,5 @@
+pub mod Cut
+pub mod Value
+pub mod Laws
+pub mod Fraction
+pub mod Jam
