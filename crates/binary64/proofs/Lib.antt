@@ -1,0 +1,3 @@
+-- `Nan`: the NaN that code makes. `Sign`: the absolute value by bits.
+mod Nan
+mod Sign
