@@ -1,3 +1,4 @@
 pub mod Leaves
 pub mod Operators
 pub mod Tests
+pub mod Meaning
