@@ -25,7 +25,6 @@ pub record Chosen (second : Bool) (x y r : Float) : Type 0 where
   pub taken : isNan x ≡ false → isNan y ≡ false → second ≡ true → r ≡ y
   pub kept : isNan x ≡ false → isNan y ≡ false → second ≡ false → r ≡ x
 
-
 both-nan : (x y : Float) → isNan x ≡ true → isNan y ≡ true → y ≡ x
 unfolding isNan
 both-nan nan nan h k = refl

@@ -10,8 +10,14 @@ fn row(name: &[u8], x: f64) {
 }
 
 fn main() {
-    row(b"join a NaN's pattern", binary64::join(0x7ff0_0000_0000_0001));
+    row(
+        b"join a NaN's pattern",
+        binary64::join(0x7ff0_0000_0000_0001),
+    );
     row(b"abs -0", binary64::abs(-0.0));
     row(b"max -0 +0", binary64::max(-0.0, 0.0));
-    row(b"min NaN 1", binary64::min(binary64::join(0xfff8_0000_0000_0000), 1.0));
+    row(
+        b"min NaN 1",
+        binary64::min(binary64::join(0xfff8_0000_0000_0000), 1.0),
+    );
 }
