@@ -1,0 +1,20 @@
+//! The crate's five Carlson files over document 01's leaves, and what document 01 says of a call: value and count, or a
+//! number for no. The bodies carry hooks (numeric_literals_hooked); `judge` asks the entries and reads the hooks.
+
+include!("../../frame.rs");
+
+mod hooks;
+mod judge;
+mod natural;
+mod numbers;
+mod polyeval;
+mod power;
+mod ruled;
+pub mod rules;
+mod start;
+
+use polyeval::polyeval;
+
+pub use judge::{rc, rd, rf, rg, rj, Answer, Judged};
+pub use numbers::refusal;
+pub use power::neg_three_halves;

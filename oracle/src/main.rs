@@ -1,0 +1,49 @@
+//! The judge for Gatewren's entries and leaves; README.md says what it compiles and what it is asked.
+
+mod call;
+mod diff;
+mod examples;
+mod families;
+mod gatewren;
+mod leaf;
+mod list;
+mod listing;
+mod random;
+mod shapes;
+mod symbols;
+mod units;
+
+use std::process::ExitCode;
+
+const USAGE: &str = "oracle examples | make-list | check-list | call | diff N [SEED] | leaf NAME N [SEED]";
+
+fn main() -> ExitCode {
+    let words: Vec<String> = std::env::args().skip(1).collect();
+    let words: Vec<&str> = words.iter().map(String::as_str).collect();
+    let good = match words[..] {
+        ["examples"] => examples::run(),
+        ["make-list"] => list::make(),
+        ["check-list"] => list::check(),
+        ["call"] => listing::run(),
+        ["diff", n] => diff::run(number(n), 1),
+        ["diff", n, seed] => diff::run(number(n), number(seed)),
+        ["leaf", name, n] => leaf::run(name, number(n), 1),
+        ["leaf", name, n, seed] => leaf::run(name, number(n), number(seed)),
+        _ => {
+            eprintln!("{USAGE}");
+            false
+        }
+    };
+    if good {
+        ExitCode::SUCCESS
+    } else {
+        ExitCode::FAILURE
+    }
+}
+
+fn number(word: &str) -> u64 {
+    word.parse().unwrap_or_else(|_| {
+        eprintln!("{word} is no number\n{USAGE}");
+        std::process::exit(2)
+    })
+}

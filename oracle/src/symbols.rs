@@ -1,0 +1,37 @@
+//! The symbols of the proved library as function pointers, for the oracle and for bench/: something where the feature of
+//! the symbol's group is on and the archive linked, nothing elsewhere.
+
+macro_rules! linked {
+    ($($feature:literal $name:ident = $symbol:ident($($type:ty),*) -> $result:ty;)*) => {
+        $(
+            #[cfg(feature = $feature)]
+            pub const $name: Option<unsafe extern "C" fn($($type),*) -> $result> = {
+                extern "C" {
+                    fn $symbol($(_: $type),*) -> $result;
+                }
+                Some($symbol)
+            };
+            #[cfg(not(feature = $feature))]
+            pub const $name: Option<unsafe extern "C" fn($($type),*) -> $result> = None;
+        )*
+    };
+}
+
+// The leaves.
+linked! {
+    "lib-sqrt-fma" SQRT = gatewren_sqrt(f64) -> f64;
+    "lib-sqrt-fma" MUL_ADD = gatewren_mul_add(f64, f64, f64) -> f64;
+    "lib-pow" POW = gatewren_pow_neg_3_2(f64) -> f64;
+    "lib-series" ATAN = gatewren_atan(f64) -> f64;
+    "lib-series" LN = gatewren_ln(f64) -> f64;
+    "lib-series" LN_1P = gatewren_ln_1p(f64) -> f64;
+}
+
+// The entries: 0 with the value and its count written, or a number for no.
+linked! {
+    "lib-rc-rf" RC = gatewren_rc(f64, f64, *mut f64, *mut u32) -> u32;
+    "lib-rc-rf" RF = gatewren_rf(f64, f64, f64, *mut f64, *mut u32) -> u32;
+    "lib-rd-rg" RD = gatewren_rd(f64, f64, f64, *mut f64, *mut u32) -> u32;
+    "lib-rd-rg" RG = gatewren_rg(f64, f64, f64, *mut f64, *mut u32) -> u32;
+    "lib-rj" RJ = gatewren_rj(f64, f64, f64, f64, *mut f64, *mut u32) -> u32;
+}

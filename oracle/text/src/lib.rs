@@ -1,0 +1,40 @@
+//! Brings the crate's text, which is not in this repository, to a build: called by the build scripts of `untouched`
+//! and `doc01`. The files are taken as they are given, but for the last line of each Carlson file: an attribute that
+//! stood before the tests, which are not in the text given, so that it has nothing left to stand on.
+
+use std::{env, fs, path::Path, path::PathBuf};
+
+const CARLSON: [&str; 5] = ["elliprc", "elliprf", "elliprd", "elliprg", "elliprj"];
+const DANGLING: &str = "#[cfg(not(feature = \"test_force_fail\"))]";
+
+/// Writes the seven files to OUT_DIR.
+pub fn prepare() {
+    let source = folder();
+    let out = PathBuf::from(env::var("OUT_DIR").expect("cargo gives OUT_DIR"));
+    println!("cargo:rerun-if-env-changed=ELLIP_SRC");
+    for name in CARLSON {
+        let text = read(&source.join("carlson").join(format!("{name}.rs")));
+        let kept = text.trim_end().strip_suffix(DANGLING).expect("a Carlson file ends with the dangling attribute");
+        write(&out.join(format!("{name}.rs")), kept);
+    }
+    for name in ["crate_util", "polyeval"] {
+        write(&out.join(format!("{name}.rs")), &read(&source.join(format!("{name}.rs"))));
+    }
+}
+
+/// ELLIP_SRC, else the folder beside the repository.
+fn folder() -> PathBuf {
+    match env::var_os("ELLIP_SRC") {
+        Some(given) => PathBuf::from(given),
+        None => Path::new(env!("CARGO_MANIFEST_DIR")).join("../../../shared/docs/src"),
+    }
+}
+
+fn read(path: &Path) -> String {
+    println!("cargo:rerun-if-changed={}", path.display());
+    fs::read_to_string(path).unwrap_or_else(|e| panic!("{}: {e} (ELLIP_SRC names the folder of the crate's text)", path.display()))
+}
+
+fn write(path: &Path, text: &str) {
+    fs::write(path, text).unwrap_or_else(|e| panic!("{}: {e}", path.display()));
+}

@@ -1,0 +1,9 @@
+//! The crate's five Carlson files, `crate_util.rs` and `polyeval.rs` as they are, generic; used on plain f64.
+//! RJ of this build does not end for every argument (document 01's no. 10), so ask `doc01` first.
+
+include!("../../frame.rs");
+
+mod polyeval {
+    include!(concat!(env!("OUT_DIR"), "/polyeval.rs"));
+}
+use polyeval::polyeval;
