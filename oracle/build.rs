@@ -3,7 +3,7 @@
 use std::{env, path::Path};
 
 fn main() {
-    println!("cargo:rerun-if-changed=build.rs");
+    println!("cargo:rerun-if-changed=Cargo.toml");
     let wanted = env::vars().any(|(name, _)| name.starts_with("CARGO_FEATURE_LIB_"));
     if !wanted {
         return;

@@ -1,0 +1,65 @@
+//! The entries: beside the untouched crate's on plain f64. Unless said otherwise arguments are moderate.
+
+use crate::clock::Row;
+use crate::inputs::{many, moderate};
+use crate::symbols;
+use untouched::carlson::{elliprc, elliprd, elliprf, elliprg, elliprj};
+
+pub fn rows() -> Vec<Row> {
+    let mut rows = rc();
+    let ours = symbols::RF.map(|f| move |[x, y, z]: [f64; 3]| value(|v, n| unsafe { f(x, y, z, v, n) }));
+    rows.extend(of_three("RF", ours, |[x, y, z]| elliprf(x, y, z).unwrap_or(0.0)));
+    let ours = symbols::RD.map(|f| move |[x, y, z]: [f64; 3]| value(|v, n| unsafe { f(x, y, z, v, n) }));
+    rows.extend(of_three("RD", ours, |[x, y, z]| elliprd(x, y, z).unwrap_or(0.0)));
+    let ours = symbols::RG.map(|f| move |[x, y, z]: [f64; 3]| value(|v, n| unsafe { f(x, y, z, v, n) }));
+    rows.extend(of_three("RG", ours, |[x, y, z]| elliprg(x, y, z).unwrap_or(0.0)));
+    rows.extend(rj());
+    rows
+}
+
+/// The value of a call through the C interface; 0 for a refusal, which the stated inputs do not meet.
+fn value(call: impl FnOnce(*mut f64, *mut u32) -> u32) -> f64 {
+    let (mut value, mut count) = (0.0, 0);
+    call(&mut value, &mut count);
+    value
+}
+
+fn rc() -> Vec<Row> {
+    let ours = symbols::RC.map(|f| move |[x, y]: [f64; 2]| value(|v, n| unsafe { f(x, y, v, n) }));
+    let row = |name, inputs| Row::new(name, inputs, ours, |[x, y]| elliprc(x, y).unwrap_or(0.0));
+    vec![
+        row("RC", many(|r| [moderate(r), moderate(r)])),
+        row("RC y < 0", many(|r| [moderate(r), -moderate(r)])),
+        row("RC equal", many(|r| [moderate(r); 2])),
+        row("RC x = 0", many(|r| [0.0, moderate(r)])),
+    ]
+}
+
+fn of_three(
+    name: &str,
+    ours: Option<impl Fn([f64; 3]) -> f64 + Copy + 'static>,
+    reference: impl Fn([f64; 3]) -> f64 + Copy + 'static,
+) -> Vec<Row> {
+    let row = |what: &str, inputs| Row::new(format!("{name} {what}").trim_end(), inputs, ours, reference);
+    let two_equal = many(|r| {
+        let y = moderate(r);
+        [moderate(r), y, y]
+    });
+    vec![
+        row("", many(|r| [moderate(r), moderate(r), moderate(r)])),
+        row("equal", many(|r| [moderate(r); 3])),
+        row("two equal", two_equal),
+        row("x = 0", many(|r| [0.0, moderate(r), moderate(r)])),
+    ]
+}
+
+fn rj() -> Vec<Row> {
+    let ours = symbols::RJ.map(|f| move |[x, y, z, p]: [f64; 4]| value(|v, n| unsafe { f(x, y, z, p, v, n) }));
+    let row = |name, inputs| Row::new(name, inputs, ours, |[x, y, z, p]| elliprj(x, y, z, p).unwrap_or(0.0));
+    vec![
+        row("RJ", many(|r| [moderate(r), moderate(r), moderate(r), moderate(r)])),
+        row("RJ p < 0", many(|r| [moderate(r), moderate(r), moderate(r), -moderate(r)])),
+        row("RJ equal", many(|r| [moderate(r); 4])),
+        row("RJ x = 0", many(|r| [0.0, moderate(r), moderate(r), moderate(r)])),
+    ]
+}
