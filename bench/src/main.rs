@@ -27,6 +27,9 @@ fn main() {
     println!("ns a call, least of {REPEATS} interleaved repeats over {} inputs; ratio = ours / reference", inputs::COUNT);
     println!("(latency includes the chaining of a result to the next argument, some 2 ns on either side)\n");
     println!("{:<32}{:^30}{:^30}", "", "throughput", "latency");
-    println!("{:<32}{:>9}{:>12}{:>9}{:>9}{:>12}{:>9}", "leaf or entry, inputs", "ours", "reference", "ratio", "ours", "reference", "ratio");
+    println!(
+        "{:<32}{:>9}{:>12}{:>9}{:>9}{:>12}{:>9}",
+        "leaf or entry, inputs", "ours", "reference", "ratio", "ours", "reference", "ratio"
+    );
     rows.iter().for_each(Row::print);
 }

@@ -7,6 +7,7 @@ pub const LARGEST: u64 = 0x7FEF_FFFF_FFFF_FFFF;
 
 /// Where something changes: zeros, the ends of the subnormal and normal ranges, the rescaling limits and their
 /// neighbours, one and its neighbours, infinities, NaN, and numbers below zero.
+#[rustfmt::skip]
 pub const CORNERS: [u64; 28] = [
     0x0000_0000_0000_0000, 0x8000_0000_0000_0000, 0x0000_0000_0000_0001, 0x000F_FFFF_FFFF_FFFF, 0x0010_0000_0000_0000,
     0x37EF_FFFF_FFFF_FFFF, 0x37F0_0000_0000_0000, 0x37F0_0000_0000_0001, 0x37F0_0000_0000_0002, 0x3C10_0000_0000_0000,

@@ -3,12 +3,7 @@
 const NUMBERS: [(&str, &[(&str, u32)]); 5] = [
     (
         "elliprc: ",
-        &[
-            ("x must be non-negative.", 2),
-            ("y must be non-zero.", 4),
-            ("Arguments cannot be NAN.", 1),
-            ("Unexpected error.", 7),
-        ],
+        &[("x must be non-negative.", 2), ("y must be non-zero.", 4), ("Arguments cannot be NAN.", 1), ("Unexpected error.", 7)],
     ),
     (
         "elliprf: ",
@@ -29,10 +24,7 @@ const NUMBERS: [(&str, &[(&str, u32)]); 5] = [
             ("Failed to converge.", 6),
         ],
     ),
-    (
-        "elliprg: ",
-        &[("Arguments must be non-negative.", 2), ("Arguments cannot be NAN.", 1), ("Arguments must be finite.", 8)],
-    ),
+    ("elliprg: ", &[("Arguments must be non-negative.", 2), ("Arguments cannot be NAN.", 1), ("Arguments must be finite.", 8)]),
     (
         "elliprj: ",
         &[

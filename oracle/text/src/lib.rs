@@ -22,17 +22,16 @@ pub fn prepare() {
     }
 }
 
-/// ELLIP_SRC, else the folder beside the repository.
+/// ELLIP_SRC, else the folder beside the repository; both from the repository's root.
 fn folder() -> PathBuf {
-    match env::var_os("ELLIP_SRC") {
-        Some(given) => PathBuf::from(given),
-        None => Path::new(env!("CARGO_MANIFEST_DIR")).join("../../../shared/docs/src"),
-    }
+    let root = Path::new(env!("CARGO_MANIFEST_DIR")).join("../..");
+    root.join(env::var_os("ELLIP_SRC").unwrap_or("../shared/docs/src".into()))
 }
 
 fn read(path: &Path) -> String {
     println!("cargo:rerun-if-changed={}", path.display());
-    fs::read_to_string(path).unwrap_or_else(|e| panic!("{}: {e} (ELLIP_SRC names the folder of the crate's text)", path.display()))
+    fs::read_to_string(path)
+        .unwrap_or_else(|e| panic!("{}: {e} (ELLIP_SRC names the folder of the crate's text)", path.display()))
 }
 
 fn write(path: &Path, text: &str) {

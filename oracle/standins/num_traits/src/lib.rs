@@ -20,7 +20,10 @@ pub trait One {
     fn one() -> Self;
 }
 
-pub trait Field: Add<Output = Self> + Sub<Output = Self> + Mul<Output = Self> + Div<Output = Self> + Neg<Output = Self> + Sized {}
+pub trait Field:
+    Add<Output = Self> + Sub<Output = Self> + Mul<Output = Self> + Div<Output = Self> + Neg<Output = Self> + Sized
+{
+}
 
 impl<T: Add<Output = T> + Sub<Output = T> + Mul<Output = T> + Div<Output = T> + Neg<Output = T>> Field for T {}
 
