@@ -1,0 +1,2 @@
+// The C interface, for C and Rust to link: the leaves and the entries under C names. A list only; what each does is in its crate.
+mod leaves;

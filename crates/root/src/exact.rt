@@ -1,0 +1,96 @@
+// The rounded root of n * 2 ^ 52: the whole number c with c * (c - 1) < n * 2 ^ 52 ≤ c * (c + 1).
+// A product is formed by the halves of c, c = h * 2 ^ 26 + l, so that it fits 64 bits.
+use crate::guess::guess;
+ghost use mathlib.Core.Path.{_≡_};
+ghost use mathlib.Core.Bool.{true};
+ghost use Prim.Native.Nat.{_+_, _*_, _^_, _≤_, _<_};
+ghost use lib.Dec.{ltb};
+ghost use Rattle.root.specs.Parts.{RootDigits};
+
+const HALF: u64 = 0x400_0000; // 2 ^ 26
+
+const ONE: u64 = 0x10_0000_0000_0000; // 2 ^ 52
+
+const TWO: u64 = 0x3fe0_0000_0000_0000; // with the 53 digits, the pattern of a number from 1 to 2
+
+const FOUR: u64 = 0x3ff0_0000_0000_0000; // and from 2 to 4
+
+// Whether c is the root: the products of the halves are formed once for both tests, and l is 1 at least, so that no difference is below zero.
+pub fn is_root(n: u64, c: u64) -> bool
+    ensures { λ r. ⌜ (r ≡ true → RootDigits n c) ⌝ }
+{
+    if c / ONE != 1 {
+        return false;
+    }
+    let h = (c - 1) / HALF;
+    let l = (c - 1) % HALF + 1;
+    let hh = h * h;
+    let hl = 2 * h * l;
+    let ll = l * l;
+    if n <= hh + (hl - h + (ll - l) / HALF) / HALF {
+        return false;
+    }
+    n <= hh + (hl + h + (ll + l) / HALF) / HALF
+}
+
+// Whether n * 2 ^ 52 is above c * (c + 1), so that the root is above c.
+fn above(n: u64, c: u64) -> bool
+    requires { ⌜ c ≤ 2 ^ 53 ⌝ }
+    ensures { λ r. ⌜ r ≡ ltb (c * (c + 1)) (n * 2 ^ 52) ⌝ }
+{
+    let h = c / HALF;
+    let l = c % HALF;
+    h * h + (2 * h * l + h + (l * l + l) / HALF) / HALF < n
+}
+
+// The root, by halving the range that it lies in: 52 turns, whatever n is.
+fn bisect(n: u64) -> u64
+    requires { ⌜ (2 ^ 52 ≤ n) × (n + 2 ≤ 2 ^ 54) ⌝ }
+    ensures { λ r. ⌜ RootDigits n r ⌝ }
+{
+    let mut low = ONE - 1;
+    let mut turns = 52u64;
+    while 0 < turns {
+        turns -= 1;
+        let middle = low + (1 << turns);
+        if above(n, middle) {
+            low = middle;
+        }
+    }
+    low + 1
+}
+
+// A guess at the root from n alone, any number where the guess is no number.
+fn near(n: u64) -> u64
+    requires { ⌜ n < 2 ^ 54 ⌝ }
+{
+    let s = if n < 2 * ONE {
+        guess(n + TWO)
+    } else {
+        guess(n / 2 + FOUR)
+    };
+    if s > 0.0 {
+        return std::num::wrapping_sub_u64(f64::to_bits(s), TWO);
+    }
+    0
+}
+
+// The root: near the guess, as far as tests have shown, and in any case by `bisect`.
+pub fn search(n: u64) -> u64
+    requires { ⌜ (2 ^ 52 ≤ n) × (n + 2 ≤ 2 ^ 54) ⌝ }
+    ensures { λ r. ⌜ RootDigits n r ⌝ }
+{
+    let c = near(n);
+    if is_root(n, c) {
+        return c;
+    }
+    let before = std::num::wrapping_sub_u64(c, 1);
+    if is_root(n, before) {
+        return before;
+    }
+    let after = std::num::wrapping_add_u64(c, 1);
+    if is_root(n, after) {
+        return after;
+    }
+    bisect(n)
+}

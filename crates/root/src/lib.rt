@@ -1,0 +1,55 @@
+// The square root of an f64, exactly rounded, at every f64.
+//
+// `guess` finds it by plain f64 arithmetic; nothing is proved of that. `is_root` tests it in whole numbers, and what passes is proved
+// to be the root. Where the guess is one off, or the number is subnormal, `search` finds the root, in a bounded number of steps.
+// The processor runs past the test before it is done, so the test costs no waiting.
+mod exact;
+mod guess;
+pub mod parts;
+mod start;
+
+use crate::exact::is_root;
+use crate::exact::search;
+use crate::guess::guess;
+use crate::parts::scaled;
+ghost use mathlib.Core.Path.{_≡_};
+ghost use Prim.Native.Nat.{_<_};
+ghost use lib.Ieee.{binary64, ofBits};
+ghost use Rattle.rounding.specs.Cut.{infinity};
+ghost use Rattle.root.specs.Root.{root};
+
+const ONE: u64 = 0x10_0000_0000_0000; // 2 ^ 52
+
+const INFINITY: u64 = 0x7ff0_0000_0000_0000; // the pattern of the infinity
+
+// The root of the f64 that has the pattern b, finite and above zero.
+fn positive(b: u64) -> f64
+    requires { ⌜ (0 < b) × (b < infinity) ⌝ }
+    ensures { λ r. ⌜ r ≡ root (ofBits binary64 b) ⌝ }
+{
+    let p = scaled(b);
+    let s = guess(b);
+    if s > 0.0 {
+        let c = std::num::wrapping_sub_u64(f64::to_bits(s), p.y * ONE);
+        if is_root(p.n, c) {
+            return s;
+        }
+    }
+    f64::from_bits(p.y * ONE + search(p.n))
+}
+
+pub fn sqrt(x: f64) -> f64
+    ensures { λ r. ⌜ r ≡ root x ⌝ }
+{
+    if x > 0.0 {
+        let b = f64::to_bits(x);
+        if b < INFINITY {
+            return positive(b);
+        }
+        return x;
+    }
+    if x == 0.0 {
+        return x;
+    }
+    0.0 / 0.0
+}
