@@ -2,7 +2,7 @@
 //
 // `guess` finds it by plain f64 arithmetic; nothing is proved of that. `is_root` tests it in whole numbers, and what passes is proved
 // to be the root. Where the guess is one off, or the number is subnormal, `search` finds the root, in a bounded number of steps.
-// The processor runs past the test before it is done, so the test costs no waiting.
+// A caller does not wait for the test: the processor runs on past it. The guess is made first, so that it is on its way early.
 mod exact;
 mod guess;
 pub mod parts;
@@ -27,8 +27,8 @@ fn positive(b: u64) -> f64
     requires { ⌜ (0 < b) × (b < infinity) ⌝ }
     ensures { λ r. ⌜ r ≡ root (ofBits binary64 b) ⌝ }
 {
-    let p = scaled(b);
     let s = guess(b);
+    let p = scaled(b);
     if s > 0.0 {
         let c = std::num::wrapping_sub_u64(f64::to_bits(s), p.y * ONE);
         if is_root(p.n, c) {

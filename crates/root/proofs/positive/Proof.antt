@@ -12,24 +12,24 @@ use Rattle.root.proofs.Law.{c-high, pattern-fits, root-pattern}
 use Rattle.root.proofs.positive.Statement.{statement}
 use Rattle.root.proofs.positive.Tie as tie
 
-known : (c : tie.After-scaled) → Scaled (c .before .args .b) (c .scaled .result .n) (c .scaled .result .y)
-known c = c .scaled .ensures (c .before .pre .0) (c .before .pre .1)
+known : (c : tie.After-scaled) → Scaled (c .before .before .args .b) (c .scaled .result .n) (c .scaled .result .y)
+known c = let a = c .before .before in c .scaled .ensures (a .pre .0) (a .pre .1)
 
 -- the format holds the guess
 held : (c : tie.After-guess) → T (fits binary64 (c .guess .result))
 held c = subst T (sym (c .guess .ok)) tt
 
-scaled-requires : tie.Need-scaled-requires
-scaled-requires c κs = search needs
-
 guess-requires : tie.Need-guess-requires
 guess-requires c κs = search needs
+
+scaled-requires : tie.Need-scaled-requires
+scaled-requires c κs = search needs
 
 float-to-bits-wrapping-sub-u64 : tie.Need-float-to-bits-wrapping-sub-u64
 float-to-bits-wrapping-sub-u64 c = above-no-nan _ (c .if1 .taken)
 
 mul-wrapping-sub-u64 : tie.Need-mul-wrapping-sub-u64
-mul-wrapping-sub-u64 c = let s = known (c .before .before .before) in record { fits = omega arith }
+mul-wrapping-sub-u64 c = let s = known (c .before .before) in record { fits = omega arith }
 
 wrapping-sub-u64-requires : tie.Need-wrapping-sub-u64-requires
 wrapping-sub-u64-requires c κs = search needs
@@ -39,41 +39,40 @@ is-root-requires c κs = search needs
 
 returns : tie.Need-returns
 returns c =
-    let g = c .before .before .before .before .before in
-    let s = known (g .before) in
+    let a = c .before .before .before .before .before in
+    let s = known a in
+    let h = held (a .before) in
     let d = c .before .is-root .ensures (c .if2 .taken) in
     let k = c .before .before .wrapping-sub-u64 .result in
-    let b = toBits binary64 (g .guess .result) in
-    let y = g .before .scaled .result .y in
-    let e : y * 2 ^ 52 + k ≡ b =
-    omega (arith, c .before .before .wrapping-sub-u64 .ensures, c-high _ k (s .high) d, toBits-lt binary64 _ (held g)) in
-    sym (root-pattern k (g .before .before .pre) s d ∙ ap (λ (z : ℕ). ofBits binary64 z) e ∙ ofBits-toBits binary64 _ (held g))
+    let e : a .scaled .result .y * 2 ^ 52 + k ≡ toBits binary64 (a .before .guess .result) =
+    omega (arith, c .before .before .wrapping-sub-u64 .ensures, c-high _ k (s .high) d, toBits-lt binary64 _ h) in
+    sym (root-pattern k (a .before .before .pre) s d ∙ ap (λ (z : ℕ). ofBits binary64 z) e ∙ ofBits-toBits binary64 _ h)
 
 mul-result : tie.Need-mul-result
-mul-result c = let s = known (c .before .before .before) in record { fits = omega arith }
+mul-result c = let s = known (c .before .before) in record { fits = omega arith }
 
 search-requires : tie.Need-search-requires
-search-requires c κs = let s = known (c .before .before .before) in (s .low, s .high)
+search-requires c κs = let s = known (c .before .before) in (s .low, s .high)
 
 add-result : tie.Need-add-result
-add-result c = let s = known (c .before .before .before .before) in record { fits = omega (arith, pattern-fits _ s (c .search .ensures)) }
+add-result c = let s = known (c .before .before .before) in record { fits = omega (arith, pattern-fits _ s (c .search .ensures)) }
 
 float-from-bits-result : tie.Need-float-from-bits-result
 float-from-bits-result c =
-    let a = c .before .before .before .before in
+    let a = c .before .before .before in
     bits-number (a .scaled .result .y * 2 ^ 52 + c .search .result) (omega (arith, pattern-fits _ (known a) (c .search .ensures)))
 
 returns-2 : tie.Need-returns-2
 returns-2 c =
-    let a = c .before .before .before .before in
-    sym (root-pattern (c .search .result) (a .before .pre) (known a) (c .search .ensures))
+    let a = c .before .before .before in
+    sym (root-pattern (c .search .result) (a .before .before .pre) (known a) (c .search .ensures))
 
 pub positive-spec : {M : Type 1} → statement M
 positive-spec =
     tie.close
     (tie.spec
-    scaled-requires
     guess-requires
+    scaled-requires
     float-to-bits-wrapping-sub-u64
     mul-wrapping-sub-u64
     wrapping-sub-u64-requires
