@@ -9,6 +9,9 @@ use Rattle.root.proofs.guess.guess.Tie as tie
 start-requires : tie.Need-start-requires
 start-requires c κs = search needs
 
+slope-requires : tie.Need-slope-requires
+slope-requires c κs = search needs
+
 add-scale : tie.Need-add-scale
 add-scale c = search needs
 
@@ -16,13 +19,13 @@ mul-scale : tie.Need-mul-scale
 mul-scale c = search needs
 
 float-from-bits-scale : tie.Need-float-from-bits-scale
-float-from-bits-scale c = bits-number ((c .before .args .b / 2 ^ 53 + 512) * 2 ^ 52) (omega arith)
+float-from-bits-scale c = bits-number ((c .before .before .args .b / 2 ^ 53 + 512) * 2 ^ 52) (omega arith)
 
 add-d : tie.Need-add-d
 add-d c = search needs
 
 float-from-bits-d : tie.Need-float-from-bits-d
-float-from-bits-d c = bits-number (c .before .args .b % 2 ^ 53 + 1022 * 2 ^ 52) (omega arith)
+float-from-bits-d c = bits-number (c .before .before .args .b % 2 ^ 53 + 1022 * 2 ^ 52) (omega arith)
 
 returns : tie.Need-returns
 returns c = search needs
@@ -32,6 +35,7 @@ guess-spec =
     tie.close
     (tie.spec
     start-requires
+    slope-requires
     add-scale
     mul-scale
     float-from-bits-scale
