@@ -1,0 +1,5 @@
+pub mod Quotient
+pub mod Enclosure
+pub mod Pieces
+pub mod Rules
+pub mod Examples
