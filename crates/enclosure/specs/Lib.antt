@@ -1,4 +1,5 @@
 pub mod Quotient
+pub mod Order
 pub mod Enclosure
 pub mod Pieces
 pub mod Rules

@@ -14,8 +14,8 @@ pub record Quotient : Type 0 where
 infix 50 _≼_
 infixl 65 _⊞_ _⊟_
 infixl 70 _⊠_
-abbrev pub _≼_ : Quotient → Quotient → Type 0
-x ≼ y = x .num * y .den ≤ y .num * x .den
+pub record _≼_ (x y : Quotient) : Type 0 where
+  pub cross : x .num * y .den ≤ y .num * x .den
 
 abbrev pub whole : ℕ → Quotient
 whole n = record { num = n; den = 1; pos = omega arith }
