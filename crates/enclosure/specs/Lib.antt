@@ -1,6 +1,12 @@
 pub mod Quotient
 pub mod Order
 pub mod Enclosure
+pub mod Nested
 pub mod Pieces
+pub mod Expansion
+pub mod Shifted
+pub mod Floors
+pub mod Slope
+pub mod Values
 pub mod Rules
 pub mod Examples

@@ -31,10 +31,13 @@ odd-product (suc n) = (2 * n + 1) * odd-product n
 abbrev pub denominator : Series → ℕ
 denominator s = odd-product (terms s)
 
--- c_(n+1) from c_n: times (2n+2) / (2n+3), or times (2n+1) / (2n+3)
+-- c_(n+1) is c_n times (2n+2) / (2n+3), or times (2n+1) / (2n+3)
+abbrev pub weight : Series → ℕ → ℕ
+weight euler n = 2 * n + 2
+weight odd n = 2 * n + 1
+
 abbrev pub next : Series → ℕ → ℕ → ℕ
-next euler n c = c * (2 * n + 2) / (2 * n + 3)
-next odd n c = c * (2 * n + 1) / (2 * n + 3)
+next s n c = c * weight s n / (2 * n + 3)
 
 -- `left` numerators from the n-th on, which is c
 abbrev pub numerators-from : Series → ℕ → ℕ → ℕ → List ℕ
