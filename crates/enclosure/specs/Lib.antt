@@ -8,5 +8,7 @@ pub mod Shifted
 pub mod Floors
 pub mod Slope
 pub mod Values
+pub mod Atan
+pub mod Logarithm
 pub mod Rules
 pub mod Examples

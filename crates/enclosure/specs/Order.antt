@@ -52,3 +52,10 @@ pub ⊞-under : (x y z : Quotient) → x ⊞ y ⊞ z ≼ x ⊞ (y ⊞ z)
 
 pub ⊞-over : (x y z : Quotient) → x ⊞ (y ⊞ z) ≼ x ⊞ y ⊞ z
 ⊞-over x y z = record { cross = le-of-eq (sym (grouped .law (x .num) (x .den) (y .num) (y .den) (z .num) (z .den))) }
+
+-- ---- units
+joined : Order 4 (λ a b c q. (q :* q times a :+ b ≼ c) ∷ [] ⊩ (a :* q :+ b :* q) :* q ≈ c :* (q :* q))
+joined = by-below tt
+
+pub units-join : (k a b c : ℕ) → a + b ≤ c → units k a ⊞ units k b ≼ units k c
+units-join k a b c h = record { cross = joined .law a b c (2 ^ k) h }
