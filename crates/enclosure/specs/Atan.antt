@@ -10,9 +10,9 @@ use lib.Dec.{leb→le}
 use lib.Pow.{pow-pos, pow-add}
 use Rattle.algebra.specs.Ring.{con, nxt, _:+_, _:*_, _≈_, _⊩_, _times_≼_, Order, by-below}
 use Rattle.enclosure.specs.Quotient.{Quotient, _≼_, units, _⊞_, _⊠_}
-use Rattle.enclosure.specs.Order.{≼-refl, ≼-trans, ⊞-mono, ⊠-mono, units-join}
+use Rattle.enclosure.specs.Order.{≼-refl, ≼-trans, ⊞-mono, ⊠-mono}
 use Rattle.enclosure.specs.Enclosure.{one-and-square, euler-start, euler-ratio, euler-term, atan-lower, atan-upper, Within}
-use Rattle.enclosure.specs.Nested.{euler-falls, atan-nested}
+use Rattle.enclosure.specs.Nested.{euler-falls, atan-nested, near-all, gathered}
 use Rattle.enclosure.specs.Expansion.{euler-expansion, power, late, Enough, enough-by}
 use Rattle.enclosure.specs.Pieces.{euler, value}
 use Rattle.enclosure.specs.Rules.{square, share, front, atan-from-share, atan-answer}
@@ -223,13 +223,10 @@ module _ (t : Quotient) (j tau : ℕ) (floor : Floor t j tau) where
       ≼-trans (⊠-mono ≼-refl (late (euler-term t) (euler-ratio t) (one-and-square t) (euler-falls t) 64)) fits
 
   -- THE LAW
-  pub atan-near : Within (atan-lower t) (atan-upper t) (62 + j) (atan-answer j tau) 10 30
+  pub atan-near : Within (atan-lower t) (atan-upper t) (units (62 + j) (atan-answer j tau)) (units (62 + j) 10) (units (62 + j) 30)
   unfolding atan-answer atan-lower atan-upper
   atan-near =
       let at-low : units (62 + j) A ≼ atan-lower t 64 ⊞ units (62 + j) 10 = ≼-trans partial-low (⊞-mono (euler-expansion t 64 .0) ≼-refl) in
-      let at-high : atan-upper t 64 ≼ units (62 + j) (A + 30) =
-          ≼-trans (⊞-mono (≼-trans (euler-expansion t 64 .1) partial-high) tail-high) (units-join (62 + j) (A + 29) 1 (A + 30) (omega arith)) in
-      record {
-        low = λ i. ≼-trans at-low (⊞-mono (atan-nested t 64 i) ≼-refl);
-        high = λ i. ≼-trans (atan-nested t i 64) at-high;
-      }
+      let at-high : atan-upper t 64 ≼ units (62 + j) A ⊞ units (62 + j) 30 =
+          gathered (62 + j) A 29 1 (≼-trans (euler-expansion t 64 .1) partial-high) tail-high in
+      near-all (atan-nested t) 64 at-low at-high

@@ -4,7 +4,7 @@
 use Prim.Native.Nat.{ℕ, zero, suc, _+_, _-_, _*_, _≤_, _<_}
 use native.Mathlib.Nat.{mul-pos, mul-le-mul}
 use native.Mathlib.Omega.{arith}
-use Rattle.enclosure.specs.Quotient.{Quotient, _≼_, whole, over, units, _⊞_, _⊟_, _⊠_}
+use Rattle.enclosure.specs.Quotient.{Quotient, _≼_, whole, over, _⊞_, _⊟_, _⊠_}
 
 -- the first n terms of a series
 unfoldable pub sum : (ℕ → Quotient) → ℕ → Quotient
@@ -120,7 +120,7 @@ double-lower s n = whole 2 ⊠ T-lower s n
 unfoldable pub double-upper : (s : Quotient) → s .num < s .den → ℕ → Quotient
 double-upper s h n = whole 2 ⊠ T-upper s h n
 
--- ---- near every enclosure: v units of 2 ^ -k are at most `down` units above each upper end, at most `up` below each lower end
-pub record Within (lower upper : ℕ → Quotient) (k v down up : ℕ) : Type 0 where
-  pub low : (n : ℕ) → units k v ≼ upper n ⊞ units k down
-  pub high : (n : ℕ) → lower n ≼ units k (v + up)
+-- ---- near every enclosure: v is at most `down` above each upper end, and at most `up` below each lower end
+pub record Within (lower upper : ℕ → Quotient) (v down up : Quotient) : Type 0 where
+  pub low : (n : ℕ) → v ≼ upper n ⊞ down
+  pub high : (n : ℕ) → lower n ≼ v ⊞ up

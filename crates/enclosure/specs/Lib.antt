@@ -10,5 +10,6 @@ pub mod Slope
 pub mod Values
 pub mod Atan
 pub mod Logarithm
+pub mod Seeds
 pub mod Rules
 pub mod Examples

@@ -10,9 +10,9 @@ use lib.Dec.{leb→le}
 use lib.Pow.{pow-pos, pow-add}
 use Rattle.algebra.specs.Ring.{con, nxt, _:+_, _:*_, _≈_, _⊩_, _times_≼_, Order, by-below}
 use Rattle.enclosure.specs.Quotient.{Quotient, _≼_, over, units, _⊞_, _⊠_}
-use Rattle.enclosure.specs.Order.{≼-refl, ≼-trans, ⊞-mono, ⊠-mono, units-join}
+use Rattle.enclosure.specs.Order.{≼-refl, ≼-trans, ⊞-mono, ⊠-mono}
 use Rattle.enclosure.specs.Enclosure.{odd-power, T-term, T-factor, T-lower, T-upper, Within}
-use Rattle.enclosure.specs.Nested.{T-falls, T-nested}
+use Rattle.enclosure.specs.Nested.{T-falls, T-nested, near-all, gathered}
 use Rattle.enclosure.specs.Expansion.{T-expansion, power, late, Enough, enough-by}
 use Rattle.enclosure.specs.Pieces.{odd, value}
 use Rattle.enclosure.specs.Rules.{seed-square, T-answer}
@@ -147,13 +147,10 @@ module _ (s : Quotient) (proper : s .num < s .den) (j sg : ℕ) (seed : Seed s j
       ≼-trans (⊠-mono ≼-refl (late (T-term s) z (T-factor s proper) (T-falls s proper) 44)) fits
 
   -- THE LAW
-  pub T-near : Within (T-lower s) (T-upper s proper) (62 + j) (T-answer j sg) 12 39
+  pub T-near : Within (T-lower s) (T-upper s proper) (units (62 + j) (T-answer j sg)) (units (62 + j) 12) (units (62 + j) 39)
   unfolding T-answer T-lower T-upper
   T-near =
       let at-low : units (62 + j) B ≼ T-lower s 44 ⊞ units (62 + j) 12 = ≼-trans partial-low (⊞-mono (T-expansion s 44 .0) ≼-refl) in
-      let at-high : T-upper s proper 44 ≼ units (62 + j) (B + 39) =
-          ≼-trans (⊞-mono (≼-trans (T-expansion s 44 .1) partial-high) tail-high) (units-join (62 + j) (B + 37) 2 (B + 39) (omega arith)) in
-      record {
-        low = λ i. ≼-trans at-low (⊞-mono (T-nested s proper 44 i) ≼-refl);
-        high = λ i. ≼-trans (T-nested s proper i 44) at-high;
-      }
+      let at-high : T-upper s proper 44 ≼ units (62 + j) B ⊞ units (62 + j) 39 =
+          gathered (62 + j) B 37 2 (≼-trans (T-expansion s 44 .1) partial-high) tail-high in
+      near-all (T-nested s proper) 44 at-low at-high

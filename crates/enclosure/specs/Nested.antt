@@ -7,9 +7,9 @@ use mathlib.Core.List.{[], _∷_}
 use native.Mathlib.Nat.{mul-le-mul}
 use native.Mathlib.Omega.{arith}
 use Rattle.algebra.specs.Ring.{con, nxt, _:+_, _:*_, _≈_, _⊩_, _times_≼_, Order, by-below}
-use Rattle.enclosure.specs.Quotient.{Quotient, _≼_, whole, _⊞_, _⊠_}
-use Rattle.enclosure.specs.Order.{≼-refl, ≼-trans, ⊞-mono, ⊠-mono, ≼-more, ⊞-under}
-use Rattle.enclosure.specs.Enclosure.{sum, odd-power, T-term, T-factor, T-lower, T-upper, one-and-square, euler-ratio, euler-term, atan-lower, atan-upper}
+use Rattle.enclosure.specs.Quotient.{Quotient, _≼_, whole, units, _⊞_, _⊠_}
+use Rattle.enclosure.specs.Order.{≼-refl, ≼-trans, ⊞-mono, ⊠-mono, ≼-more, ⊞-under, units-join, units-split}
+use Rattle.enclosure.specs.Enclosure.{sum, odd-power, T-term, T-factor, T-lower, T-upper, one-and-square, euler-ratio, euler-term, atan-lower, atan-upper, Within}
 
 pub record Falls (a : ℕ → Quotient) (z k : Quotient) : Type 0 where
   pub ratio : (i : ℕ) → a (suc i) ≼ z ⊠ a i
@@ -98,3 +98,13 @@ euler-falls t =
 pub atan-nested : (t : Quotient) (n m : ℕ) → atan-lower t n ≼ atan-upper t m
 unfolding atan-lower atan-upper
 atan-nested t = nested (euler-term t) (euler-ratio t) (one-and-square t) (euler-falls t)
+
+-- ---- so an answer that is near one enclosure, the N-th, is near every one
+pub near-all : {lower upper : ℕ → Quotient} → ((n m : ℕ) → lower n ≼ upper m) → (N : ℕ) {v down up : Quotient}
+    → v ≼ lower N ⊞ down → upper N ≼ v ⊞ up → Within lower upper v down up
+near-all nest N low high = record { low = λ n. ≼-trans low (⊞-mono (nest N n) ≼-refl); high = λ n. ≼-trans (nest n N) high }
+
+-- (a bound of the partial sum and one of the rest, gathered)
+pub gathered : {x y : Quotient} (k v a b : ℕ) → x ≼ units k (v + a) → y ≼ units k b → x ⊞ y ≼ units k v ⊞ units k (a + b)
+gathered k v a b h g =
+    ≼-trans (⊞-mono (≼-trans h (units-split k v a)) g) (≼-trans (⊞-under (units k v) (units k a) (units k b)) (⊞-mono ≼-refl (units-join k a b)))

@@ -2,7 +2,7 @@
 use Prim.Native.Nat.{ℕ, _+_, _-_, _*_, _^_, _≤_}
 use mathlib.Core.Path.{_≡_, sym}
 use mathlib.Core.List.{[], _∷_}
-use native.Mathlib.Nat.{le-of-mul-le-mul-right, le-of-eq, mul-pos}
+use native.Mathlib.Nat.{le-of-mul-le-mul-right, le-of-eq, mul-pos, mul-le-mul-right}
 use native.Mathlib.Omega.{arith}
 use Rattle.algebra.specs.Ring.{con, _:+_, _:*_, _≈_, _⊩_, _times_≼_, Law, by-ring, Order, by-below}
 use Rattle.enclosure.specs.Quotient.{Quotient, _≼_, whole, units, _⊞_, _⊟_, _⊠_}
@@ -54,8 +54,14 @@ pub ⊞-over : (x y z : Quotient) → x ⊞ (y ⊞ z) ≼ x ⊞ y ⊞ z
 ⊞-over x y z = record { cross = le-of-eq (sym (grouped .law (x .num) (x .den) (y .num) (y .den) (z .num) (z .den))) }
 
 -- ---- units
-joined : Order 4 (λ a b c q. (q :* q times a :+ b ≼ c) ∷ [] ⊩ (a :* q :+ b :* q) :* q ≈ c :* (q :* q))
-joined = by-below tt
+joined : Law 3 (λ a b q. (a :* q :+ b :* q) :* q ≈ (a :+ b) :* (q :* q))
+joined = by-ring tt
 
-pub units-join : (k a b c : ℕ) → a + b ≤ c → units k a ⊞ units k b ≼ units k c
-units-join k a b c h = record { cross = joined .law a b c (2 ^ k) h }
+pub units-join : (k a b : ℕ) → units k a ⊞ units k b ≼ units k (a + b)
+units-join k a b = record { cross = le-of-eq (joined .law a b (2 ^ k)) }
+
+pub units-split : (k a b : ℕ) → units k (a + b) ≼ units k a ⊞ units k b
+units-split k a b = record { cross = le-of-eq (sym (joined .law a b (2 ^ k))) }
+
+pub units-mono : (k a b : ℕ) → a ≤ b → units k a ≼ units k b
+units-mono k a b h = record { cross = mul-le-mul-right (2 ^ k) h }
