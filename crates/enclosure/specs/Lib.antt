@@ -11,5 +11,8 @@ pub mod Values
 pub mod Atan
 pub mod Logarithm
 pub mod Seeds
+pub mod Constants
+pub mod Tiny
+pub mod Steep
 pub mod Rules
 pub mod Examples
