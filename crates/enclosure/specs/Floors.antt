@@ -8,7 +8,7 @@ use mathlib.Core.List.{List, [], _∷_}
 use native.Mathlib.Nat.{le-of-mul-le-mul-right, div-mul-le-self, lt-div-mul-add, div-lt-iff-lt-mul, pow-succ', le-trans, mul-zero, zero-div}
 use native.Mathlib.Omega.{arith}
 use lib.Dec.{T, leb, leb→le}
-use lib.ListN.{length}
+use lib.ListN.{length, getD}
 use lib.Pow.{pow-pos}
 use lib.Ieee.Fits.{and-l, and-r}
 use Rattle.algebra.specs.Ring.{con, nxt, _:+_, _:*_, _≈_, _⊩_, _times_≼_, Order, by-below}
@@ -18,6 +18,10 @@ use Rattle.enclosure.specs.Shifted.{evaluate}
 pub horner-step : (d r : ℕ) (rs : List ℕ) → horner d (r ∷ rs) ≡ r + d * horner d rs / 2 ^ 64
 horner-step d r [] = rw (mul-zero d, zero-div (2 ^ 64)) (omega arith)
 horner-step d r (q ∷ rs) = refl
+
+pub horner-least : (d : ℕ) (rs : List ℕ) → getD rs 0 0 ≤ horner d rs
+horner-least d [] = omega arith
+horner-least d (r ∷ rs) = rw (horner-step d r rs) (omega arith)
 
 -- ---- Horner's rule stays in a word
 abbrev pub all-fit : List ℕ → Bool

@@ -14,5 +14,8 @@ pub mod Seeds
 pub mod Constants
 pub mod Tiny
 pub mod Steep
+pub mod Ln
+pub mod Sizes
+pub mod Answers
 pub mod Rules
 pub mod Examples

@@ -8,7 +8,7 @@ use mathlib.Core.List.{List, [], _∷_}
 use native.Mathlib.Nat.{le-of-mul-le-mul-right, mul-pos, mul-le-mul, mod-lt, div-add-mod', div-le-of-le-mul, le-of-eq, le-trans, le-of-lt, one-le-pow}
 use native.Mathlib.Omega.{arith}
 use lib.Dec.{T, leb, leb→le}
-use lib.ListN.{length}
+use lib.ListN.{length, getD}
 use lib.Pow.{pow-pos}
 use lib.Ieee.Fits.{and-l, and-r}
 use Rattle.algebra.specs.Ring.{con, nxt, _:+_, _:*_, _≈_, _⊩_, _times_≼_, Order, by-below}
@@ -18,7 +18,7 @@ use Rattle.enclosure.specs.Order.{≼-refl, ≼-trans, ⊞-mono}
 use Rattle.enclosure.specs.Pieces.{Series, euler, odd, terms, pieces, denominator, row-denominator, numerators, shifted, row, value}
 use Rattle.enclosure.specs.Expansion.{coefficient, exact}
 use Rattle.enclosure.specs.Shifted.{evaluate, length-shifted, shifted-value, mul-pow, length-numerators, exact-is}
-use Rattle.enclosure.specs.Floors.{all-fit, horner-fits, left-out, floors-low, floors-high}
+use Rattle.enclosure.specs.Floors.{horner-least, all-fit, horner-fits, left-out, floors-low, floors-high}
 use Rattle.enclosure.specs.Slope.{half, exact-two, exact-rises}
 
 -- ---- a test of all numbers below n
@@ -33,11 +33,20 @@ all-at f (suc n) t i h = elim (lt-or-le i n) [
   | inr l ↦ let e : i ≡ n = omega arith in rw e (and-l (f n) (all-below f n) t)
 ]
 
--- ---- computed: the entries fit a word, and what the rows leave out is at most 3 units
-pub row-fits : (s : Series) (i : ℕ) → i < pieces s → T (all-fit (row s i))
+-- ---- computed: the entries fit a word and the first is 1 at least, and what the rows leave out is at most 3 units
+abbrev pub good-row : List ℕ → Bool
+good-row rs = leb (2 ^ 63) (getD rs 0 0) && all-fit rs
+
+row-good : (s : Series) (i : ℕ) → i < pieces s → T (good-row (row s i))
 unfolding row numerators
-row-fits euler = all-at (λ i. all-fit (row euler i)) 33 tt
-row-fits odd = all-at (λ i. all-fit (row odd i)) 24 tt
+row-good euler = all-at (λ i. good-row (row euler i)) 33 tt
+row-good odd = all-at (λ i. good-row (row odd i)) 24 tt
+
+pub row-fits : (s : Series) (i : ℕ) → i < pieces s → T (all-fit (row s i))
+row-fits s i h = and-r (leb (2 ^ 63) (getD (row s i) 0 0)) (all-fit (row s i)) (row-good s i h)
+
+row-first : (s : Series) (i : ℕ) → i < pieces s → 2 ^ 63 ≤ getD (row s i) 0 0
+row-first s i h = leb→le (2 ^ 63) (getD (row s i) 0 0) (and-l (leb (2 ^ 63) (getD (row s i) 0 0)) (all-fit (row s i)) (row-good s i h))
 
 abbrev pub little-left : Series → ℕ → Bool
 little-left s i = leb (2 ^ 63 * left-out 12 (shifted i (numerators s))) (3 * row-denominator s)
@@ -55,6 +64,10 @@ value-fits s x h =
     let inside : p < 2 ^ 58 = mod-lt x (pow-pos 58) in
     let d : 4 * p ≤ 2 ^ 60 = omega arith in
     horner-fits (4 * p) (row s (x / 2 ^ 58)) d (row-fits s (x / 2 ^ 58) h)
+
+pub value-least : (s : Series) (x : ℕ) → x / 2 ^ 58 < pieces s → 2 ^ 63 ≤ value s x
+unfolding value
+value-least s x h = le-trans (row-first s (x / 2 ^ 58) h) (horner-least (4 * (x % 2 ^ 58)) (row s (x / 2 ^ 58)))
 
 -- ---- the exact partial sum
 abbrev pub partial : Series → Quotient → Quotient

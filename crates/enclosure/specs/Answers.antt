@@ -1,0 +1,96 @@
+-- What is proved of the rules, gathered: each answer lies near every enclosure, for every n. Assumes nothing.
+-- An f64's unit is 256 units of the rule at least for atan up to 1, 512 for atan above 1 and for ln, 128 for ln_1p (`Sizes`); so half
+-- an f64's unit is more than what is given away here, and the other half is left for the last rounding (`within-rounded`).
+use Prim.Native.Nat.{ℕ, zero, suc, _+_, _-_, _*_, _/_, _^_, _≤_, _<_}
+use mathlib.Core.List.{[], _∷_}
+use native.Mathlib.Nat.{le-of-mul-le-mul-right}
+use native.Mathlib.Omega.{arith}
+use lib.Pow.{pow-add}
+use Rattle.algebra.specs.Ring.{con, _:+_, _:*_, _≈_, _⊩_, _times_≼_, Order, by-below}
+use Rattle.enclosure.specs.Quotient.{Quotient, _≼_, whole, units, _⊞_, _⊠_}
+use Rattle.enclosure.specs.Order.{≼-refl, ≼-trans, ⊞-mono, ⊞-under, ⊞-over, units-join, units-split, units-mono}
+use Rattle.enclosure.specs.Enclosure.{atan-lower, atan-upper, steep-lower, steep-upper, ln-lower, ln-upper, gain, gain-proper, loss, loss-proper, double-lower, double-upper, T-lower, T-upper, Within}
+use Rattle.enclosure.specs.Rules.{atan-answer, steep-answer, T-answer, gain-seed, loss-seed, ln-answer}
+use Rattle.enclosure.specs.Atan.{atan-near}
+use Rattle.enclosure.specs.Steep.{steep-near}
+use Rattle.enclosure.specs.Logarithm.{Seed, T-near}
+use Rattle.enclosure.specs.Seeds.{gain-seeds, loss-seeds}
+use Rattle.enclosure.specs.Ln.{ln-near}
+use Rattle.enclosure.specs.Sizes.{exact-floor}
+
+-- ---- atan of t = tau * 2 ^ -(62 + j)
+pub atan-within : (j tau : ℕ) → tau ≤ 2 ^ 62
+    → Within (atan-lower (units (62 + j) tau)) (atan-upper (units (62 + j) tau)) (units (62 + j) (atan-answer j tau)) (units (62 + j) 10) (units (62 + j) 30)
+atan-within j tau high = atan-near (units (62 + j) tau) j tau (exact-floor j tau high)
+
+-- ---- atan of t > 1
+pub steep-within : (t : Quotient) (h : t .den < t .num)
+    → Within (steep-lower t h) (steep-upper t h) (units 62 (steep-answer (t .den * 2 ^ 62 / t .num))) (units 62 30) (units 62 11)
+steep-within t h = steep-near t h
+
+-- ---- ln of m * 2 ^ (e - 52)
+pub ln-within : (m b e : ℕ) → 2 ^ 52 ≤ m → m < 2 ^ 53 → 1 ≤ e → e < 2 ^ b → b ≤ 63
+    → Within (ln-lower (units 52 m) e) (ln-upper (units 52 m) e) (units (63 - b) (ln-answer b e m)) (units (63 - b) 12) (units (63 - b) 42)
+ln-within m b e low high some fits few = ln-near m b e low high some fits few
+
+-- ---- ln_1p of a = m * 2 ^ -(53 + j), and of -a
+-- (p = 2q, x / x' an end)
+doubled-low : Order 6 (λ v a x x' p q. (con 1 times v :* (x' :* p) ≼ (x :* p :+ a :* x') :* p) ∷ (v :* x' times con 2 :* q ≼ p) ∷ (x :* (p :+ con 2 :* q) :+ a :* x' times p ≼ con 2 :* q) ∷ []
+    ⊩ v :* (con 1 :* x' :* q) :* con 2 ≈ (con 2 :* x :* q :+ a :* (con 1 :* x')) :* q :* con 2)
+doubled-low = by-below tt
+
+doubled-high : Order 6 (λ v b x x' p q. (con 1 times x :* (p :* p) ≼ (v :* p :+ b :* p) :* x') ∷ (x :* (p :+ con 2 :* q) times con 2 :* q ≼ p) ∷ ((v :+ b) :* x' times p ≼ con 2 :* q) ∷ []
+    ⊩ con 2 :* x :* (q :* q) :* con 2 ≈ (v :* q :+ b :* q) :* (con 1 :* x') :* con 2)
+doubled-high = by-below tt
+
+module _ (s : Quotient) (proper : s .num < s .den) (j sg : ℕ) (seed : Seed s j sg) where
+  double-near : Within (double-lower s) (double-upper s proper) (units (61 + j) (T-answer j sg)) (units (61 + j) 12) (units (61 + j) 39)
+  unfolding double-lower double-upper
+  double-near =
+      let near = T-near s proper j sg seed in
+      let B = T-answer j sg in
+      let p = 2 ^ (62 + j) in
+      let q = 2 ^ (61 + j) in
+      let up : 2 * q ≤ p = rw (pow-add 2 62 j, pow-add 2 61 j) (omega arith) in
+      let down : p ≤ 2 * q = rw (pow-add 2 62 j, pow-add 2 61 j) (omega arith) in
+      record {
+        low = λ n.
+            let x = T-upper s proper n in
+            record { cross = le-of-mul-le-mul-right (doubled-low .law B 12 (x .num) (x .den) p q (near .low n .cross) up down) (omega arith) };
+        high = λ n.
+            let x = T-lower s n in
+            record { cross = le-of-mul-le-mul-right (doubled-high .law B 39 (x .num) (x .den) p q (near .high n .cross) up down) (omega arith) };
+      }
+
+pub gain-within : (j m : ℕ) → m ≤ 2 ^ 53 → 4 * m ≤ 3 * 2 ^ (53 + j)
+    → let s = gain (units (53 + j) m) in let h = gain-proper (units (53 + j) m) in
+    Within (double-lower s) (double-upper s h) (units (61 + j) (T-answer j (gain-seed j m))) (units (61 + j) 12) (units (61 + j) 39)
+gain-within j m fits small = let a = units (53 + j) m in double-near (gain a) (gain-proper a) j (gain-seed j m) (gain-seeds j m fits small)
+
+pub loss-within : (j m : ℕ) (proper : m < 2 ^ (53 + j)) → m ≤ 2 ^ 53 → 4 * m ≤ 3 * 2 ^ (53 + j)
+    → let s = loss (units (53 + j) m) proper in let h = loss-proper (units (53 + j) m) proper in
+    Within (double-lower s) (double-upper s h) (units (61 + j) (T-answer j (loss-seed j m))) (units (61 + j) 12) (units (61 + j) 39)
+loss-within j m proper fits small =
+    let a = units (53 + j) m in
+    double-near (loss a proper) (loss-proper a proper) j (loss-seed j m) (loss-seeds j m proper fits small)
+
+-- ---- the same number written otherwise, and wider distances
+pub within-same : {lower upper : ℕ → Quotient} {v w down up down' up' : Quotient} → Within lower upper v down up → w ≼ v → v ≼ w → down ≼ down' → up ≼ up'
+    → Within lower upper w down' up'
+within-same near below above d u = record {
+  low = λ n. ≼-trans below (≼-trans (near .low n) (⊞-mono ≼-refl d));
+  high = λ n. ≼-trans (near .high n) (⊞-mono above u);
+}
+
+-- ---- the last rounding: y units, at most h from v units, lie within one f64's unit where the distances leave room for h
+pub within-rounded : {lower upper : ℕ → Quotient} (k v down up y h unit : ℕ) → Within lower upper (units k v) (units k down) (units k up)
+    → y ≤ v + h → v ≤ y + h → down + h ≤ unit → up + h ≤ unit → Within lower upper (units k y) (units k unit) (units k unit)
+within-rounded {lower} {upper} k v down up y h unit near below above d u =
+    let rounded : units k y ≼ units k v ⊞ units k h = ≼-trans (units-mono k y (v + h) below) (units-split k v h) in
+    let back : units k v ≼ units k y ⊞ units k h = ≼-trans (units-mono k v (y + h) above) (units-split k y h) in
+    let room : (a : ℕ) → a + h ≤ unit → units k a ⊞ units k h ≼ units k unit = λ a e. ≼-trans (units-join k a h) (units-mono k (a + h) unit e) in
+    let rest : units k h ⊞ units k up ≼ units k unit = ≼-trans (units-join k h up) (units-mono k (h + up) unit (omega arith)) in
+    record {
+      low = λ n. ≼-trans rounded (≼-trans (⊞-mono (near .low n) ≼-refl) (≼-trans (⊞-under (upper n) (units k down) (units k h)) (⊞-mono ≼-refl (room down d))));
+      high = λ n. ≼-trans (near .high n) (≼-trans (⊞-mono back ≼-refl) (≼-trans (⊞-under (units k y) (units k h) (units k up)) (⊞-mono ≼-refl rest)));
+    }

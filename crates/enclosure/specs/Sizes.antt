@@ -1,0 +1,99 @@
+-- The answers have enough digits, so that the rules' units are small beside an f64's, and not too many for a word. Assumes nothing.
+use Prim.Native.Nat.{ℕ, _+_, _-_, _*_, _/_, _^_, _≤_, _<_}
+use mathlib.Core.List.{[], _∷_}
+use native.Mathlib.Nat.{le-div-iff-mul-le, div-lt-iff-lt-mul, div-le-of-le-mul, div-le-self, mul-le-mul, mul-le-mul-left, mul-le-mul-right}
+use native.Mathlib.Omega.{arith}
+use lib.Pow.{pow-pos}
+use Rattle.algebra.specs.Ring.{con, nxt, _:+_, _:*_, _≈_, _⊩_, _times_≼_, Order, by-below}
+use Rattle.enclosure.specs.Quotient.{Quotient, units}
+use Rattle.enclosure.specs.Pieces.{euler, odd, value}
+use Rattle.enclosure.specs.Rules.{half-pi, square, share, front, atan-answer, steep-answer, seed-square, T-answer, part, gain-seed, loss-seed, ln-two, ln-answer}
+use Rattle.enclosure.specs.Values.{value-fits, value-least}
+use Rattle.enclosure.specs.Atan as atan
+use Rattle.enclosure.specs.Logarithm as logarithm
+use Rattle.enclosure.specs.Steep.{inverse-most}
+
+-- t is a whole number of units
+pub exact-floor : (j tau : ℕ) → tau ≤ 2 ^ 62 → atan.Floor (units (62 + j) tau) j tau
+exact-floor j tau h = record {
+  low = omega arith;
+  high = omega (arith, pow-pos (62 + j));
+  one = mul-le-mul-right (2 ^ (62 + j)) h;
+}
+
+-- (a product of p ≤ 2 ^ 62 with a word)
+product-fits : Order 2 (λ p h. (h times p ≼ con (2 ^ 62)) ∷ (con (2 ^ 62) times nxt h ≼ con (2 ^ 64)) ∷ [] ⊩ nxt (p :* h) ≈ con (2 ^ 63) :* con (2 ^ 63))
+product-fits = by-below tt
+
+-- ---- atan
+module _ (j tau : ℕ) (high : tau ≤ 2 ^ 62) where
+  abbrev f : ℕ
+  f = share (square j tau)
+
+  share-fits : f ≤ 2 ^ 61
+  share-fits = atan.share-fits (units (62 + j) tau) j tau (exact-floor j tau high)
+
+  inside : 4 * f / 2 ^ 58 < 33
+  inside = omega (arith, share-fits)
+
+  pub atan-size : 2 ^ 61 ≤ tau → 2 ^ 60 ≤ atan-answer j tau
+  unfolding atan-answer
+  atan-size low =
+      let r : 2 ^ 61 ≤ 2 ^ 62 - f = omega (arith, share-fits) in
+      let p : 2 ^ 60 ≤ front tau f = le-div-iff-mul-le (pow-pos 62) .1 (mul-le-mul low r) in
+      le-div-iff-mul-le (pow-pos 63) .1 (mul-le-mul p (value-least euler (4 * f) inside))
+
+  pub atan-fits : atan-answer j tau < 2 ^ 63
+  unfolding atan-answer
+  atan-fits =
+      let r : 2 ^ 62 - f ≤ 2 ^ 62 = omega arith in
+      let p : front tau f ≤ 2 ^ 62 = div-le-of-le-mul (2 ^ 62) (mul-le-mul high r) in
+      div-lt-iff-lt-mul (pow-pos 63) .1 (product-fits .law (front tau f) (value euler (4 * f)) p (value-fits euler (4 * f) inside))
+
+pub steep-size : (t : Quotient) (h : t .den < t .num) → 2 ^ 61 ≤ steep-answer (t .den * 2 ^ 62 / t .num)
+unfolding steep-answer
+steep-size t h = omega (arith, inverse-most t h)
+
+-- ---- T
+module _ (s : Quotient) (j sg : ℕ) (seed : logarithm.Seed s j sg) where
+  abbrev w : ℕ
+  w = seed-square j sg
+
+  seed-inside : w / 2 ^ 58 < 24
+  seed-inside = logarithm.near s (omega (arith, seed .small, s .pos)) j sg seed .inside
+
+  pub T-size : sg ≤ T-answer j sg
+  unfolding T-answer
+  T-size = le-div-iff-mul-le (pow-pos 63) .1 (mul-le-mul-left sg (value-least odd w seed-inside))
+
+  pub T-fits : T-answer j sg < 2 ^ 63
+  unfolding T-answer
+  T-fits = div-lt-iff-lt-mul (pow-pos 63) .1 (product-fits .law sg (value odd w) (seed .fits) (value-fits odd w seed-inside))
+
+gain-least : Order 2 (λ m c. (con (2 ^ 59) times c ≼ m :* con (2 ^ 7)) ∷ (con (2 ^ 68) times con (2 ^ 52) ≼ m) ∷ []
+    ⊩ con (2 ^ 59) :* (con (2 ^ 61) :+ c) ≈ m :* con (2 ^ 7) :* con (2 ^ 62))
+gain-least = by-below tt
+
+pub gain-size : (j m : ℕ) → 2 ^ 52 ≤ m → 2 ^ 59 ≤ gain-seed j m
+gain-size j m low =
+    let c = part j m in
+    let pos : 0 < 2 ^ 61 + c = omega arith in
+    le-div-iff-mul-le pos .1 (gain-least .law m c (div-le-self (m * 2 ^ 7) (2 ^ j)) low)
+
+loss-least : Order 2 (λ m d. (con (2 ^ 59) times d ≼ con (2 ^ 61)) ∷ (con (2 ^ 69) times con (2 ^ 52) ≼ m) ∷ []
+    ⊩ con (2 ^ 59) :* d ≈ m :* con (2 ^ 7) :* con (2 ^ 62))
+loss-least = by-below tt
+
+pub loss-size : (j m : ℕ) → 2 ^ 52 ≤ m → m ≤ 2 ^ 53 → 2 ^ 59 ≤ loss-seed j m
+loss-size j m low high =
+    let c = part j m in
+    let pos : 0 < 2 ^ 61 - c = omega (arith, div-le-self (m * 2 ^ 7) (2 ^ j)) in
+    le-div-iff-mul-le pos .1 (loss-least .law m (2 ^ 61 - c) (omega arith) low)
+
+-- ---- ln, where e has b digits
+enough-digits : Order 2 (λ e M. (con (2 ^ 61) times M ≼ con 2 :* e) ∷ [] ⊩ con (2 ^ 61) :* M ≈ e :* con ln-two)
+enough-digits = by-below tt
+
+pub ln-size : (b e m : ℕ) → 2 ^ b ≤ 2 * e → 2 ^ 61 ≤ ln-answer b e m
+unfolding ln-answer
+ln-size b e m h = let k : 2 ^ 61 ≤ e * ln-two / 2 ^ b = le-div-iff-mul-le (pow-pos b) .1 (enough-digits .law e (2 ^ b) h) in omega arith
