@@ -1,14 +1,14 @@
 -- What is proved of the rules, gathered: each answer lies near every enclosure, for every n. Assumes nothing.
 -- An f64's unit is 256 units of the rule at least for atan up to 1, 512 for atan above 1 and for ln, 128 for ln_1p (`Sizes`); so half
 -- an f64's unit is more than what is given away here, and the other half is left for the last rounding (`within-rounded`).
-use Prim.Native.Nat.{ℕ, zero, suc, _+_, _-_, _*_, _/_, _^_, _≤_, _<_}
+use Prim.Native.Nat.{ℕ, _+_, _-_, _*_, _/_, _^_, _≤_, _<_}
 use mathlib.Core.List.{[], _∷_}
 use native.Mathlib.Nat.{le-of-mul-le-mul-right}
 use native.Mathlib.Omega.{arith}
 use lib.Pow.{pow-add}
 use Rattle.algebra.specs.Ring.{con, _:+_, _:*_, _≈_, _⊩_, _times_≼_, Order, by-below}
-use Rattle.enclosure.specs.Quotient.{Quotient, _≼_, whole, units, _⊞_, _⊠_}
-use Rattle.enclosure.specs.Order.{≼-refl, ≼-trans, ⊞-mono, ⊞-under, ⊞-over, units-join, units-split, units-mono}
+use Rattle.enclosure.specs.Quotient.{Quotient, _≼_, units, _⊞_}
+use Rattle.enclosure.specs.Order.{≼-refl, ≼-trans, ⊞-mono, ⊞-under, units-join, units-split, units-mono}
 use Rattle.enclosure.specs.Enclosure.{atan-lower, atan-upper, steep-lower, steep-upper, ln-lower, ln-upper, gain, gain-proper, loss, loss-proper, double-lower, double-upper, T-lower, T-upper, Within}
 use Rattle.enclosure.specs.Rules.{atan-answer, steep-answer, T-answer, gain-seed, loss-seed, ln-answer}
 use Rattle.enclosure.specs.Atan.{atan-near}
@@ -88,9 +88,8 @@ pub within-rounded : {lower upper : ℕ → Quotient} (k v down up y h unit : �
 within-rounded {lower} {upper} k v down up y h unit near below above d u =
     let rounded : units k y ≼ units k v ⊞ units k h = ≼-trans (units-mono k y (v + h) below) (units-split k v h) in
     let back : units k v ≼ units k y ⊞ units k h = ≼-trans (units-mono k v (y + h) above) (units-split k y h) in
-    let room : (a : ℕ) → a + h ≤ unit → units k a ⊞ units k h ≼ units k unit = λ a e. ≼-trans (units-join k a h) (units-mono k (a + h) unit e) in
-    let rest : units k h ⊞ units k up ≼ units k unit = ≼-trans (units-join k h up) (units-mono k (h + up) unit (omega arith)) in
+    let gathered : (a b : ℕ) → a + b ≤ unit → units k a ⊞ units k b ≼ units k unit = λ a b e. ≼-trans (units-join k a b) (units-mono k (a + b) unit e) in
     record {
-      low = λ n. ≼-trans rounded (≼-trans (⊞-mono (near .low n) ≼-refl) (≼-trans (⊞-under (upper n) (units k down) (units k h)) (⊞-mono ≼-refl (room down d))));
-      high = λ n. ≼-trans (near .high n) (≼-trans (⊞-mono back ≼-refl) (≼-trans (⊞-under (units k y) (units k h) (units k up)) (⊞-mono ≼-refl rest)));
+      low = λ n. ≼-trans rounded (≼-trans (⊞-mono (near .low n) ≼-refl) (≼-trans (⊞-under (upper n) (units k down) (units k h)) (⊞-mono ≼-refl (gathered down h d))));
+      high = λ n. ≼-trans (near .high n) (≼-trans (⊞-mono back ≼-refl) (≼-trans (⊞-under (units k y) (units k h) (units k up)) (⊞-mono ≼-refl (gathered h up (omega arith)))));
     }

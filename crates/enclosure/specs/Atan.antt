@@ -15,9 +15,10 @@ use Rattle.enclosure.specs.Enclosure.{one-and-square, euler-start, euler
 use Rattle.enclosure.specs.Nested.{euler-falls, atan-nested, near-all, gathered}
 use Rattle.enclosure.specs.Expansion.{euler-expansion, power, late, Enough, enough-by}
 use Rattle.enclosure.specs.Pieces.{euler, value}
-use Rattle.enclosure.specs.Rules.{square, share, front, atan-from-share, atan-answer}
+use Rattle.enclosure.specs.Rules.{square, share, front, atan-answer}
 use Rattle.enclosure.specs.Slope.{half}
-use Rattle.enclosure.specs.Values.{partial, Near, value-low, value-high, value-fits}
+use Rattle.enclosure.specs.Rows.{value-fits}
+use Rattle.enclosure.specs.Values.{partial, Near, value-low, value-high}
 
 -- tau is t in units of 2 ^ -(62 + j), rounded down, and t is at most 2 ^ -j
 pub record Floor (t : Quotient) (j tau : ℕ) : Type 0 where
@@ -156,11 +157,11 @@ module _ (t : Quotient) (j tau : ℕ) (floor : Floor t j tau) where
       let D = d * d in
       let N = n * n in
       let ul : u * D ≤ 2 ^ 61 * N =
-          le-of-mul-le-mul-right (square-low .law n d tau u Q W (div-mul-le-self (tau * tau) W) (floor .low) (le-of-eq (scale j))) (pow-pos (63 + 2 * j)) in
+      le-of-mul-le-mul-right (square-low .law n d tau u Q W (div-mul-le-self (tau * tau) W) (floor .low) (le-of-eq (scale j))) (pow-pos (63 + 2 * j)) in
       let uh : 2 ^ 61 * N ≤ (u + 2) * D =
-          le-of-mul-le-mul-right
-          (square-high .law n d tau u Q W (lt-div-mul-add (pow-pos (63 + 2 * j))) (floor .high) tau-high W-large (le-of-eq (sym (scale j))))
-          (pow-pos (63 + 2 * j)) in
+      le-of-mul-le-mul-right
+      (square-high .law n d tau u Q W (lt-div-mul-add (pow-pos (63 + 2 * j))) (floor .high) tau-high W-large (le-of-eq (sym (scale j))))
+      (pow-pos (63 + 2 * j)) in
       let x : 4 * f ≤ 2 ^ 63 = omega arith in
       record {
         low = le-of-mul-le-mul-right (share-low .law f r u N D fl b ul a) (pow-pos 61);
@@ -219,7 +220,7 @@ module _ (t : Quotient) (j tau : ℕ) (floor : Floor t j tau) where
   tail-high =
       let w = power (euler-ratio t) 64 in
       let fits : one-and-square t ⊠ (w ⊠ (t ⊠ euler-start t)) ≼ units (62 + j) 1 =
-          record { cross = tail-fits .law n d (w .num) (w .den) Y Q (floor .one) enough } in
+      record { cross = tail-fits .law n d (w .num) (w .den) Y Q (floor .one) enough } in
       ≼-trans (⊠-mono ≼-refl (late (euler-term t) (euler-ratio t) (one-and-square t) (euler-falls t) 64)) fits
 
   -- THE LAW
@@ -228,5 +229,5 @@ module _ (t : Quotient) (j tau : ℕ) (floor : Floor t j tau) where
   atan-near =
       let at-low : units (62 + j) A ≼ atan-lower t 64 ⊞ units (62 + j) 10 = ≼-trans partial-low (⊞-mono (euler-expansion t 64 .0) ≼-refl) in
       let at-high : atan-upper t 64 ≼ units (62 + j) A ⊞ units (62 + j) 30 =
-          gathered (62 + j) A 29 1 (≼-trans (euler-expansion t 64 .1) partial-high) tail-high in
+      gathered (62 + j) A 29 1 (≼-trans (euler-expansion t 64 .1) partial-high) tail-high in
       near-all (atan-nested t) 64 at-low at-high

@@ -1,7 +1,7 @@
 -- The enclosures of document 01, "What the leaves mean": the ends between which T, atan, ln and ln_1p lie after n terms,
 -- and what it is for an answer to lie near every one of them. Definitions only.
 -- T and atan are odd, so all is said of sizes: the sign of an argument is the sign of the answer.
-use Prim.Native.Nat.{ℕ, zero, suc, _+_, _-_, _*_, _≤_, _<_}
+use Prim.Native.Nat.{ℕ, zero, suc, _+_, _-_, _*_, _<_}
 use native.Mathlib.Nat.{mul-pos, mul-le-mul}
 use native.Mathlib.Omega.{arith}
 use Rattle.enclosure.specs.Quotient.{Quotient, _≼_, whole, over, _⊞_, _⊟_, _⊠_}

@@ -125,7 +125,7 @@ euler-split t (suc i) =
     let c = coefficient euler i in
     let f = over (2 * suc i) (2 * suc i) in
     let e : z ⊠ w ⊠ b ⊠ (c ⊠ f) ≃ w ⊠ b ⊠ c ⊠ f ⊠ z =
-        by-eq (reordered .law (z .num) (z .den) (w .num) (w .den) (b .num) (b .den) (c .num) (c .den) (f .num) (f .den)) in
+    by-eq (reordered .law (z .num) (z .den) (w .num) (w .den) (b .num) (b .den) (c .num) (c .den) (f .num) (f .den)) in
     ≃-trans e (⊠-same (⊠-same (euler-split t i) ≃-refl) ≃-refl)
 
 euler-next : (t : Quotient) (i : ℕ) → euler-ratio t ⊠ euler-front t i ≃ euler-front t (suc i)
@@ -157,9 +157,10 @@ power-mono h (suc i) = ⊠-mono h (power-mono h i)
 power-is : (z : Quotient) (i : ℕ) → (power z i .num ≡ z .num ^ i) × (power z i .den ≡ z .den ^ i)
 unfolding power
 power-is z zero = (sym (pow-zero (z .num)), sym (pow-zero (z .den)))
-power-is z (suc i) =
-    (ap (λ n. z .num * n) (power-is z i .0) ∙ sym (pow-succ' (z .num) i),
-    ap (λ n. z .den * n) (power-is z i .1) ∙ sym (pow-succ' (z .den) i))
+power-is z (suc i) = (
+  ap (λ n. z .num * n) (power-is z i .0) ∙ sym (pow-succ' (z .num) i),
+  ap (λ n. z .den * n) (power-is z i .1) ∙ sym (pow-succ' (z .den) i),
+)
 
 -- k terms are enough for the ratio z where z ^ k ≤ 2 ^ -62; and so for any ratio below it
 abbrev pub Enough : Quotient → ℕ → Type 0

@@ -5,7 +5,7 @@ use Prim.Native.Nat.{ℕ, zero, suc, _+_, _*_, _/_, _^_, _≤_, _<_}
 use mathlib.Core.Path.{_≡_, refl}
 use mathlib.Core.Bool.{Bool, true, _&&_}
 use mathlib.Core.List.{List, [], _∷_}
-use native.Mathlib.Nat.{le-of-mul-le-mul-right, div-mul-le-self, lt-div-mul-add, div-lt-iff-lt-mul, pow-succ', le-trans, mul-zero, zero-div}
+use native.Mathlib.Nat.{le-of-mul-le-mul-right, div-mul-le-self, lt-div-mul-add, div-lt-iff-lt-mul, pow-succ', mul-zero, zero-div}
 use native.Mathlib.Omega.{arith}
 use lib.Dec.{T, leb, leb→le}
 use lib.ListN.{length, getD}

@@ -6,6 +6,7 @@ pub mod Pieces
 pub mod Expansion
 pub mod Shifted
 pub mod Floors
+pub mod Rows
 pub mod Slope
 pub mod Values
 pub mod Atan

@@ -3,7 +3,7 @@
 use Prim.Native.Nat.{ℕ, _+_, _-_, _*_, _/_, _^_, _≤_, _<_}
 use mathlib.Core.Path.{_≡_, sym, _∙_, ap}
 use mathlib.Core.List.{[], _∷_}
-use native.Mathlib.Nat.{div-mul-le-self, lt-div-mul-add, le-trans, le-of-eq}
+use native.Mathlib.Nat.{div-mul-le-self, lt-div-mul-add, le-trans}
 use native.Mathlib.Omega.{arith}
 use lib.Pow.{pow-pos, pow-add}
 use Rattle.algebra.specs.Ring.{con, nxt, _:+_, _:*_, _≈_, _⊩_, _times_≼_, Order, by-below}
@@ -94,7 +94,7 @@ module _ (m b e : ℕ) (low : 2 ^ 52 ≤ m) (high : m < 2 ^ 53) (some : 1 ≤ e)
             let less : 24 ≤ 12 * M = omega arith in
             let start : units (63 - b) Y ≼ units 63 v ⊞ whole 2 ⊠ units 63 B = ≼-trans (≼-trans (finer Y) (units-mono 63 (Y * M) (v + 2 * B) rests)) (split-units v B) in
             let parts : units 63 v ⊞ whole 2 ⊠ units 63 B ≼ x ⊞ whole 2 ⊠ (y ⊞ units 63 12) =
-                ⊞-mono (times-low e (T-upper third third-proper n) ln-two (ln-two-low n)) (⊠-mono ≼-refl (near .low n)) in
+            ⊞-mono (times-low e (T-upper third third-proper n) ln-two (ln-two-low n)) (⊠-mono ≼-refl (near .low n)) in
             let end : x ⊞ whole 2 ⊠ y ⊞ units 63 24 ≼ x ⊞ whole 2 ⊠ y ⊞ units (63 - b) 12 = ⊞-mono ≼-refl (≼-trans (units-mono 63 24 (12 * M) less) (coarser 12)) in
             ≼-trans (≼-trans start parts) (≼-trans (move x y) end);
         high = λ n.
@@ -102,7 +102,7 @@ module _ (m b e : ℕ) (low : 2 ^ 52 ≤ m) (high : m < 2 ^ 53) (some : 1 ≤ e)
             let y = T-lower s n in
             let w = B + 39 in
             let parts : x ⊞ whole 2 ⊠ y ≼ units 63 (e * (ln-two + 1)) ⊞ whole 2 ⊠ units 63 w =
-                ⊞-mono (times-high e (T-lower third n) (ln-two + 1) (ln-two-high n)) (⊠-mono ≼-refl (≼-trans (near .high n) (units-join 63 B 39))) in
+            ⊞-mono (times-high e (T-lower third n) (ln-two + 1) (ln-two-high n)) (⊠-mono ≼-refl (≼-trans (near .high n) (units-join 63 B 39))) in
             let rests = floors-high .law v (2 * B) M (v / M) (2 * B / M) e (lt-div-mul-add (pow-pos b)) (lt-div-mul-add (pow-pos b)) fits two in
             let most : e * (ln-two + 1) + 2 * w ≤ (Y + 42) * M = le-trans (omega arith) rests in
             ≼-trans (≼-trans parts (≼-trans (join-units (e * (ln-two + 1)) w) (units-mono 63 (e * (ln-two + 1) + 2 * w) ((Y + 42) * M) most)))

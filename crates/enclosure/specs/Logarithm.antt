@@ -16,7 +16,8 @@ use Rattle.enclosure.specs.Nested.{T-falls, T-nested, near-all, gathered
 use Rattle.enclosure.specs.Expansion.{T-expansion, power, late, Enough, enough-by}
 use Rattle.enclosure.specs.Pieces.{odd, value}
 use Rattle.enclosure.specs.Rules.{seed-square, T-answer}
-use Rattle.enclosure.specs.Values.{partial, Near, value-low, value-high, value-fits}
+use Rattle.enclosure.specs.Rows.{value-fits}
+use Rattle.enclosure.specs.Values.{partial, Near, value-low, value-high}
 
 -- s is from sg - 1 to sg + 3 units, and at most 3/5
 pub record Seed (s : Quotient) (j sg : ℕ) : Type 0 where
@@ -101,13 +102,13 @@ module _ (s : Quotient) (proper : s .num < s .den) (j sg : ℕ) (seed : Seed s j
       let q = s .den in
       let k = 60 + 2 * j in
       let l : w * (q * q) ≤ p * p * 2 ^ 64 + 9 * (q * q) =
-          le-of-mul-le-mul-right
-          (square-low .law p q Q (2 ^ k) sg w (div-mul-le-self (sg * sg) (2 ^ k)) (seed .low) (seed .high) (seed .fits) (room j) (le-of-eq (scale j)))
-          (pow-pos k) in
+      le-of-mul-le-mul-right
+      (square-low .law p q Q (2 ^ k) sg w (div-mul-le-self (sg * sg) (2 ^ k)) (seed .low) (seed .high) (seed .fits) (room j) (le-of-eq (scale j)))
+      (pow-pos k) in
       let u : p * p * 2 ^ 64 ≤ (w + 26) * (q * q) =
-          le-of-mul-le-mul-right
-          (square-high .law p q Q (2 ^ k) sg w (lt-div-mul-add (pow-pos k)) (seed .high) (seed .fits) (room j) (le-of-eq (sym (scale j))))
-          (pow-pos k) in
+      le-of-mul-le-mul-right
+      (square-high .law p q Q (2 ^ k) sg w (lt-div-mul-add (pow-pos k)) (seed .high) (seed .fits) (room j) (le-of-eq (sym (scale j))))
+      (pow-pos k) in
       let c = small-square s (seed .small) in
       let f : 25 * w ≤ 9 * 2 ^ 64 + 225 = le-of-mul-le-mul-right (square-fits .law w (p * p) (q * q) l c) (mul-pos (s .pos) (s .pos)) in
       record {
@@ -124,13 +125,13 @@ module _ (s : Quotient) (proper : s .num < s .den) (j sg : ℕ) (seed : Seed s j
   partial-low : units (62 + j) B ≼ s ⊠ poly ⊞ units (62 + j) 12
   partial-low =
       let k = answer-low .law B sg h (s .num) (s .den) Q (poly .num) (poly .den) (div-mul-le-self (sg * h) (2 ^ 63)) (seed .low)
-          (value-low odd z w 9 26 near) h-fits (seed .high) (seed .fits) in
+      (value-low odd z w 9 26 near) h-fits (seed .high) (seed .fits) in
       record { cross = le-of-mul-le-mul-right k (pow-pos 63) }
 
   partial-high : s ⊠ poly ≼ units (62 + j) (B + 37)
   partial-high =
       let k = answer-high .law B sg h (s .num) (s .den) Q (poly .num) (poly .den) (lt-div-mul-add (pow-pos 63)) (seed .high)
-          (value-high odd z w 9 26 near) h-fits (seed .fits) in
+      (value-high odd z w 9 26 near) h-fits (seed .fits) in
       record { cross = le-of-mul-le-mul-right k (pow-pos 63) }
 
   enough : Enough z 44
@@ -152,5 +153,5 @@ module _ (s : Quotient) (proper : s .num < s .den) (j sg : ℕ) (seed : Seed s j
   T-near =
       let at-low : units (62 + j) B ≼ T-lower s 44 ⊞ units (62 + j) 12 = ≼-trans partial-low (⊞-mono (T-expansion s 44 .0) ≼-refl) in
       let at-high : T-upper s proper 44 ≼ units (62 + j) B ⊞ units (62 + j) 39 =
-          gathered (62 + j) B 37 2 (≼-trans (T-expansion s 44 .1) partial-high) tail-high in
+      gathered (62 + j) B 37 2 (≼-trans (T-expansion s 44 .1) partial-high) tail-high in
       near-all (T-nested s proper) 44 at-low at-high

@@ -1,11 +1,11 @@
 -- The order of quotients: sums, differences and products keep it. Assumes nothing.
-use Prim.Native.Nat.{ℕ, _+_, _-_, _*_, _^_, _≤_}
-use mathlib.Core.Path.{_≡_, sym}
+use Prim.Native.Nat.{ℕ, _+_, _^_, _≤_}
+use mathlib.Core.Path.{sym}
 use mathlib.Core.List.{[], _∷_}
-use native.Mathlib.Nat.{le-of-mul-le-mul-right, le-of-eq, mul-pos, mul-le-mul-right}
+use native.Mathlib.Nat.{le-of-mul-le-mul-right, le-of-eq, mul-le-mul-right}
 use native.Mathlib.Omega.{arith}
-use Rattle.algebra.specs.Ring.{con, _:+_, _:*_, _≈_, _⊩_, _times_≼_, Law, by-ring, Order, by-below}
-use Rattle.enclosure.specs.Quotient.{Quotient, _≼_, whole, units, _⊞_, _⊟_, _⊠_}
+use Rattle.algebra.specs.Ring.{_:+_, _:*_, _≈_, _⊩_, _times_≼_, Law, by-ring, Order, by-below}
+use Rattle.enclosure.specs.Quotient.{Quotient, _≼_, units, _⊞_, _⊠_}
 
 pub ≼-refl : {x : Quotient} → x ≼ x
 ≼-refl {x} = record { cross = omega arith }

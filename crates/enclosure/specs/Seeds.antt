@@ -1,12 +1,12 @@
 -- The seeds of ln and ln_1p are seeds: s in units of 2 ^ -(62 + j), 3 too low or 1 too high at most. Assumes nothing.
-use Prim.Native.Nat.{ℕ, zero, suc, _+_, _-_, _*_, _/_, _^_, _≤_, _<_}
+use Prim.Native.Nat.{ℕ, zero, suc, _+_, _-_, _*_, _^_, _≤_, _<_}
 use mathlib.Core.Path.{_≡_, sym}
 use mathlib.Core.List.{[], _∷_}
 use native.Mathlib.Nat.{le-of-mul-le-mul-right, div-mul-le-self, lt-div-mul-add, div-le-of-le-mul, le-of-eq, le-trans}
 use native.Mathlib.Omega.{arith}
 use lib.Pow.{pow-pos, pow-add}
 use Rattle.algebra.specs.Ring.{con, nxt, _:+_, _:*_, _≈_, _⊩_, _times_≼_, Order, by-below}
-use Rattle.enclosure.specs.Quotient.{Quotient, units}
+use Rattle.enclosure.specs.Quotient.{units}
 use Rattle.enclosure.specs.Enclosure.{ln-argument, gain, loss}
 use Rattle.enclosure.specs.Rules.{part, gain-seed, loss-seed, ln-seed}
 use Rattle.enclosure.specs.Logarithm.{Seed}

@@ -1,5 +1,5 @@
 -- The expansion at i/64 is the same polynomial, and the numerators are the series' coefficients. Assumes nothing.
-use Prim.Native.Nat.{ℕ, zero, suc, _+_, _*_, _/_, _^_}
+use Prim.Native.Nat.{ℕ, zero, suc, _+_, _*_, _^_}
 use mathlib.Core.Path.{_≡_, refl, sym, _∙_, ap}
 use mathlib.Core.Bool.{Bool, true, _&&_}
 use mathlib.Core.List.{List, [], _∷_}
@@ -8,7 +8,7 @@ use native.Mathlib.Omega.{arith}
 use lib.Dec.{T, eqb, eqb→eq}
 use lib.ListN.{length}
 use lib.Ieee.Fits.{and-l, and-r}
-use Rattle.algebra.specs.Ring.{con, nxt, _:+_, _:*_, _≈_, _⊩_, _times_≼_, Law, by-ring}
+use Rattle.algebra.specs.Ring.{_:+_, _:*_, _≈_, _⊩_, _times_≼_, Law, by-ring}
 use Rattle.enclosure.specs.Quotient.{Quotient}
 use Rattle.enclosure.specs.Pieces.{Series, euler, odd, terms, denominator, next, numerators-from, numerators, times-shift, shifted}
 use Rattle.enclosure.specs.Expansion.{coefficient, exact}

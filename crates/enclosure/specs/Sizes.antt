@@ -7,8 +7,8 @@ use lib.Pow.{pow-pos}
 use Rattle.algebra.specs.Ring.{con, nxt, _:+_, _:*_, _≈_, _⊩_, _times_≼_, Order, by-below}
 use Rattle.enclosure.specs.Quotient.{Quotient, units}
 use Rattle.enclosure.specs.Pieces.{euler, odd, value}
-use Rattle.enclosure.specs.Rules.{half-pi, square, share, front, atan-answer, steep-answer, seed-square, T-answer, part, gain-seed, loss-seed, ln-two, ln-answer}
-use Rattle.enclosure.specs.Values.{value-fits, value-least}
+use Rattle.enclosure.specs.Rules.{square, share, front, atan-answer, steep-answer, seed-square, T-answer, part, gain-seed, loss-seed, ln-two, ln-answer}
+use Rattle.enclosure.specs.Rows.{value-fits, value-least}
 use Rattle.enclosure.specs.Atan as atan
 use Rattle.enclosure.specs.Logarithm as logarithm
 use Rattle.enclosure.specs.Steep.{inverse-most}

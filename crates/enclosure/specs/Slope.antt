@@ -1,6 +1,6 @@
 -- An exact polynomial whose coefficients are at most 1 is at most 2 up to 1/2, and there it rises by at most 4 times what its
 -- argument rises: from z to y ≤ z + b, y (e + 4b) = y e + 4 y b ≤ z e + b e + 2b with e ≤ 2. Assumes nothing.
-use Prim.Native.Nat.{ℕ, zero, suc, _*_}
+use Prim.Native.Nat.{ℕ, zero, suc}
 use mathlib.Core.List.{[], _∷_}
 use native.Mathlib.Nat.{le-of-mul-le-mul-right}
 use native.Mathlib.Omega.{arith}
@@ -31,7 +31,7 @@ module _ (c : ℕ → Quotient) (small : (i : ℕ) → c i ≼ whole 1) where
       let e = exact c z k (suc i) in
       record {
         cross = le-of-mul-le-mul-right (two-step .law (c i .num) (c i .den) (z .num) (z .den) (e .num) (e .den)
-        (small i .cross) (h .cross) (exact-two h k (suc i) .cross)) (omega arith);
+            (small i .cross) (h .cross) (exact-two h k (suc i) .cross)) (omega arith);
       }
 
   -- THE LAW
@@ -41,8 +41,8 @@ module _ (c : ℕ → Quotient) (small : (i : ℕ) → c i ≼ whole 1) where
   exact-rises {y} {z} b near hy hz (suc k) i =
       let e = exact c z k (suc i) in
       let rise : y ⊠ (e ⊞ whole 4 ⊠ b) ≼ z ⊠ e ⊞ whole 4 ⊠ b =
-          record {
-            cross = rise-step .law (y .num) (y .den) (z .num) (z .den) (e .num) (e .den) (b .num) (b .den)
+      record {
+        cross = rise-step .law (y .num) (y .den) (z .num) (z .den) (e .num) (e .den) (b .num) (b .den)
             (near .cross) (hy .cross) (exact-two hz k (suc i) .cross);
-          } in
+      } in
       ≼-trans (⊞-mono ≼-refl (≼-trans (⊠-mono ≼-refl (exact-rises b near hy hz k (suc i))) rise)) (⊞-over (c i) (z ⊠ e) (whole 4 ⊠ b))

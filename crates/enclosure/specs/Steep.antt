@@ -119,7 +119,7 @@ module _ (t : Quotient) (steep : t .den < t .num) where
             let l = atan-lower r n in
             let h : units 62 half-pi ⊞ g ⊞ l ≼ x ⊞ (units 62 v ⊞ units 62 30) = ⊞-mono (half-pi-low n) (near .high n) in
             let k : units 62 y ⊞ (g ⊞ l) ⊞ units 62 v ≼ x ⊞ units 62 30 ⊞ units 62 v =
-                ≼-trans (≼-trans (spread g l y v half-pi (omega arith)) h) (swap x (units 62 v) (units 62 30)) in
+            ≼-trans (≼-trans (spread g l y v half-pi (omega arith)) h) (swap x (units 62 v) (units 62 30)) in
             ⊟-below (units 62 y) (g ⊞ l) x (units 62 30) (⊞-cancel (units 62 v) k);
         high = λ n.
             let x = whole 8 ⊠ atan-lower fifth n in

@@ -1,73 +1,22 @@
 -- `value` is near the exact partial sum: 6 units of 2 ^ -63 too low at most where its argument is exact, and 2 more for each
 -- unit of 2 ^ -64 that the argument is off. Assumes nothing.
 use Prim.Native.Nat.{ℕ, zero, suc, _+_, _*_, _/_, _%_, _^_, _≤_, _<_}
-use mathlib.Core.Path.{_≡_, refl, sym, _∙_, ap}
-use mathlib.Core.Bool.{Bool, true, _&&_}
-use mathlib.Core.Logic.{inl, inr}
+use mathlib.Core.Path.{_≡_, sym, _∙_, ap}
 use mathlib.Core.List.{List, [], _∷_}
-use native.Mathlib.Nat.{le-of-mul-le-mul-right, mul-pos, mul-le-mul, mod-lt, div-add-mod', div-le-of-le-mul, le-of-eq, le-trans, le-of-lt, one-le-pow}
+use native.Mathlib.Nat.{le-of-mul-le-mul-right, mul-pos, mul-le-mul, mod-lt, div-add-mod', le-of-eq, le-of-lt, one-le-pow}
 use native.Mathlib.Omega.{arith}
-use lib.Dec.{T, leb, leb→le}
-use lib.ListN.{length, getD}
+use lib.Dec.{leb→le}
+use lib.ListN.{length}
 use lib.Pow.{pow-pos}
-use lib.Ieee.Fits.{and-l, and-r}
-use Rattle.algebra.specs.Ring.{con, nxt, _:+_, _:*_, _≈_, _⊩_, _times_≼_, Order, by-below}
-use Rattle.algebra.specs.Order.{lt-or-le}
-use Rattle.enclosure.specs.Quotient.{Quotient, _≼_, whole, over, units, _⊞_, _⊠_}
+use Rattle.algebra.specs.Ring.{con, _:+_, _:*_, _≈_, _⊩_, _times_≼_, Order, by-below}
+use Rattle.enclosure.specs.Quotient.{Quotient, _≼_, whole, units, _⊞_}
 use Rattle.enclosure.specs.Order.{≼-refl, ≼-trans, ⊞-mono}
 use Rattle.enclosure.specs.Pieces.{Series, euler, odd, terms, pieces, denominator, row-denominator, numerators, shifted, row, value}
 use Rattle.enclosure.specs.Expansion.{coefficient, exact}
 use Rattle.enclosure.specs.Shifted.{evaluate, length-shifted, shifted-value, mul-pow, length-numerators, exact-is}
-use Rattle.enclosure.specs.Floors.{horner-least, all-fit, horner-fits, left-out, floors-low, floors-high}
-use Rattle.enclosure.specs.Slope.{half, exact-two, exact-rises}
-
--- ---- a test of all numbers below n
-abbrev pub all-below : (ℕ → Bool) → ℕ → Bool
-all-below f zero = true
-all-below f (suc n) = f n && all-below f n
-
-pub all-at : (f : ℕ → Bool) (n : ℕ) → T (all-below f n) → (i : ℕ) → i < n → T (f i)
-all-at f zero t i h = absurd (omega arith)
-all-at f (suc n) t i h = elim (lt-or-le i n) [
-  | inl l ↦ all-at f n (and-r (f n) (all-below f n) t) i l
-  | inr l ↦ let e : i ≡ n = omega arith in rw e (and-l (f n) (all-below f n) t)
-]
-
--- ---- computed: the entries fit a word and the first is 1 at least, and what the rows leave out is at most 3 units
-abbrev pub good-row : List ℕ → Bool
-good-row rs = leb (2 ^ 63) (getD rs 0 0) && all-fit rs
-
-row-good : (s : Series) (i : ℕ) → i < pieces s → T (good-row (row s i))
-unfolding row numerators
-row-good euler = all-at (λ i. good-row (row euler i)) 33 tt
-row-good odd = all-at (λ i. good-row (row odd i)) 24 tt
-
-pub row-fits : (s : Series) (i : ℕ) → i < pieces s → T (all-fit (row s i))
-row-fits s i h = and-r (leb (2 ^ 63) (getD (row s i) 0 0)) (all-fit (row s i)) (row-good s i h)
-
-row-first : (s : Series) (i : ℕ) → i < pieces s → 2 ^ 63 ≤ getD (row s i) 0 0
-row-first s i h = leb→le (2 ^ 63) (getD (row s i) 0 0) (and-l (leb (2 ^ 63) (getD (row s i) 0 0)) (all-fit (row s i)) (row-good s i h))
-
-abbrev pub little-left : Series → ℕ → Bool
-little-left s i = leb (2 ^ 63 * left-out 12 (shifted i (numerators s))) (3 * row-denominator s)
-
-rest-fits : (s : Series) (i : ℕ) → i < pieces s → T (little-left s i)
-unfolding numerators
-rest-fits euler = all-at (little-left euler) 33 tt
-rest-fits odd = all-at (little-left odd) 24 tt
-
--- Horner's rule stays in a word, on each tail of a row too
-pub value-fits : (s : Series) (x : ℕ) → x / 2 ^ 58 < pieces s → value s x < 2 ^ 64
-unfolding value
-value-fits s x h =
-    let p = x % 2 ^ 58 in
-    let inside : p < 2 ^ 58 = mod-lt x (pow-pos 58) in
-    let d : 4 * p ≤ 2 ^ 60 = omega arith in
-    horner-fits (4 * p) (row s (x / 2 ^ 58)) d (row-fits s (x / 2 ^ 58) h)
-
-pub value-least : (s : Series) (x : ℕ) → x / 2 ^ 58 < pieces s → 2 ^ 63 ≤ value s x
-unfolding value
-value-least s x h = le-trans (row-first s (x / 2 ^ 58) h) (horner-least (4 * (x % 2 ^ 58)) (row s (x / 2 ^ 58)))
+use Rattle.enclosure.specs.Floors.{left-out, floors-low, floors-high}
+use Rattle.enclosure.specs.Rows.{rest-fits}
+use Rattle.enclosure.specs.Slope.{half, exact-rises}
 
 -- ---- the exact partial sum
 abbrev pub partial : Series → Quotient → Quotient
