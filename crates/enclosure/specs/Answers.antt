@@ -35,11 +35,15 @@ ln-within m b e low high some fits few = ln-near m b e low high some fits few
 
 -- ---- ln_1p of a = m * 2 ^ -(53 + j), and of -a
 -- (p = 2q, x / x' an end)
-doubled-low : Order 6 (λ v a x x' p q. (con 1 times v :* (x' :* p) ≼ (x :* p :+ a :* x') :* p) ∷ (v :* x' times con 2 :* q ≼ p) ∷ (x :* (p :+ con 2 :* q) :+ a :* x' times p ≼ con 2 :* q) ∷ []
+doubled-low : Order 6 (λ v a x x' p q.
+    (con 1 times v :* (x' :* p) ≼ (x :* p :+ a :* x') :* p) ∷ (v :* x' times con 2 :* q ≼ p)
+    ∷ (x :* (p :+ con 2 :* q) :+ a :* x' times p ≼ con 2 :* q) ∷ []
     ⊩ v :* (con 1 :* x' :* q) :* con 2 ≈ (con 2 :* x :* q :+ a :* (con 1 :* x')) :* q :* con 2)
 doubled-low = by-below tt
 
-doubled-high : Order 6 (λ v b x x' p q. (con 1 times x :* (p :* p) ≼ (v :* p :+ b :* p) :* x') ∷ (x :* (p :+ con 2 :* q) times con 2 :* q ≼ p) ∷ ((v :+ b) :* x' times p ≼ con 2 :* q) ∷ []
+doubled-high : Order 6 (λ v b x x' p q.
+    (con 1 times x :* (p :* p) ≼ (v :* p :+ b :* p) :* x') ∷ (x :* (p :+ con 2 :* q) times con 2 :* q ≼ p)
+    ∷ ((v :+ b) :* x' times p ≼ con 2 :* q) ∷ []
     ⊩ con 2 :* x :* (q :* q) :* con 2 ≈ (v :* q :+ b :* q) :* (con 1 :* x') :* con 2)
 doubled-high = by-below tt
 
@@ -90,6 +94,10 @@ within-rounded {lower} {upper} k v down up y h unit near below above d u =
     let back : units k v ≼ units k y ⊞ units k h = ≼-trans (units-mono k v (y + h) above) (units-split k y h) in
     let gathered : (a b : ℕ) → a + b ≤ unit → units k a ⊞ units k b ≼ units k unit = λ a b e. ≼-trans (units-join k a b) (units-mono k (a + b) unit e) in
     record {
-      low = λ n. ≼-trans rounded (≼-trans (⊞-mono (near .low n) ≼-refl) (≼-trans (⊞-under (upper n) (units k down) (units k h)) (⊞-mono ≼-refl (gathered down h d))));
-      high = λ n. ≼-trans (near .high n) (≼-trans (⊞-mono back ≼-refl) (≼-trans (⊞-under (units k y) (units k h) (units k up)) (⊞-mono ≼-refl (gathered h up (omega arith)))));
+      low = λ n.
+          let end = ≼-trans (⊞-under (upper n) (units k down) (units k h)) (⊞-mono ≼-refl (gathered down h d)) in
+          ≼-trans rounded (≼-trans (⊞-mono (near .low n) ≼-refl) end);
+      high = λ n.
+          let end = ≼-trans (⊞-under (units k y) (units k h) (units k up)) (⊞-mono ≼-refl (gathered h up (omega arith))) in
+          ≼-trans (near .high n) (≼-trans (⊞-mono back ≼-refl) end);
     }

@@ -14,7 +14,7 @@ use Rattle.enclosure.specs.Order.{≼-refl, ≼-trans, ⊞-mono, ⊠-mon
 use Rattle.enclosure.specs.Enclosure.{one-and-square, euler-start, euler-ratio, euler-term, atan-lower, atan-upper, Within}
 use Rattle.enclosure.specs.Nested.{euler-falls, atan-nested, near-all, gathered}
 use Rattle.enclosure.specs.Expansion.{euler-expansion, power, late, Enough, enough-by}
-use Rattle.enclosure.specs.Pieces.{euler, value}
+use Rattle.enclosure.specs.Pieces.{euler, terms, value}
 use Rattle.enclosure.specs.Rules.{square, share, front, atan-answer}
 use Rattle.enclosure.specs.Slope.{half}
 use Rattle.enclosure.specs.Rows.{value-fits}
@@ -40,7 +40,8 @@ square-high = by-below tt
 
 -- ---- the share f. N = n^2, D = d^2, and r is 2 ^ 62 - f, or 2 ^ 62 - f - 5
 share-low : Order 5 (λ f r u N D.
-    (con 4 :* D times f :* (con (2 ^ 61) :+ u) ≼ u :* con (2 ^ 62)) ∷ (con 4 :* D :* u times con (2 ^ 62) ≼ f :+ r) ∷ (con 4 :* r times u :* D ≼ con (2 ^ 61) :* N)
+    (con 4 :* D times f :* (con (2 ^ 61) :+ u) ≼ u :* con (2 ^ 62)) ∷ (con 4 :* D :* u times con (2 ^ 62) ≼ f :+ r)
+    ∷ (con 4 :* r times u :* D ≼ con (2 ^ 61) :* N)
     ∷ (con (2 ^ 63) :* N times f :+ r ≼ con (2 ^ 62)) ∷ []
     ⊩ con 4 :* f :* (D :+ N) :* con (2 ^ 61) ≈ (N :* con (2 ^ 64) :+ con 0 :* (D :+ N)) :* con (2 ^ 61))
 share-low = by-below tt
@@ -63,8 +64,10 @@ front-low : Order 9 (λ n d g p f r N D Q.
 front-low = by-below tt
 
 front-high : Order 9 (λ n d g p f r N D Q.
-    (con 4 :* (D :+ N) times nxt (g :* r) ≼ p :* con (2 ^ 62) :+ con (2 ^ 62)) ∷ (g :+ con 1 times con 4 :* f :* (D :+ N) ≼ N :* con (2 ^ 64) :+ con 0 :* (D :+ N))
-    ∷ (con 4 :* (g :+ con 1) :* (D :+ N) times con (2 ^ 62) ≼ f :+ r) ∷ (con 4 :* (D :+ N) times r ≼ con (2 ^ 62)) ∷ (con (2 ^ 64) :* d times nxt (n :* Q) ≼ g :* d :+ d)
+    (con 4 :* (D :+ N) times nxt (g :* r) ≼ p :* con (2 ^ 62) :+ con (2 ^ 62))
+    ∷ (g :+ con 1 times con 4 :* f :* (D :+ N) ≼ N :* con (2 ^ 64) :+ con 0 :* (D :+ N))
+    ∷ (con 4 :* (g :+ con 1) :* (D :+ N) times con (2 ^ 62) ≼ f :+ r) ∷ (con 4 :* (D :+ N) times r ≼ con (2 ^ 62))
+    ∷ (con (2 ^ 64) :* d times nxt (n :* Q) ≼ g :* d :+ d)
     ∷ (con (2 ^ 64) :* (g :+ con 1) times d :* d ≼ D) ∷ []
     ⊩ n :* Q :* d :* con (2 ^ 64) ≈ (p :+ con 2) :* (D :+ N) :* con (2 ^ 64))
 front-high = by-below tt
@@ -78,7 +81,8 @@ answer-low = by-below tt
 
 answer-high : Order 7 (λ A p h m Y e q.
     (Y :* q times nxt (p :* h) ≼ A :* con (2 ^ 63) :+ con (2 ^ 63)) ∷ ((h :+ con 46) :* q times m ≼ (p :+ con 2) :* Y)
-    ∷ (m times e :* con (2 ^ 63) ≼ (h :+ con 6 :+ con 2 :* con 20) :* q) ∷ (con 2 :* Y :* q times nxt h ≼ con (2 ^ 64)) ∷ (con 46 :* Y :* q times p ≼ con (2 ^ 62)) ∷ []
+    ∷ (m times e :* con (2 ^ 63) ≼ (h :+ con 6 :+ con 2 :* con 20) :* q) ∷ (con 2 :* Y :* q times nxt h ≼ con (2 ^ 64))
+    ∷ (con 46 :* Y :* q times p ≼ con (2 ^ 62)) ∷ []
     ⊩ m :* e :* con (2 ^ 63) ≈ (A :+ con 29) :* (Y :* q) :* con (2 ^ 63))
 answer-high = by-below tt
 
@@ -197,8 +201,9 @@ module _ (t : Quotient) (j tau : ℕ) (floor : Floor t j tau) where
       let r = 2 ^ 62 - f in
       let a : f + r ≤ 2 ^ 62 = omega (arith, share-fits) in
       let same : d * d ≤ d * d = omega arith in
-      let g = le-of-mul-le-mul-right (front-low .law n d tau p f r (n * n) (d * d) Q (div-mul-le-self (tau * r) (2 ^ 62)) (near .high) a tau-high (floor .low) same) (pow-pos 64) in
-      let k = answer-low .law A p h (n * Q * d) Y (poly .num) (poly .den) (div-mul-le-self (p * h) (2 ^ 63)) g (value-low euler (euler-ratio t) (4 * f) 0 20 near) h-fits in
+      let g = front-low .law n d tau p f r (n * n) (d * d) Q (div-mul-le-self (tau * r) (2 ^ 62)) (near .high) a tau-high (floor .low) same in
+      let k = answer-low .law A p h (n * Q * d) Y (poly .num) (poly .den) (div-mul-le-self (p * h) (2 ^ 63)) (le-of-mul-le-mul-right g (pow-pos 64))
+      (value-low euler (euler-ratio t) (4 * f) 0 20 near) h-fits in
       record { cross = as-low .law A n d Y (poly .num) (poly .den) Q (le-of-mul-le-mul-right k (pow-pos 63)) }
 
   partial-high : t ⊠ euler-start t ⊠ poly ≼ units (62 + j) (A + 29)
@@ -208,26 +213,27 @@ module _ (t : Quotient) (j tau : ℕ) (floor : Floor t j tau) where
       let b : r ≤ 2 ^ 62 = omega arith in
       let same : d * d ≤ d * d = omega arith in
       let small : p ≤ 2 ^ 62 = div-le-of-le-mul (2 ^ 62) (mul-le-mul tau-high b) in
-      let g = le-of-mul-le-mul-right (front-high .law n d tau p f r (n * n) (d * d) Q (lt-div-mul-add (pow-pos 62)) (near .low) a b (floor .high) same) (pow-pos 64) in
-      let k = answer-high .law A p h (n * Q * d) Y (poly .num) (poly .den) (lt-div-mul-add (pow-pos 63)) g (value-high euler (euler-ratio t) (4 * f) 0 20 near) h-fits small in
+      let g = front-high .law n d tau p f r (n * n) (d * d) Q (lt-div-mul-add (pow-pos 62)) (near .low) a b (floor .high) same in
+      let k = answer-high .law A p h (n * Q * d) Y (poly .num) (poly .den) (lt-div-mul-add (pow-pos 63)) (le-of-mul-le-mul-right g (pow-pos 64))
+      (value-high euler (euler-ratio t) (4 * f) 0 20 near) h-fits small in
       record { cross = as-high .law (A + 29) n d Y (poly .num) (poly .den) Q (le-of-mul-le-mul-right k (pow-pos 63)) }
 
-  enough : Enough (euler-ratio t) 64
-  enough = enough-by {y = half} 64 (record { cross = omega (arith, mul-le-mul t-one t-one) }) (leb→le _ _ tt)
+  enough : Enough (euler-ratio t) (terms euler)
+  enough = enough-by {y = half} (terms euler) (record { cross = omega (arith, mul-le-mul t-one t-one) }) (leb→le _ _ tt)
 
-  tail-high : one-and-square t ⊠ euler-term t 64 ≼ units (62 + j) 1
+  tail-high : one-and-square t ⊠ euler-term t (terms euler) ≼ units (62 + j) 1
   unfolding euler-term
   tail-high =
-      let w = power (euler-ratio t) 64 in
+      let w = power (euler-ratio t) (terms euler) in
       let fits : one-and-square t ⊠ (w ⊠ (t ⊠ euler-start t)) ≼ units (62 + j) 1 =
       record { cross = tail-fits .law n d (w .num) (w .den) Y Q (floor .one) enough } in
-      ≼-trans (⊠-mono ≼-refl (late (euler-term t) (euler-ratio t) (one-and-square t) (euler-falls t) 64)) fits
+      ≼-trans (⊠-mono ≼-refl (late (euler-term t) (euler-ratio t) (one-and-square t) (euler-falls t) (terms euler))) fits
 
   -- THE LAW
   pub atan-near : Within (atan-lower t) (atan-upper t) (units (62 + j) (atan-answer j tau)) (units (62 + j) 10) (units (62 + j) 30)
   unfolding atan-answer atan-lower atan-upper
   atan-near =
-      let at-low : units (62 + j) A ≼ atan-lower t 64 ⊞ units (62 + j) 10 = ≼-trans partial-low (⊞-mono (euler-expansion t 64 .0) ≼-refl) in
-      let at-high : atan-upper t 64 ≼ units (62 + j) A ⊞ units (62 + j) 30 =
-      gathered (62 + j) A 29 1 (≼-trans (euler-expansion t 64 .1) partial-high) tail-high in
-      near-all (atan-nested t) 64 at-low at-high
+      let at-low : units (62 + j) A ≼ atan-lower t (terms euler) ⊞ units (62 + j) 10 = ≼-trans partial-low (⊞-mono (euler-expansion t (terms euler) .0) ≼-refl) in
+      let at-high : atan-upper t (terms euler) ≼ units (62 + j) A ⊞ units (62 + j) 30 =
+      gathered (62 + j) A 29 1 (≼-trans (euler-expansion t (terms euler) .1) partial-high) tail-high in
+      near-all (atan-nested t) (terms euler) at-low at-high

@@ -12,7 +12,7 @@ use lib.ListN.{length, getD}
 use lib.Pow.{pow-pos}
 use lib.Ieee.Fits.{and-l, and-r}
 use Rattle.algebra.specs.Ring.{con, nxt, _:+_, _:*_, _≈_, _⊩_, _times_≼_, Order, by-below}
-use Rattle.enclosure.specs.Pieces.{entries, horner}
+use Rattle.enclosure.specs.Pieces.{entry, entries, horner}
 use Rattle.enclosure.specs.Shifted.{evaluate}
 
 pub horner-step : (d r : ℕ) (rs : List ℕ) → horner d (r ∷ rs) ≡ r + d * horner d rs / 2 ^ 64
@@ -79,14 +79,20 @@ nothing-left : Order 5 (λ W g Q e t. (g times e ≼ t :* Q) ∷ [] ⊩ g :* e �
 nothing-left = by-below tt
 
 module _ (W : ℕ) (pos : 0 < W) (p : ℕ) (inside : p ≤ 2 ^ 58) where
+  entry-low : (g b : ℕ) → entry W g b * W ≤ b * g
+  entry-low g b = div-mul-le-self (b * g) W
+
+  entry-high : (g b : ℕ) → b * g < entry W g b * W + W
+  entry-high g b = lt-div-mul-add pos
+
   pub floors-low : (k g : ℕ) (bs : List ℕ) → horner (4 * p) (entries k W g bs) * (W * (2 ^ 58) ^ length bs) ≤ g * evaluate bs p (2 ^ 58)
   floors-low zero g bs = omega arith
   floors-low (suc k) g [] = omega arith
   floors-low (suc k) g (b ∷ bs) =
       let h = horner (4 * p) (entries k W (16 * g) bs) in
-      rw (horner-step (4 * p) (b * g / W) (entries k W (16 * g) bs), pow-succ' (2 ^ 58) (length bs))
-      (le-of-mul-le-mul-right (step-low .law W g b p ((2 ^ 58) ^ length bs) (evaluate bs p (2 ^ 58)) (b * g / W) h (4 * p * h / 2 ^ 64)
-      (div-mul-le-self (b * g) W) (div-mul-le-self (4 * p * h) (2 ^ 64)) (floors-low k (16 * g) bs)) (pow-pos 64))
+      rw (horner-step (4 * p) (entry W g b) (entries k W (16 * g) bs), pow-succ' (2 ^ 58) (length bs))
+      (le-of-mul-le-mul-right (step-low .law W g b p ((2 ^ 58) ^ length bs) (evaluate bs p (2 ^ 58)) (entry W g b) h (4 * p * h / 2 ^ 64)
+      (entry-low g b) (div-mul-le-self (4 * p * h) (2 ^ 64)) (floors-low k (16 * g) bs)) (pow-pos 64))
 
   pub floors-high : (k g : ℕ) (bs : List ℕ)
       → g * evaluate bs p (2 ^ 58) ≤ ((horner (4 * p) (entries k W g bs) + 3) * W + g * left-out k bs) * (2 ^ 58) ^ length bs
@@ -95,6 +101,6 @@ module _ (W : ℕ) (pos : 0 < W) (p : ℕ) (inside : p ≤ 2 ^ 58) where
   floors-high (suc k) g [] = omega arith
   floors-high (suc k) g (b ∷ bs) =
       let h = horner (4 * p) (entries k W (16 * g) bs) in
-      rw (horner-step (4 * p) (b * g / W) (entries k W (16 * g) bs), pow-succ' (2 ^ 58) (length bs))
-      (le-of-mul-le-mul-right (step-high .law W g b p ((2 ^ 58) ^ length bs) (evaluate bs p (2 ^ 58)) (b * g / W) h (4 * p * h / 2 ^ 64) (left-out k bs)
-      (lt-div-mul-add pos) (lt-div-mul-add (pow-pos 64)) (floors-high k (16 * g) bs) inside) (pow-pos 64))
+      rw (horner-step (4 * p) (entry W g b) (entries k W (16 * g) bs), pow-succ' (2 ^ 58) (length bs))
+      (le-of-mul-le-mul-right (step-high .law W g b p ((2 ^ 58) ^ length bs) (evaluate bs p (2 ^ 58)) (entry W g b) h (4 * p * h / 2 ^ 64) (left-out k bs)
+      (entry-high g b) (lt-div-mul-add (pow-pos 64)) (floors-high k (16 * g) bs) inside) (pow-pos 64))

@@ -92,10 +92,12 @@ module _ (m b e : ℕ) (low : 2 ^ 52 ≤ m) (high : m < 2 ^ 53) (some : 1 ≤ e)
             let y = T-upper s (ln-proper (units 52 m)) n in
             let rests : Y * M ≤ v + 2 * B = floors-low .law v (2 * B) M (v / M) (2 * B / M) (div-mul-le-self v M) (div-mul-le-self (2 * B) M) in
             let less : 24 ≤ 12 * M = omega arith in
-            let start : units (63 - b) Y ≼ units 63 v ⊞ whole 2 ⊠ units 63 B = ≼-trans (≼-trans (finer Y) (units-mono 63 (Y * M) (v + 2 * B) rests)) (split-units v B) in
+            let start : units (63 - b) Y ≼ units 63 v ⊞ whole 2 ⊠ units 63 B =
+            ≼-trans (≼-trans (finer Y) (units-mono 63 (Y * M) (v + 2 * B) rests)) (split-units v B) in
             let parts : units 63 v ⊞ whole 2 ⊠ units 63 B ≼ x ⊞ whole 2 ⊠ (y ⊞ units 63 12) =
             ⊞-mono (times-low e (T-upper third third-proper n) ln-two (ln-two-low n)) (⊠-mono ≼-refl (near .low n)) in
-            let end : x ⊞ whole 2 ⊠ y ⊞ units 63 24 ≼ x ⊞ whole 2 ⊠ y ⊞ units (63 - b) 12 = ⊞-mono ≼-refl (≼-trans (units-mono 63 24 (12 * M) less) (coarser 12)) in
+            let end : x ⊞ whole 2 ⊠ y ⊞ units 63 24 ≼ x ⊞ whole 2 ⊠ y ⊞ units (63 - b) 12 =
+            ⊞-mono ≼-refl (≼-trans (units-mono 63 24 (12 * M) less) (coarser 12)) in
             ≼-trans (≼-trans start parts) (≼-trans (move x y) end);
         high = λ n.
             let x = whole (2 * e) ⊠ T-lower third n in

@@ -14,7 +14,7 @@ use Rattle.enclosure.specs.Order.{≼-refl, ≼-trans, ⊞-mono, ⊠-mon
 use Rattle.enclosure.specs.Enclosure.{odd-power, T-term, T-factor, T-lower, T-upper, Within}
 use Rattle.enclosure.specs.Nested.{T-falls, T-nested, near-all, gathered}
 use Rattle.enclosure.specs.Expansion.{T-expansion, power, late, Enough, enough-by}
-use Rattle.enclosure.specs.Pieces.{odd, value}
+use Rattle.enclosure.specs.Pieces.{odd, terms, value}
 use Rattle.enclosure.specs.Rules.{seed-square, T-answer}
 use Rattle.enclosure.specs.Rows.{value-fits}
 use Rattle.enclosure.specs.Values.{partial, Near, value-low, value-high}
@@ -51,14 +51,16 @@ square-fits = by-below tt
 
 -- ---- the answer B. h is the sum's value, e / d the exact sum
 answer-low : Order 8 (λ B g h p q Q e d.
-    (q :* d :* Q times B :* con (2 ^ 63) ≼ g :* h) ∷ (h :* d :* Q times g :* q ≼ p :* Q :+ q) ∷ (p :* Q :* Q times h :* d ≼ e :* con (2 ^ 63) :+ con 2 :* con 9 :* d)
+    (q :* d :* Q times B :* con (2 ^ 63) ≼ g :* h) ∷ (h :* d :* Q times g :* q ≼ p :* Q :+ q)
+    ∷ (p :* Q :* Q times h :* d ≼ e :* con (2 ^ 63) :+ con 2 :* con 9 :* d)
     ∷ (q :* d :* Q times nxt h ≼ con (2 ^ 64)) ∷ (con 18 :* d :* Q times p :* Q ≼ (g :+ con 3) :* q) ∷ (con 18 :* q :* d :* Q times g ≼ con (2 ^ 62)) ∷ []
     ⊩ B :* (q :* d :* Q) :* con (2 ^ 63) ≈ (p :* e :* Q :+ con 12 :* (q :* d)) :* Q :* con (2 ^ 63))
 answer-low = by-below tt
 
 answer-high : Order 8 (λ B g h p q Q e d.
     (q :* d times nxt (g :* h) ≼ B :* con (2 ^ 63) :+ con (2 ^ 63)) ∷ ((h :+ con 58) :* d times p :* Q ≼ (g :+ con 3) :* q)
-    ∷ (p :* Q times e :* con (2 ^ 63) ≼ (h :+ con 6 :+ con 2 :* con 26) :* d) ∷ (con 3 :* q :* d times nxt h ≼ con (2 ^ 64)) ∷ (con 58 :* q :* d times g ≼ con (2 ^ 62)) ∷ []
+    ∷ (p :* Q times e :* con (2 ^ 63) ≼ (h :+ con 6 :+ con 2 :* con 26) :* d) ∷ (con 3 :* q :* d times nxt h ≼ con (2 ^ 64))
+    ∷ (con 58 :* q :* d times g ≼ con (2 ^ 62)) ∷ []
     ⊩ p :* e :* Q :* con (2 ^ 63) ≈ (B :+ con 37) :* (q :* d) :* con (2 ^ 63))
 answer-high = by-below tt
 
@@ -134,24 +136,24 @@ module _ (s : Quotient) (proper : s .num < s .den) (j sg : ℕ) (seed : Seed s j
       (value-high odd z w 9 26 near) h-fits (seed .fits) in
       record { cross = le-of-mul-le-mul-right k (pow-pos 63) }
 
-  enough : Enough z 44
-  enough = enough-by {y = over 9 24} 44 (record { cross = omega (arith, small-square s (seed .small)) }) (leb→le _ _ tt)
+  enough : Enough z (terms odd)
+  enough = enough-by {y = over 9 24} (terms odd) (record { cross = omega (arith, small-square s (seed .small)) }) (leb→le _ _ tt)
 
-  tail-high : T-factor s proper ⊠ T-term s 44 ≼ units (62 + j) 2
+  tail-high : T-factor s proper ⊠ T-term s (terms odd) ≼ units (62 + j) 2
   unfolding odd-power
   tail-high =
-      let x = power z 44 in
+      let x = power z (terms odd) in
       let D = s .den * s .den - s .num * s .num in
       let d : 16 * (s .den * s .den) ≤ 25 * D = omega (arith, small-square s (seed .small)) in
       let k = tail-fits .law (x .num) (x .den) (s .num) (s .den) Q sg D (seed .high) enough d (seed .fits) in
       let fits : T-factor s proper ⊠ (x ⊠ (s ⊠ over 1 0)) ≼ units (62 + j) 2 = record { cross = le-of-mul-le-mul-right k (pow-pos 66) } in
-      ≼-trans (⊠-mono ≼-refl (late (T-term s) z (T-factor s proper) (T-falls s proper) 44)) fits
+      ≼-trans (⊠-mono ≼-refl (late (T-term s) z (T-factor s proper) (T-falls s proper) (terms odd))) fits
 
   -- THE LAW
   pub T-near : Within (T-lower s) (T-upper s proper) (units (62 + j) (T-answer j sg)) (units (62 + j) 12) (units (62 + j) 39)
   unfolding T-answer T-lower T-upper
   T-near =
-      let at-low : units (62 + j) B ≼ T-lower s 44 ⊞ units (62 + j) 12 = ≼-trans partial-low (⊞-mono (T-expansion s 44 .0) ≼-refl) in
-      let at-high : T-upper s proper 44 ≼ units (62 + j) B ⊞ units (62 + j) 39 =
-      gathered (62 + j) B 37 2 (≼-trans (T-expansion s 44 .1) partial-high) tail-high in
-      near-all (T-nested s proper) 44 at-low at-high
+      let at-low : units (62 + j) B ≼ T-lower s (terms odd) ⊞ units (62 + j) 12 = ≼-trans partial-low (⊞-mono (T-expansion s (terms odd) .0) ≼-refl) in
+      let at-high : T-upper s proper (terms odd) ≼ units (62 + j) B ⊞ units (62 + j) 39 =
+      gathered (62 + j) B 37 2 (≼-trans (T-expansion s (terms odd) .1) partial-high) tail-high in
+      near-all (T-nested s proper) (terms odd) at-low at-high

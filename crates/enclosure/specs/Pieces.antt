@@ -58,18 +58,25 @@ shifted i [] = []
 shifted i (c ∷ cs) = times-shift i (c * 64 ^ suc (length cs)) (shifted i cs)
 
 -- ---- a row. With b the list above and W its denominator, y = D/64 makes h_k = 64 ^ k b_k / W: the k-th entry is
--- 2 ^ 63 * 16 ^ k * b_k / W, rounded down. `left` entries, of which the first has the scale g:
+-- 2 ^ 63 * 16 ^ k * b_k / W, rounded down. At the scale g:
+abbrev pub entry : ℕ → ℕ → ℕ → ℕ
+entry W g b = b * g / W
+
+-- `left` entries, of which the first has the scale g
 abbrev pub entries : ℕ → ℕ → ℕ → List ℕ → List ℕ
 entries zero W g bs = []
 entries (suc left) W g [] = []
-entries (suc left) W g (b ∷ bs) = b * g / W ∷ entries left W (16 * g) bs
+entries (suc left) W g (b ∷ bs) = entry W g b ∷ entries left W (16 * g) bs
+
+abbrev pub row-length : ℕ
+row-length = 12
 
 -- W
 abbrev pub row-denominator : Series → ℕ
 row-denominator s = denominator s * 64 ^ terms s
 
 unfoldable pub row : Series → ℕ → List ℕ
-row s i = entries 12 (row-denominator s) (2 ^ 63) (shifted i (numerators s))
+row s i = entries row-length (row-denominator s) (2 ^ 63) (shifted i (numerators s))
 
 -- ---- Horner's rule in whole numbers: the row and the answer in units of 2 ^ -63, d in units of 2 ^ -64
 abbrev pub horner : ℕ → List ℕ → ℕ

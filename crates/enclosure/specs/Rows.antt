@@ -12,7 +12,7 @@ use lib.ListN.{length, getD}
 use lib.Pow.{pow-pos}
 use lib.Ieee.Fits.{and-l, and-r}
 use Rattle.algebra.specs.Order.{lt-or-le}
-use Rattle.enclosure.specs.Pieces.{Series, euler, odd, pieces, row-denominator, numerators, shifted, row, value, same-list, right-row, right-rows}
+use Rattle.enclosure.specs.Pieces.{Series, euler, odd, pieces, row-length, row-denominator, numerators, shifted, row, value, same-list, right-row, right-rows}
 use Rattle.enclosure.specs.Floors.{horner-least, all-fit, horner-fits, left-out}
 
 -- ---- a test of all numbers below n
@@ -33,8 +33,8 @@ good-row rs = leb (2 ^ 63) (getD rs 0 0) && all-fit rs
 
 row-good : (s : Series) (i : ℕ) → i < pieces s → T (good-row (row s i))
 unfolding row numerators
-row-good euler = all-at (λ i. good-row (row euler i)) 33 tt
-row-good odd = all-at (λ i. good-row (row odd i)) 24 tt
+row-good euler = all-at (λ i. good-row (row euler i)) (pieces euler) tt
+row-good odd = all-at (λ i. good-row (row odd i)) (pieces odd) tt
 
 pub row-fits : (s : Series) (i : ℕ) → i < pieces s → T (all-fit (row s i))
 row-fits s i h = and-r (leb (2 ^ 63) (getD (row s i) 0 0)) (all-fit (row s i)) (row-good s i h)
@@ -43,12 +43,12 @@ row-first : (s : Series) (i : ℕ) → i < pieces s → 2 ^ 63 ≤ getD (row s i
 row-first s i h = leb→le (2 ^ 63) (getD (row s i) 0 0) (and-l (leb (2 ^ 63) (getD (row s i) 0 0)) (all-fit (row s i)) (row-good s i h))
 
 abbrev pub little-left : Series → ℕ → Bool
-little-left s i = leb (2 ^ 63 * left-out 12 (shifted i (numerators s))) (3 * row-denominator s)
+little-left s i = leb (2 ^ 63 * left-out row-length (shifted i (numerators s))) (3 * row-denominator s)
 
 pub rest-fits : (s : Series) (i : ℕ) → i < pieces s → T (little-left s i)
 unfolding numerators
-rest-fits euler = all-at (little-left euler) 33 tt
-rest-fits odd = all-at (little-left odd) 24 tt
+rest-fits euler = all-at (little-left euler) (pieces euler) tt
+rest-fits odd = all-at (little-left odd) (pieces odd) tt
 
 -- Horner's rule stays in a word, on each tail of a row too
 pub value-fits : (s : Series) (x : ℕ) → x / 2 ^ 58 < pieces s → value s x < 2 ^ 64

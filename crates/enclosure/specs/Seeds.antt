@@ -96,7 +96,8 @@ fits-1 : Order 2 (λ m d. (con (2 ^ 69) times m ≼ con (2 ^ 53)) ∷ (con (3 * 
 fits-1 = by-below tt
 
 rest-1 : Order 4 (λ m J g q.
-    (J times g :+ con 1 ≼ con (3 * 2 ^ 60)) ∷ (con (2 ^ 8) times con (2 ^ 54) :* J ≼ q :+ m) ∷ (con (2 ^ 8) times m ≼ con (2 ^ 53)) ∷ (con (2 ^ 60) times con 2 ≼ J) ∷ []
+    (J times g :+ con 1 ≼ con (3 * 2 ^ 60)) ∷ (con (2 ^ 8) times con (2 ^ 54) :* J ≼ q :+ m)
+    ∷ (con (2 ^ 8) times m ≼ con (2 ^ 53)) ∷ (con (2 ^ 60) times con 2 ≼ J) ∷ []
     ⊩ (g :+ con 1) :* J ≈ con 2 :* (q :* con (2 ^ 7)))
 rest-1 = by-below tt
 

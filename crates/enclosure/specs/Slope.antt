@@ -20,7 +20,8 @@ two-step = by-below tt
 rise-step : Order 8 (λ y y' z z' e e' b b'.
     (e :* e' :* b' times y :* (z' :* b') ≼ (z :* b' :+ b :* z') :* y') ∷ (con 2 :* b :* e' :* z' :* e' :* b' times y :* con 2 ≼ con 1 :* y')
     ∷ (b :* z' :* e' :* b' :* y' times e :* con 1 ≼ con 2 :* e') ∷ []
-    ⊩ y :* (e :* (con 1 :* b') :+ con 4 :* b :* e') :* (z' :* e' :* (con 1 :* b')) ≈ (z :* e :* (con 1 :* b') :+ con 4 :* b :* (z' :* e')) :* (y' :* (e' :* (con 1 :* b'))))
+    ⊩ y :* (e :* (con 1 :* b') :+ con 4 :* b :* e') :* (z' :* e' :* (con 1 :* b'))
+    ≈ (z :* e :* (con 1 :* b') :+ con 4 :* b :* (z' :* e')) :* (y' :* (e' :* (con 1 :* b'))))
 rise-step = by-below tt
 
 module _ (c : ℕ → Quotient) (small : (i : ℕ) → c i ≼ whole 1) where

@@ -43,7 +43,8 @@ taken-off = by-below tt
     ]
 
 -- ---- units that are gathered: a + b = y + c + v of them
-cancelled : Order 6 (λ a b c d e f. (con 1 times (a :* f :+ e :* b) :* (d :* f) ≼ (c :* f :+ e :* d) :* (b :* f)) ∷ [] ⊩ a :* d :* (f :* f) ≈ c :* b :* (f :* f))
+cancelled : Order 6 (λ a b c d e f. (con 1 times (a :* f :+ e :* b) :* (d :* f) ≼ (c :* f :+ e :* d) :* (b :* f)) ∷ []
+    ⊩ a :* d :* (f :* f) ≈ c :* b :* (f :* f))
 cancelled = by-below tt
 
 ⊞-cancel : {x y : Quotient} (z : Quotient) → x ⊞ z ≼ y ⊞ z → x ≼ y
@@ -51,7 +52,8 @@ cancelled = by-below tt
   cross = le-of-mul-le-mul-right (cancelled .law (x .num) (x .den) (y .num) (y .den) (z .num) (z .den) (h .cross)) (mul-pos (z .pos) (z .pos));
 }
 
-swapped : Order 6 (λ x x' v v' b b'. (x :* (v' :* b') :+ (v :* b' :+ b :* v') :* x') :* (x' :* b' :* v') ≈ ((x :* b' :+ b :* x') :* v' :+ v :* (x' :* b')) :* (x' :* (v' :* b')))
+swapped : Order 6 (λ x x' v v' b b'. (x :* (v' :* b') :+ (v :* b' :+ b :* v') :* x') :* (x' :* b' :* v')
+    ≈ ((x :* b' :+ b :* x') :* v' :+ v :* (x' :* b')) :* (x' :* (v' :* b')))
 swapped = by-below tt
 
 swap : (x v b : Quotient) → x ⊞ (v ⊞ b) ≼ x ⊞ b ⊞ v

@@ -40,7 +40,8 @@ T-first-lower : Order 2 (λ n d. n :* (con 1 :* (d :* con 1)) ≈ (con 0 :* (d :
 T-first-lower = by-below tt
 
 T-first-upper : Order 3 (λ n d w. (n :* n :* n :* d :* d :* d :* d :* d times d :* d ≼ con 3 :* w) ∷ []
-    ⊩ ((con 0 :* (d :* con 1) :+ n :* con 1 :* con 1) :* (w :* (d :* d :* d :* con 3)) :+ d :* d :* (n :* n :* n :* con 1) :* (con 1 :* (d :* con 1))) :* (d :* (d :* (d :* d)))
+    ⊩ ((con 0 :* (d :* con 1) :+ n :* con 1 :* con 1) :* (w :* (d :* d :* d :* con 3))
+    :+ d :* d :* (n :* n :* n :* con 1) :* (con 1 :* (d :* con 1))) :* (d :* (d :* (d :* d)))
     ≈ (n :* (d :* (d :* d)) :+ n :* (n :* n) :* d) :* (con 1 :* (d :* con 1) :* (w :* (d :* d :* d :* con 3))))
 T-first-upper = by-below tt
 
@@ -87,7 +88,8 @@ loss-most : Order 3 (λ n d q.
     ≈ (n :* (d :* d) :+ n :* n :* d) :* (con 1 :* (q :* (q :* (q :* q)))) :* con 4)
 loss-most = by-below tt
 
-pub loss-tiny : (a : Quotient) (h : a .num < a .den) → 4 * a .num ≤ a .den → Within (double-lower (loss a h)) (double-upper (loss a h) (loss-proper a h)) a (whole 0) (a ⊠ a)
+pub loss-tiny : (a : Quotient) (h : a .num < a .den) → 4 * a .num ≤ a .den
+    → Within (double-lower (loss a h)) (double-upper (loss a h) (loss-proper a h)) a (whole 0) (a ⊠ a)
 unfolding double-lower double-upper
 loss-tiny a h small =
     let s = loss a h in
@@ -99,7 +101,8 @@ loss-tiny a h small =
     let large : 7 * d ≤ 4 * q = omega arith in
     let more-than : d ≤ q = omega arith in
     let least : a ≼ whole 2 ⊠ s = record { cross = loss-least .law n d q upper } in
-    let most : whole 2 ⊠ (s ⊞ s ⊠ (s ⊠ s)) ≼ a ⊞ a ⊠ a = record { cross = le-of-mul-le-mul-right (loss-most .law n d q whole-two large small more-than) (omega arith) } in
+    let close = loss-most .law n d q whole-two large small more-than in
+    let most : whole 2 ⊠ (s ⊞ s ⊠ (s ⊠ s)) ≼ a ⊞ a ⊠ a = record { cross = le-of-mul-le-mul-right close (omega arith) } in
     record {
       low = λ i. ≼-trans (≼-trans least (⊠-mono ≼-refl (T-tiny-low s (loss-proper a h) i))) (≼-more (whole 2 ⊠ T-upper s (loss-proper a h) i) (whole 0));
       high = λ i. ≼-trans (⊠-mono ≼-refl (T-tiny-high s (loss-proper a h) (omega arith) i)) most;

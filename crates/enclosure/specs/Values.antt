@@ -11,7 +11,7 @@ use lib.Pow.{pow-pos}
 use Rattle.algebra.specs.Ring.{con, _:+_, _:*_, _≈_, _⊩_, _times_≼_, Order, by-below}
 use Rattle.enclosure.specs.Quotient.{Quotient, _≼_, whole, units, _⊞_}
 use Rattle.enclosure.specs.Order.{≼-refl, ≼-trans, ⊞-mono}
-use Rattle.enclosure.specs.Pieces.{Series, euler, odd, terms, pieces, denominator, row-denominator, numerators, shifted, row, value}
+use Rattle.enclosure.specs.Pieces.{Series, euler, odd, terms, pieces, denominator, row-length, row-denominator, numerators, shifted, row, value}
 use Rattle.enclosure.specs.Expansion.{coefficient, exact}
 use Rattle.enclosure.specs.Shifted.{evaluate, length-shifted, shifted-value, mul-pow, length-numerators, exact-is}
 use Rattle.enclosure.specs.Floors.{left-out, floors-low, floors-high}
@@ -90,19 +90,17 @@ module _ (s : Series) (x : ℕ) (inside : x / 2 ^ 58 < pieces s) where
   value-below : units 63 (value s x) ≼ e
   unfolding value row
   value-below =
-      let low = rw bs-length at (floors-low W W-pos p p-fits 12 (2 ^ 63) bs) in
-      record {
-        cross = le-of-mul-le-mul-right (at-low .law (value s x) (e .num) (e .den) W Q (evaluate bs p (2 ^ 58)) low (le-of-eq (sym same-number))) scale-pos;
-      }
+      let low = rw bs-length at (floors-low W W-pos p p-fits row-length (2 ^ 63) bs) in
+      let k = at-low .law (value s x) (e .num) (e .den) W Q (evaluate bs p (2 ^ 58)) low (le-of-eq (sym same-number)) in
+      record { cross = le-of-mul-le-mul-right k scale-pos }
 
   value-above : e ≼ units 63 (value s x + 6)
   unfolding value row
   value-above =
-      let high = rw bs-length at (floors-high W W-pos p p-fits 12 (2 ^ 63) bs) in
-      let rest = leb→le (2 ^ 63 * left-out 12 bs) (3 * W) (rest-fits s i inside) in
-      record {
-        cross = le-of-mul-le-mul-right (at-high .law (value s x) (e .num) (e .den) W Q (evaluate bs p (2 ^ 58)) (left-out 12 bs) high rest (le-of-eq same-number)) scale-pos;
-      }
+      let high = rw bs-length at (floors-high W W-pos p p-fits row-length (2 ^ 63) bs) in
+      let rest = leb→le (2 ^ 63 * left-out row-length bs) (3 * W) (rest-fits s i inside) in
+      let k = at-high .law (value s x) (e .num) (e .den) W Q (evaluate bs p (2 ^ 58)) (left-out row-length bs) high rest (le-of-eq same-number) in
+      record { cross = le-of-mul-le-mul-right k scale-pos }
 
 -- ---- x is z in units of 2 ^ -64, `al` too high at most or `be` too low, and z is 1/2 at most
 pub record Near (s : Series) (z : Quotient) (x al be : ℕ) : Type 0 where
@@ -125,7 +123,8 @@ sum-low : Order 4 (λ v a n d. (con 1 times v :* (d :* (con 1 :* con (2 ^ 64))) 
     ⊩ v :* d :* con (2 ^ 64) ≈ (n :* con (2 ^ 63) :+ con 2 :* a :* d) :* con (2 ^ 64))
 sum-low = by-below tt
 
-sum-high : Order 4 (λ v b n d. (con 1 times n :* (con (2 ^ 63) :* (con 1 :* con (2 ^ 64))) ≼ ((v :+ con 6) :* (con 1 :* con (2 ^ 64)) :+ con 4 :* b :* con (2 ^ 63)) :* d) ∷ []
+sum-high : Order 4 (λ v b n d.
+    (con 1 times n :* (con (2 ^ 63) :* (con 1 :* con (2 ^ 64))) ≼ ((v :+ con 6) :* (con 1 :* con (2 ^ 64)) :+ con 4 :* b :* con (2 ^ 63)) :* d) ∷ []
     ⊩ n :* con (2 ^ 63) :* con (2 ^ 64) ≈ (v :+ con 6 :+ con 2 :* b) :* d :* con (2 ^ 64))
 sum-high = by-below tt
 
