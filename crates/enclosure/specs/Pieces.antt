@@ -84,9 +84,16 @@ horner d [] = 0
 horner d (r ∷ []) = r
 horner d (r ∷ q ∷ rs) = r + d * horner d (q ∷ rs) / 2 ^ 64
 
--- S(z) in units of 2 ^ -63, where x is z in units of 2 ^ -64: its piece is x / 2 ^ 58, and d is 4 (z - i/64) in units of 2 ^ -64
+-- z's piece i, and 4 (z - i/64) in units of 2 ^ -64, where x is z in units of 2 ^ -64
+abbrev pub piece : ℕ → ℕ
+piece x = x / 2 ^ 58
+
+abbrev pub offset : ℕ → ℕ
+offset x = 4 * (x % 2 ^ 58)
+
+-- S(z) in units of 2 ^ -63
 unfoldable pub value : Series → ℕ → ℕ
-value s x = horner (4 * (x % 2 ^ 58)) (row s (x / 2 ^ 58))
+value s x = horner (offset x) (row s (piece x))
 
 -- ---- a table written out is the right one: a test to be computed (`unfolding row numerators`)
 abbrev pub same-list : List ℕ → List ℕ → Bool

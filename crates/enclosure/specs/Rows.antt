@@ -1,6 +1,6 @@
 -- What is computed of the rows: the entries fit a word, the first is 1 at least, and what a row leaves out is at most 3 units of
 -- 2 ^ -63. So `value` fits a word, too. And a table that passes the test `right-row` holds the rows. Assumes nothing.
-use Prim.Native.Nat.{ℕ, zero, suc, _+_, _*_, _/_, _%_, _^_, _≤_, _<_}
+use Prim.Native.Nat.{ℕ, zero, suc, _+_, _*_, _^_, _≤_, _<_}
 use mathlib.Core.Path.{_≡_, refl, sym, ap₂}
 use mathlib.Core.Bool.{Bool, true, _&&_}
 use mathlib.Core.Logic.{inl, inr}
@@ -12,7 +12,7 @@ use lib.ListN.{length, getD}
 use lib.Pow.{pow-pos}
 use lib.Ieee.Fits.{and-l, and-r}
 use Rattle.algebra.specs.Order.{lt-or-le}
-use Rattle.enclosure.specs.Pieces.{Series, euler, odd, pieces, row-length, row-denominator, numerators, shifted, row, value, same-list, right-row, right-rows}
+use Rattle.enclosure.specs.Pieces.{Series, euler, odd, pieces, row-length, row-denominator, numerators, shifted, row, piece, offset, value, same-list, right-row, right-rows}
 use Rattle.enclosure.specs.Floors.{horner-least, all-fit, horner-fits, left-out}
 
 -- ---- a test of all numbers below n
@@ -51,17 +51,16 @@ rest-fits euler = all-at (little-left euler) (pieces euler) tt
 rest-fits odd = all-at (little-left odd) (pieces odd) tt
 
 -- Horner's rule stays in a word, on each tail of a row too
-pub value-fits : (s : Series) (x : ℕ) → x / 2 ^ 58 < pieces s → value s x < 2 ^ 64
-unfolding value
-value-fits s x h =
-    let p = x % 2 ^ 58 in
-    let inside : p < 2 ^ 58 = mod-lt x (pow-pos 58) in
-    let d : 4 * p ≤ 2 ^ 60 = omega arith in
-    horner-fits (4 * p) (row s (x / 2 ^ 58)) d (row-fits s (x / 2 ^ 58) h)
+pub offset-fits : (x : ℕ) → offset x ≤ 2 ^ 60
+offset-fits x = omega (arith, mod-lt x (pow-pos 58))
 
-pub value-least : (s : Series) (x : ℕ) → x / 2 ^ 58 < pieces s → 2 ^ 63 ≤ value s x
+pub value-fits : (s : Series) (x : ℕ) → piece x < pieces s → value s x < 2 ^ 64
 unfolding value
-value-least s x h = le-trans (row-first s (x / 2 ^ 58) h) (horner-least (4 * (x % 2 ^ 58)) (row s (x / 2 ^ 58)))
+value-fits s x h = horner-fits (offset x) (row s (piece x)) (offset-fits x) (row-fits s (piece x) h)
+
+pub value-least : (s : Series) (x : ℕ) → piece x < pieces s → 2 ^ 63 ≤ value s x
+unfolding value
+value-least s x h = le-trans (row-first s (piece x) h) (horner-least (offset x) (row s (piece x)))
 
 -- ---- a table written out
 same-list-is : (xs ys : List ℕ) → T (same-list xs ys) → xs ≡ ys

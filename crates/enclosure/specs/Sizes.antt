@@ -6,11 +6,13 @@ use native.Mathlib.Omega.{arith}
 use lib.Pow.{pow-pos}
 use Rattle.algebra.specs.Ring.{con, nxt, _:+_, _:*_, _≈_, _⊩_, _times_≼_, Order, by-below}
 use Rattle.enclosure.specs.Quotient.{Quotient, units}
-use Rattle.enclosure.specs.Pieces.{euler, odd, value}
-use Rattle.enclosure.specs.Rules.{square, share, front, atan-answer, steep-answer, seed-square, T-answer, part, gain-seed, loss-seed, ln-two, ln-answer}
+use Rattle.enclosure.specs.Enclosure.{ln-argument}
+use Rattle.enclosure.specs.Pieces.{euler, odd, pieces, piece, value}
+use Rattle.enclosure.specs.Rules.{square, share, front, atan-answer, steep-answer, seed-square, T-answer, part, gain-seed, loss-seed, ln-seed, ln-two, ln-answer}
 use Rattle.enclosure.specs.Rows.{value-fits, value-least}
 use Rattle.enclosure.specs.Atan as atan
 use Rattle.enclosure.specs.Logarithm as logarithm
+use Rattle.enclosure.specs.Seeds.{ln-seeds}
 use Rattle.enclosure.specs.Steep.{inverse-most}
 
 -- t is a whole number of units
@@ -30,25 +32,26 @@ module _ (j tau : ℕ) (high : tau ≤ 2 ^ 62) where
   abbrev f : ℕ
   f = share (square j tau)
 
-  share-fits : f ≤ 2 ^ 61
-  share-fits = atan.share-fits (units (62 + j) tau) j tau (exact-floor j tau high)
+  pub share-small : f ≤ 2 ^ 61
+  share-small = atan.share-fits (units (62 + j) tau) j tau (exact-floor j tau high)
 
-  inside : 4 * f / 2 ^ 58 < 33
-  inside = omega (arith, share-fits)
+  pub share-inside : piece (4 * f) < pieces euler
+  share-inside = omega (arith, share-small)
 
   pub atan-size : 2 ^ 61 ≤ tau → 2 ^ 60 ≤ atan-answer j tau
   unfolding atan-answer
   atan-size low =
-      let r : 2 ^ 61 ≤ 2 ^ 62 - f = omega (arith, share-fits) in
+      let r : 2 ^ 61 ≤ 2 ^ 62 - f = omega (arith, share-small) in
       let p : 2 ^ 60 ≤ front tau f = le-div-iff-mul-le (pow-pos 62) .1 (mul-le-mul low r) in
-      le-div-iff-mul-le (pow-pos 63) .1 (mul-le-mul p (value-least euler (4 * f) inside))
+      le-div-iff-mul-le (pow-pos 63) .1 (mul-le-mul p (value-least euler (4 * f) share-inside))
+
+  pub front-fits : front tau f ≤ 2 ^ 62
+  front-fits = let r : 2 ^ 62 - f ≤ 2 ^ 62 = omega arith in div-le-of-le-mul (2 ^ 62) (mul-le-mul high r)
 
   pub atan-fits : atan-answer j tau < 2 ^ 63
   unfolding atan-answer
   atan-fits =
-      let r : 2 ^ 62 - f ≤ 2 ^ 62 = omega arith in
-      let p : front tau f ≤ 2 ^ 62 = div-le-of-le-mul (2 ^ 62) (mul-le-mul high r) in
-      div-lt-iff-lt-mul (pow-pos 63) .1 (product-fits .law (front tau f) (value euler (4 * f)) p (value-fits euler (4 * f) inside))
+      div-lt-iff-lt-mul (pow-pos 63) .1 (product-fits .law (front tau f) (value euler (4 * f)) front-fits (value-fits euler (4 * f) share-inside))
 
 pub steep-size : (t : Quotient) (h : t .den < t .num) → 2 ^ 61 ≤ steep-answer (t .den * 2 ^ 62 / t .num)
 unfolding steep-answer
@@ -59,7 +62,7 @@ module _ (s : Quotient) (j sg : ℕ) (seed : logarithm.Seed s j sg) where
   abbrev w : ℕ
   w = seed-square j sg
 
-  seed-inside : w / 2 ^ 58 < 24
+  pub seed-inside : piece w < pieces odd
   seed-inside = logarithm.near s (omega (arith, seed .small, s .pos)) j sg seed .inside
 
   pub T-size : sg ≤ T-answer j sg
@@ -97,3 +100,13 @@ enough-digits = by-below tt
 pub ln-size : (b e m : ℕ) → 2 ^ b ≤ 2 * e → 2 ^ 61 ≤ ln-answer b e m
 unfolding ln-answer
 ln-size b e m h = let k : 2 ^ 61 ≤ e * ln-two / 2 ^ b = le-div-iff-mul-le (pow-pos b) .1 (enough-digits .law e (2 ^ b) h) in omega arith
+
+pub ln-fits : (m b e : ℕ) → 2 ^ 52 ≤ m → m < 2 ^ 53 → 1 ≤ e → e < 2 ^ b → ln-answer b e m < 2 ^ 64
+unfolding ln-answer
+ln-fits m b e low high some fits =
+    let s = ln-argument (units 52 m) in
+    let B = T-answer 1 (ln-seed m) in
+    let two : 2 ≤ 2 ^ b = omega arith in
+    let first : e * ln-two / 2 ^ b ≤ ln-two = div-le-of-le-mul (2 ^ b) (omega arith) in
+    let second : 2 * B / 2 ^ b ≤ B = div-le-of-le-mul (2 ^ b) (mul-le-mul-right B two) in
+    omega (arith, T-fits s 1 (ln-seed m) (ln-seeds m low high))

@@ -1,6 +1,6 @@
 -- `value` is near the exact partial sum: 6 units of 2 ^ -63 too low at most where its argument is exact, and 2 more for each
 -- unit of 2 ^ -64 that the argument is off. Assumes nothing.
-use Prim.Native.Nat.{ℕ, zero, suc, _+_, _*_, _/_, _%_, _^_, _≤_, _<_}
+use Prim.Native.Nat.{ℕ, zero, suc, _+_, _*_, _%_, _^_, _≤_, _<_}
 use mathlib.Core.Path.{_≡_, sym, _∙_, ap}
 use mathlib.Core.List.{List, [], _∷_}
 use native.Mathlib.Nat.{le-of-mul-le-mul-right, mul-pos, mul-le-mul, mod-lt, div-add-mod', le-of-eq, le-of-lt, one-le-pow}
@@ -11,7 +11,7 @@ use lib.Pow.{pow-pos}
 use Rattle.algebra.specs.Ring.{con, _:+_, _:*_, _≈_, _⊩_, _times_≼_, Order, by-below}
 use Rattle.enclosure.specs.Quotient.{Quotient, _≼_, whole, units, _⊞_}
 use Rattle.enclosure.specs.Order.{≼-refl, ≼-trans, ⊞-mono}
-use Rattle.enclosure.specs.Pieces.{Series, euler, odd, terms, pieces, denominator, row-length, row-denominator, numerators, shifted, row, value}
+use Rattle.enclosure.specs.Pieces.{Series, euler, odd, terms, pieces, denominator, row-length, row-denominator, numerators, shifted, row, piece, value}
 use Rattle.enclosure.specs.Expansion.{coefficient, exact}
 use Rattle.enclosure.specs.Shifted.{evaluate, length-shifted, shifted-value, mul-pow, length-numerators, exact-is}
 use Rattle.enclosure.specs.Floors.{left-out, floors-low, floors-high}
@@ -47,9 +47,9 @@ product-pos : (s : Series) → 0 < denominator s
 product-pos euler = leb→le _ _ tt
 product-pos odd = leb→le _ _ tt
 
-module _ (s : Series) (x : ℕ) (inside : x / 2 ^ 58 < pieces s) where
+module _ (s : Series) (x : ℕ) (inside : piece x < pieces s) where
   abbrev i : ℕ
-  i = x / 2 ^ 58
+  i = piece x
 
   abbrev p : ℕ
   p = x % 2 ^ 58
@@ -75,8 +75,11 @@ module _ (s : Series) (x : ℕ) (inside : x / 2 ^ 58 < pieces s) where
   bs-length : length bs ≡ terms s
   bs-length = length-shifted i (numerators s) ∙ length-numerators s
 
+  same-point : i * 2 ^ 58 + p ≡ x
+  same-point = div-add-mod' x (2 ^ 58)
+
   same-value : evaluate bs p (2 ^ 58) ≡ evaluate (numerators s) x (2 ^ 64)
-  same-value = shifted-value i (numerators s) p (2 ^ 58) ∙ ap (λ (y : ℕ). evaluate (numerators s) y (2 ^ 64)) (div-add-mod' x (2 ^ 58))
+  same-value = shifted-value i (numerators s) p (2 ^ 58) ∙ ap (λ (y : ℕ). evaluate (numerators s) y (2 ^ 64)) same-point
 
   same-scale : denominator s * (2 ^ 64) ^ terms s ≡ W * Q
   same-scale = rw (mul-pow 64 (2 ^ 58) (terms s)) (omega arith)
@@ -108,7 +111,7 @@ pub record Near (s : Series) (z : Quotient) (x al be : ℕ) : Type 0 where
   pub high : z .num * 2 ^ 64 ≤ (x + be) * z .den
   pub half : 2 * z .num ≤ z .den
   pub fits : x ≤ 2 ^ 63
-  pub inside : x / 2 ^ 58 < pieces s
+  pub inside : piece x < pieces s
 
 point-low : Order 4 (λ x al n d. (con (2 ^ 64) times x :* d ≼ n :* con (2 ^ 64) :+ al :* d) ∷ []
     ⊩ x :* (d :* con (2 ^ 64)) ≈ (n :* con (2 ^ 64) :+ al :* d) :* con (2 ^ 64))
