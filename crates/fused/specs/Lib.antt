@@ -1,0 +1,5 @@
+pub mod Fused
+pub mod Examples
+pub mod Laws
+pub mod Signs
+pub mod Parts
