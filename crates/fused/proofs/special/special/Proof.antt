@@ -98,10 +98,14 @@ split-requires : tie.Need-split-requires
 split-requires c κs = pattern _ (held-a (c .before .before .before .before .before .before .before .before .before)) (number-a (c .before .before))
 
 split-requires-2 : tie.Need-split-requires-2
-split-requires-2 c κs = let six = c .before in pattern _ (held-b (six .before .before .before .before .before .before .before .before .before)) (number-b (six .before))
+split-requires-2 c κs =
+    let six = c .before in
+    pattern _ (held-b (six .before .before .before .before .before .before .before .before .before)) (number-b (six .before))
 
 split-requires-3 : tie.Need-split-requires-3
-split-requires-3 c κs = let six = c .before .before in pattern _ (held-c (six .before .before .before .before .before .before .before .before .before)) (number-c six)
+split-requires-3 c κs =
+    let six = c .before .before in
+    pattern _ (held-c (six .before .before .before .before .before .before .before .before .before)) (number-c six)
 
 numbers-requires : tie.Need-numbers-requires
 numbers-requires c κs = search needs
