@@ -1,0 +1,2 @@
+-- `Table`: the constant table, entry by entry.
+mod Table
