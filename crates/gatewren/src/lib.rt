@@ -1,3 +1,4 @@
 // The C interface, for C and Rust to link: the leaves and the entries under C names. A list only; what each does is in its crate.
 mod fused_leaf;
 mod leaves;
+mod power_leaf;

@@ -1,0 +1,57 @@
+-- `power::pow_neg_3_2` meets its contract: `positive` has the power of a finite number above zero, and `Special` has the rest. Assumes nothing.
+use mathlib.Core.Path.{sym, ap, _∙_, subst}
+use native.Mathlib.Omega.{arith}
+use lib.Dec.{T}
+use lib.Ieee.{binary64, fits, div, ofBits}
+use lib.Ieee.Bits.{ofBits-toBits}
+use Rattle.rounding.specs.Cut.{infinity}
+use Rattle.binary64.specs.Tests.{above-no-nan, bits-pos, bits-number}
+use Rattle.power.specs.Power.{power}
+use Rattle.power.proofs.Special.{power-of-infinity, power-of-zero, power-of-rest}
+use Rattle.power.proofs.pow_neg_3_2.Statement.{statement}
+use Rattle.power.proofs.pow_neg_3_2.Tie as tie
+
+-- what owning an f64 tells: the format holds it
+held : (c : tie.Start) → T (fits binary64 (c .args .a))
+held c = subst T (sym (c .good .0 .1)) tt
+
+-- src/lib.rt:41:17
+float-to-bits-b : tie.Need-float-to-bits-b
+float-to-bits-b c = above-no-nan (c .before .args .a) (c .if1 .taken)
+
+-- src/lib.rt:43:13
+positive-requires : tie.Need-positive-requires
+positive-requires c κs = let s = c .before .before in (bits-pos (s .args .a) (held s) (c .before .if1 .taken), omega arith)
+
+-- src/lib.rt:43:13
+returns : tie.Need-returns
+returns c = let s = c .before .before .before in c .positive .ensures ∙ ap power (ofBits-toBits binary64 (s .args .a) (held s))
+
+-- src/lib.rt:45:9
+returns-2 : tie.Need-returns-2
+returns-2 c = let s = c .before .before in power-of-infinity (s .args .a) (held s) (omega arith) (c .before .if1 .taken)
+
+-- src/lib.rt:48:16
+float-from-bits-result : tie.Need-float-from-bits-result
+float-from-bits-result c = bits-number infinity (omega arith)
+
+-- src/lib.rt:48:9
+returns-3 : tie.Need-returns-3
+returns-3 c = power-of-zero (c .before .before .args .a) (c .if3 .taken)
+
+-- src/lib.rt:37:1
+returns-4 : tie.Need-returns-4
+unfolding ofBits div
+returns-4 c = power-of-rest (c .before .before .args .a) (c .before .if1 .left) (c .if3 .left)
+
+pub pow-neg-3-2-spec : {M : Type 1} → statement M
+pow-neg-3-2-spec =
+    tie.close
+    (tie.spec
+    float-to-bits-b
+    positive-requires
+    returns
+    returns-2
+    float-from-bits-result
+    returns-3
+    returns-4)

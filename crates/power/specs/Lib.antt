@@ -1,0 +1,5 @@
+pub mod Power
+pub mod Laws
+pub mod Parts
+pub mod Examples
+pub mod Start
