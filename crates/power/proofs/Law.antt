@@ -15,11 +15,13 @@ use lib.Ieee.Exact.{HasValue}
 use Rattle.algebra.specs.Ring.{_:*_, _≈_, _⊩_, _times_≼_, ring}
 use Rattle.rounding.specs.Cut.{Cut, infinity, value, passed, reached, rounded}
 use Rattle.rounding.specs.Value.{value-lt, value-is}
-use Rattle.rounding.specs.Laws.{Number, rounded-at}
+use Rattle.rounding.specs.Laws.{Number, middle, lt-passed, gt-passed, unreached, rounded-at}
 use Rattle.root.specs.Parts.{four, Scaled}
 use Rattle.power.specs.Power.{powerOf, power}
 use Rattle.power.specs.Laws.{power-number, same-power}
-use Rattle.power.specs.Parts.{cutAt, Held, Answer}
+use Rattle.power.specs.Parts.{cutAt, Held, Told, Answer}
+use Rattle.power.specs.declared.bound.Side.{Side}
+use Rattle.power.specs.declared.bound.Side.the-variants.{Below, Above}
 use Rattle.power.proofs.OneWord.{shifted}
 use Rattle.power.proofs.Fours.{four-pos, four-add, four-is}
 
@@ -39,8 +41,23 @@ reached-at v zero z h = absurd (z refl)
 reached-at v (suc b) z h = let e : suc b - 1 ≡ b = omega arith in rw (lt-ltb b infinity (omega arith), e)
 
 -- ---- the two tests, by their answers
+pub holds : {t : Bool} → t ≡ true → T t
+holds e = subst T (sym e) tt
+
 pub answer : (v : Cut) (r : ℕ) (s t : Bool) → r ≤ infinity → s ≡ reached v r → s ≡ true → t ≡ reached v (r + 1) → not t ≡ true → Answer v r
-answer v r s t h e p f q = record { held = h; here = subst T (sym (sym e ∙ p)) tt; last = subst T (sym (ap not (sym f) ∙ q)) tt }
+answer v r s t h e p f q = record { held = h; here = holds (sym e ∙ p); last = holds (ap not (sym f) ∙ q) }
+
+-- (where bounds tell of both middles)
+pub clear : (v : Cut) (r : ℕ) (s t : Side) → (r ≡ 0 → ⊥) → r < infinity → Told s (v (middle (r - 1) (suc (r - 1))) (2 ^ 1075)) → s ≡ Below
+    → Told t (v (middle r (suc r)) (2 ^ 1075)) → t ≡ Above → Answer v r
+clear v r s t z h p e q f =
+    let l = subst (λ (k : Side). Told k (v (middle (r - 1) (suc (r - 1))) (2 ^ 1075))) e p in
+    let u = subst (λ (k : Side). Told k (v (middle r (suc r)) (2 ^ 1075))) f q in
+    record {
+      held = omega arith;
+      here = subst T (reached-at v r z (omega arith)) (lt-passed v (r - 1) l);
+      last = subst (λ (k : ℕ). T (not (reached v k))) (sym (add-one r)) (unreached v r (gt-passed v r u));
+    }
 
 -- ---- a turn of the search adds 2 ^ (k - 1), half of what is left
 pub record Step (k : ℕ) : Type 0 where

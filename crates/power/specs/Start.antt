@@ -81,4 +81,5 @@ a-fifth = refl
 
 pub fifth-nearest : Nearest (eighthOf 0xc_cccc_cccc_cccd (2 ^ 106)) 0x405b_ab78_e4d1_420d
 unfolding div
-fifth-nearest = nearest-at (eighthOf 0xc_cccc_cccc_cccd (2 ^ 106)) (eighth-number 0xc_cccc_cccc_cccd (2 ^ 106) (omega arith)) 0x405b_ab78_e4d1_420d (omega arith) of-fifth
+fifth-nearest =
+    nearest-at (eighthOf 0xc_cccc_cccc_cccd (2 ^ 106)) (eighth-number 0xc_cccc_cccc_cccd (2 ^ 106) (omega arith)) 0x405b_ab78_e4d1_420d (omega arith) of-fifth

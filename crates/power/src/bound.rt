@@ -1,9 +1,9 @@
-// A bound of one word on the product d² n³. It decides all but one case of 250, with four multiplications of the machine for a middle and its
-// number, two of which the next middle shares.
+// A bound of one word on the product d² n³. It decides all but one case of 200, by four multiplications for a middle, of which the next
+// middle shares two.
 //
 // With m = n * 2 ^ z and g = d * 2 ^ 10, both of 64 digits where d has 54,
 //     x = ((g * g / 2 ^ 64) * ((m * m / 2 ^ 64) * m / 2 ^ 64)) / 2 ^ 64
-// is at most g² m³ / 2 ^ 256 and above it less 4: a quotient loses less than 1, times at most 2 ^ 64 each.
+// is at most g² m³ / 2 ^ 256 and above it less 4: each quotient loses less than 1, times 2 ^ 64 at most.
 use limbs::high;
 ghost use mathlib.Core.Path.{_≡_};
 ghost use Prim.Native.Nat.{ℕ, _+_, _*_, _^_, _<_};
@@ -41,13 +41,11 @@ fn bound(m: u64, g: u64, to: u64, t: u64) -> Side
     Side::Near
 }
 
-// With the digits of n moved up to the highest place.
+// With the digits of n moved up to the highest place, by 10 or 11. (A shift, since a branch would go either way half of the time.)
 pub fn quick(n: u64, d: u64, t: u64) -> Side
     requires { ⌜ (n < 2 ^ 54) × (d < 2 ^ 54) × (t < 2 ^ 14) ⌝ }
     ensures { λ r. ⌜ Told r (against n d t) ⌝ }
 {
-    if n < WHOLE {
-        return bound(n * 2048, d * 1024, 8235, t);
-    }
-    bound(n * 1024, d * 1024, 8232, t)
+    let z = 11 - n / WHOLE;
+    bound(n << z, d * 1024, 8202 + 3 * z, t)
 }

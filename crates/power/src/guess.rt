@@ -1,9 +1,9 @@
-// A guess at the pattern of the answer, by plain f64 arithmetic. Nothing is proved of it but that it is safe. In tests it was right at all but one
-// number of 1000, and there its neighbour was.
+// A guess at the pattern of the answer, by plain f64 arithmetic. Nothing is proved of it but that it is safe. In tests it was right at all
+// but one number of 1000, and there its neighbour was.
 //
-// The number is a * 4 ^ (y - 1022) with 1 ≤ a < 4, a = n / 2 ^ 52, and its power is a ^ (-3/2) * 8 ^ (1022 - y). The pattern of a, halved and
-// subtracted from a constant, is near that of 1 / √a; one step of Newton's method gives s within 2 ^ -10, of which 17 binary digits are kept,
-// so that s * s and s * s * s are exact. With w = 1 - a * s * s, which is exact but for its last digits (the product goes by two halves of a),
+// The number is a * 4 ^ (y - 1022) with 1 ≤ a < 4, a = n / 2 ^ 52, and its power is a ^ (-3/2) * 8 ^ (1022 - y). The pattern of a, halved
+// and subtracted from a constant, is near that of 1 / √a. One step of Newton's method gives s to 9 binary digits. It is rounded to a
+// multiple of 2 ^ -17, so that s * s and s * s * s are exact. With w = 1 - a * s * s, formed by two parts of a so that little is lost,
 //     a ^ (-3/2) = s³ * (1 - w) ^ (-3/2) = s³ + s³ * w * (3/2 + 15/8 * w + 35/16 * w² + ..)
 // The sum with s³ comes last, so that the only rounding that counts is its own.
 ghost use Prim.Native.Nat.{_*_, _^_, _≤_, _<_};

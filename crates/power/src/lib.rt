@@ -1,8 +1,9 @@
 // The power -3/2 of an f64, exactly rounded, at every f64.
 //
-// `guess` finds it by plain f64 arithmetic; nothing is proved of that. `is_answer` tests it in whole numbers: the middles beside it are squared,
-// multiplied by the number's cube and compared with one. What passes is proved to be the answer. Where the guess is wrong, `search` finds
-// the answer, in a bounded number of steps. A caller does not wait for the test: the processor runs on past it.
+// `guess` finds it by plain f64 arithmetic; nothing is proved of that. `is_clear` tests it in whole numbers: the middles beside it are
+// squared, multiplied by the number's cube and compared with one. What passes is proved to be the answer. Where one word does not tell,
+// or the guess is wrong, `search` finds the answer, in a bounded number of steps. A caller does not wait for the test: the processor runs
+// on past it.
 mod bound;
 mod exact;
 mod guess;
@@ -10,7 +11,7 @@ mod middle;
 mod search;
 
 use crate::guess::guess;
-use crate::search::is_answer;
+use crate::search::is_clear;
 use crate::search::search;
 use root::parts::scaled;
 ghost use mathlib.Core.Path.{_≡_};
@@ -28,7 +29,7 @@ fn positive(b: u64) -> f64
 {
     let p = scaled(b);
     let r = guess(p.n, p.y);
-    if is_answer(p.n, p.y, r) {
+    if is_clear(p.n, p.y, r) {
         return f64::from_bits(r);
     }
     f64::from_bits(search(p.n, p.y, r))

@@ -6,9 +6,10 @@ use crate::exact::exact;
 use limbs::Order;
 ghost use mathlib.Core.Path.{_≡_};
 ghost use mathlib.Core.Bool.{true};
-ghost use Prim.Native.Nat.{_+_, _-_, _/_, _^_, _≤_, _<_};
+ghost use Prim.Native.Nat.{suc, _-_, _/_, _^_, _≤_, _<_};
 ghost use Rattle.rounding.specs.Cut.{infinity, passed, reached};
-ghost use Rattle.power.specs.Parts.{cutAt, Held};
+ghost use Rattle.rounding.specs.Laws.{middle};
+ghost use Rattle.power.specs.Parts.{cutAt, Held, Told};
 
 const ONE: u64 = 0x10_0000_0000_0000; // 2 ^ 52
 
@@ -25,22 +26,26 @@ fn exponent(r: u64) -> u64
     0
 }
 
-// Whether the power is past the middle of r and r + 1. At the middle, where it never is, the even one of the two would be taken.
+// On which side of the power the middle of r and r + 1 lies, as far as a bound of one word tells.
+pub fn side(n: u64, y: u64, r: u64) -> Side
+    requires { ⌜ Held n y × (r < infinity) ⌝ }
+    ensures { λ s. ⌜ Told s (cutAt n y (middle r (suc r)) (2 ^ 1075)) ⌝ }
+{
+    let e = exponent(r);
+    quick(n, 2 * (r - e * ONE) + 1, 3 * y + e)
+}
+
+// Whether the power is past that middle. At the middle itself the even one of the two would be taken; it is never met, since d² n³ 4 ^ t is
+// no power of four: d is odd, and where it is 1, n³ would be 2 to a power that 3 does not divide.
 fn past(n: u64, y: u64, r: u64) -> bool
     requires { ⌜ Held n y × (r < infinity) ⌝ }
     ensures { λ t. ⌜ t ≡ passed (cutAt n y) r ⌝ }
 {
     let e = exponent(r);
-    let d = 2 * (r - e * ONE) + 1;
-    let t = 3 * y + e;
-    match quick(n, d, t) {
-        Side::Below => true,
-        Side::Above => false,
-        Side::Near => match exact(n, d, t) {
-            Order::Less => true,
-            Order::Equal => r % 2 == 1,
-            Order::Greater => false,
-        },
+    match exact(n, 2 * (r - e * ONE) + 1, 3 * y + e) {
+        Order::Less => true,
+        Order::Equal => r % 2 == 1,
+        Order::Greater => false,
     }
 }
 

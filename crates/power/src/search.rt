@@ -1,5 +1,7 @@
 // The pattern of the answer, from a guess at it.
+use crate::bound::Side;
 use crate::middle::reaches;
+use crate::middle::side;
 ghost use mathlib.Core.Path.{_≡_};
 ghost use mathlib.Core.Bool.{true};
 ghost use Prim.Native.Nat.{_+_, _<_};
@@ -8,8 +10,28 @@ ghost use Rattle.power.specs.Parts.{cutAt, Held, Answer};
 
 const INFINITY: u64 = 0x7ff0_0000_0000_0000; // the pattern of the infinity
 
-// Whether r is the answer: two middles are tested.
-pub fn is_answer(n: u64, y: u64, r: u64) -> bool
+// Whether r is the answer as far as bounds of one word tell, for a number that is not at an end of the range. This is all that most calls do.
+pub fn is_clear(n: u64, y: u64, r: u64) -> bool
+    requires { ⌜ Held n y ⌝ }
+    ensures { λ t. ⌜ (t ≡ true → Answer (cutAt n y) r) ⌝ }
+{
+    if r == 0 {
+        return false;
+    }
+    if INFINITY <= r {
+        return false;
+    }
+    match side(n, y, r - 1) {
+        Side::Below => match side(n, y, r) {
+            Side::Above => true,
+            _ => false,
+        },
+        _ => false,
+    }
+}
+
+// Whether r is the answer.
+fn is_answer(n: u64, y: u64, r: u64) -> bool
     requires { ⌜ Held n y ⌝ }
     ensures { λ t. ⌜ (t ≡ true → Answer (cutAt n y) r) ⌝ }
 {
@@ -39,11 +61,14 @@ fn digits(n: u64, y: u64) -> u64
     found
 }
 
-// Near the guess, as far as tests have shown, and in any case by its digits.
+// At the guess or beside it, as far as tests have shown, and in any case by its digits.
 pub fn search(n: u64, y: u64, r: u64) -> u64
     requires { ⌜ Held n y ⌝ }
     ensures { λ r. ⌜ Answer (cutAt n y) r ⌝ }
 {
+    if is_answer(n, y, r) {
+        return r;
+    }
     let before = std::num::wrapping_sub_u64(r, 1);
     if is_answer(n, y, before) {
         return before;

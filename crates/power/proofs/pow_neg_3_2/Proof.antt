@@ -15,31 +15,24 @@ use Rattle.power.proofs.pow_neg_3_2.Tie as tie
 held : (c : tie.Start) → T (fits binary64 (c .args .a))
 held c = subst T (sym (c .good .0 .1)) tt
 
--- src/lib.rt:41:17
 float-to-bits-b : tie.Need-float-to-bits-b
 float-to-bits-b c = above-no-nan (c .before .args .a) (c .if1 .taken)
 
--- src/lib.rt:43:13
 positive-requires : tie.Need-positive-requires
 positive-requires c κs = let s = c .before .before in (bits-pos (s .args .a) (held s) (c .before .if1 .taken), omega arith)
 
--- src/lib.rt:43:13
 returns : tie.Need-returns
 returns c = let s = c .before .before .before in c .positive .ensures ∙ ap power (ofBits-toBits binary64 (s .args .a) (held s))
 
--- src/lib.rt:45:9
 returns-2 : tie.Need-returns-2
 returns-2 c = let s = c .before .before in power-of-infinity (s .args .a) (held s) (omega arith) (c .before .if1 .taken)
 
--- src/lib.rt:48:16
 float-from-bits-result : tie.Need-float-from-bits-result
 float-from-bits-result c = bits-number infinity (omega arith)
 
--- src/lib.rt:48:9
 returns-3 : tie.Need-returns-3
 returns-3 c = power-of-zero (c .before .before .args .a) (c .if3 .taken)
 
--- src/lib.rt:37:1
 returns-4 : tie.Need-returns-4
 unfolding ofBits div
 returns-4 c = power-of-rest (c .before .before .args .a) (c .before .if1 .left) (c .if3 .left)

@@ -1,3 +1,4 @@
+-- `power::bound::bound` meets its contract, by `OneWord`: x is a bound from below, and x + 4 is above. Assumes nothing.
 use borrow.Author.Needs.{needs}
 use Prim.Native.Nat.{ℕ, _+_, _-_, _*_, _^_, _≤_, _<_}
 use mathlib.Core.Path.{_≡_, subst}
@@ -6,11 +7,7 @@ use Rattle.power.specs.Power.{cube}
 use Rattle.power.proofs.OneWord.{High, high-word, at-least, less-than, told-above, told-below, shifted}
 use Rattle.power.proofs.bound.bound.Statement.{statement}
 use Rattle.power.proofs.bound.bound.Tie as tie
-use Rattle.power.proofs.bound.bound.Reads as reads
-use Rattle.power.proofs.bound.bound.Lts as lts
-use Rattle.limbs.proofs.high.Reads as high-reads
 
--- src/bound.rt:26:18
 abbrev start : tie.After-high4 → tie.Start
 start c = c .before .before .before .before
 
@@ -61,43 +58,33 @@ room one x h l = omega arith
 high-requires : tie.Need-high-requires
 high-requires c κs = search needs
 
--- src/bound.rt:26:35
 high-requires-2 : tie.Need-high-requires-2
 high-requires-2 c κs = search needs
 
--- src/bound.rt:26:30
 high-requires-3 : tie.Need-high-requires-3
 high-requires-3 c κs = search needs
 
--- src/bound.rt:26:9
 high-requires-4 : tie.Need-high-requires-4
 high-requires-4 c κs = search needs
 
--- src/bound.rt:27:13
 mul-if1 : tie.Need-mul-if1
 mul-if1 c = search needs
 
--- src/bound.rt:28:9
 returns : tie.Need-returns
 returns c = search needs
 
--- src/bound.rt:30:23
 mul-places : tie.Need-mul-places
 mul-places c = search needs
 
--- src/bound.rt:30:18
 sub-places : tie.Need-sub-places
 sub-places c = search needs
 
--- src/bound.rt:32:9
 returns-2 : tie.Need-returns-2
 returns-2 c = search needs
 
--- src/bound.rt:34:15
 shl-one : tie.Need-shl-one
 shl-one c = search needs
 
--- src/bound.rt:36:9
 returns-3 : tie.Need-returns-3
 returns-3 c n d z M G E =
     let e = c .before .before in
@@ -106,16 +93,15 @@ returns-3 c n d z M G E =
     let l : 2 ^ s < x (e .before) = subst (λ (k : ℕ). k < x (e .before)) (shifted s (c .before .if2 .left)) (c .if3 .taken) in
     told-above _ _ (a .args .to) (a .args .t) s (x (e .before)) n d z M G E (sum (a .args .to) (a .args .t) (e .if1 .left)) l (lower (e .before))
 
--- src/bound.rt:39:9
 returns-4 : tie.Need-returns-4
 returns-4 c n d z M G E =
     let e = c .before .before .before in
     let a = start (e .before) in
     let s = a .args .to - 2 * a .args .t in
-    let l : x (e .before) + 4 ≤ 2 ^ s = subst (λ (k : ℕ). x (e .before) + 4 ≤ k) (shifted s (c .before .before .if2 .left)) (room _ (x (e .before)) (c .before .if3 .left) (c .if4 .taken)) in
+    let h = room _ (x (e .before)) (c .before .if3 .left) (c .if4 .taken) in
+    let l : x (e .before) + 4 ≤ 2 ^ s = subst (λ (k : ℕ). x (e .before) + 4 ≤ k) (shifted s (c .before .before .if2 .left)) h in
     told-below _ _ (a .args .to) (a .args .t) s (x (e .before)) n d z M G E (sum (a .args .to) (a .args .t) (e .if1 .left)) l (upper (e .before))
 
--- src/bound.rt:22:1
 returns-5 : tie.Need-returns-5
 returns-5 c = search needs
 

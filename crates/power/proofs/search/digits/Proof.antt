@@ -3,11 +3,11 @@ use borrow.Author.Needs.{needs}
 use native.Mathlib.Omega.{arith}
 use Prim.Native.Nat.{ℕ, _+_, _-_, _*_, _%_, _^_, _≤_}
 use mathlib.Core.Path.{_≡_, sym, ap, _∙_, subst}
-use mathlib.Core.Bool.{true, not}
+use mathlib.Core.Bool.{not}
 use lib.Dec.{T}
 use Rattle.rounding.specs.Cut.{infinity, reached}
 use Rattle.power.specs.Parts.{cutAt}
-use Rattle.power.proofs.Law.{Step, step}
+use Rattle.power.proofs.Law.{holds, Step, step}
 use Rattle.power.proofs.search.digits.Statement.{statement}
 use Rattle.power.proofs.search.digits.Tie as tie
 
@@ -48,7 +48,8 @@ loop-again c =
     let r = c .before .reaches in
     let s = known (c .before .before) in
     let e : l .found + 2 ^ l .turns ≡ l .found + 1 * 2 ^ (l .turns - 1) % 2 ^ 64 + 2 ^ (l .turns - 1) = omega arith in
-    (omega (arith, l .inv .0), r .ensures .1 (c .if1 .taken), subst T (sym (sym (r .ensures .0) ∙ c .if1 .taken)) tt, subst (λ (z : ℕ). T (not (reached (cutAt (a .n) (a .y)) z))) e (l .inv .3))
+    let no = subst (λ (z : ℕ). T (not (reached (cutAt (a .n) (a .y)) z))) e (l .inv .3) in
+    (omega (arith, l .inv .0), r .ensures .1 (c .if1 .taken), holds (sym (r .ensures .0) ∙ c .if1 .taken), no)
 
 loop-less-2 : tie.Need-loop-less-2 Inv-loop μ-loop
 loop-less-2 c = omega arith
@@ -60,8 +61,8 @@ loop-again-2 c =
     let r = c .before .reaches in
     let s = known (c .before .before) in
     let e : l .found + 1 * 2 ^ (l .turns - 1) % 2 ^ 64 ≡ l .found + 2 ^ (l .turns - 1) = omega arith in
-    let no : not (reached (cutAt (a .n) (a .y)) (l .found + 1 * 2 ^ (l .turns - 1) % 2 ^ 64)) ≡ true = ap not (sym (r .ensures .0) ∙ c .if1 .left) in
-    (omega (arith, l .inv .0), l .inv .1, l .inv .2, subst (λ (z : ℕ). T (not (reached (cutAt (a .n) (a .y)) z))) e (subst T (sym no) tt))
+    let no = holds (ap not (sym (r .ensures .0) ∙ c .if1 .left)) in
+    (omega (arith, l .inv .0), l .inv .1, l .inv .2, subst (λ (z : ℕ). T (not (reached (cutAt (a .n) (a .y)) z))) e no)
 
 returns : tie.Need-returns Inv-loop μ-loop
 returns c =
