@@ -1,0 +1,27 @@
+// The two series' sums by short polynomials, one for each sixty-fourth of the range: enclosure's `value`, in code.
+mod euler_rows;
+mod odd_rows;
+mod row;
+
+use crate::euler_rows::euler_row;
+use crate::odd_rows::odd_row;
+use crate::row::horner;
+ghost use mathlib.Core.Path.{_≡_};
+ghost use Rattle.enclosure.specs.Pieces.{euler, odd};
+ghost use Rattle.pieces.specs.Row.{value-or-zero};
+
+const PIECE: u64 = 0x400_0000_0000_0000; // 2 ^ 58, a sixty-fourth
+
+// Euler's sum at x, in units of 2 ^ -63, where x is in units of 2 ^ -64.
+pub fn euler(x: u64) -> u64
+    ensures { λ r. ⌜ r ≡ value-or-zero euler x ⌝ }
+{
+    horner(x % PIECE * 4, euler_row(x / PIECE))
+}
+
+// The sum of T(s)/s at x = s², likewise.
+pub fn odd(x: u64) -> u64
+    ensures { λ r. ⌜ r ≡ value-or-zero odd x ⌝ }
+{
+    horner(x % PIECE * 4, odd_row(x / PIECE))
+}
