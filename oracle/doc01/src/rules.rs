@@ -1,60 +1,22 @@
 //! The rules for `atan`, `ln` and `ln_1p`: THIS FILE IS WHERE THEY STAND for the oracle. Document 01 lets the team fix
-//! one whole-number rule for each; until it is fixed for good, a change of rule is a change here and nowhere else, and
-//! `make-list` then rewrites the rows marked ` s`.
+//! one whole-number rule for each; a change of rule is a change here and nowhere else, and `make-list` then rewrites the
+//! rows marked ` s`.
 //!
-//! All is fixed point in u128. The two series are summed by Horner's rule over tables of floor(c_i·2^63), the argument
-//! at 2^64, each step rounded down.
+//! All is fixed point in u128, and every step rounds down. The two series are summed by short polynomials, one for each
+//! sixty-fourth of the range (`rows`).
+
+mod rows;
+
+use rows::{Row, EULER, ODD};
 
 /// floor(2^62·π/2) and floor(2^63·ln 2).
 const HALF_PI: u128 = 0x6487_ED51_10B4_611A;
 const LN_2: u128 = 0x58B9_0BFB_E8E7_BCD5;
 
-/// Never more terms than this.
-const TERMS: usize = 62;
-/// Terms for an argument in [i/32, (i+1)/32) of 2^64: the least K with ((i+1)/32)^K <= 2^-62; the last is for 1/2 itself.
-const BY_32: [usize; 17] = [13, 16, 19, 21, 24, 26, 29, 31, 34, 37, 41, 44, 48, 52, 57, 62, 62];
-
-static EULER: [u128; TERMS] = euler();
-static ODD: [u128; TERMS] = odd();
-
-/// The products of 2k/(2k+1), at 2^63. They are kept at 2^120, rounded down at each step, so that n steps lose less than
-/// n there; the assertion shows that the loss never reaches the digits that are kept.
-const fn euler() -> [u128; TERMS] {
-    let mut table = [0; TERMS];
-    let mut product = 1 << 120;
-    let mut n = 0;
-    while n < TERMS {
-        table[n] = product >> 57;
-        assert!(table[n] == (product + n as u128) >> 57);
-        n += 1;
-        product = product * (2 * n as u128) / (2 * n as u128 + 1);
-    }
-    table
-}
-
-/// 1/(2k+1), at 2^63.
-const fn odd() -> [u128; TERMS] {
-    let mut table = [0; TERMS];
-    let mut k = 0;
-    while k < TERMS {
-        table[k] = (1 << 63) / (2 * k as u128 + 1);
-        k += 1;
-    }
-    table
-}
-
-/// How many terms a sum in x/2^64 takes; 64 is the room for what x itself may be off.
-fn terms(x: u128) -> usize {
-    let v = x + 64;
-    if v >= 1 << 59 {
-        BY_32[(v >> 59) as usize]
-    } else {
-        62 / (v.leading_zeros() as usize - 64) + 1
-    }
-}
-
-fn horner(table: &[u128; TERMS], x: u128) -> u128 {
-    table[..terms(x)].iter().rev().fold(0, |h, c| c + (x * h >> 64))
+/// The sum at x/2^64, at 2^63: Horner's rule over the row of x's piece, in 4 times the distance from where the piece begins.
+fn value(rows: &[Row], x: u128) -> u128 {
+    let d = 4 * (x & ((1 << 58) - 1));
+    rows[(x >> 58) as usize].iter().rev().fold(0, |h, &c| u128::from(c) + (d * h >> 64))
 }
 
 /// The f64 nearest y·2^k, for a y of one word and a normal result: one rounding, then an exact scaling.
@@ -74,7 +36,7 @@ fn euler_sum(tau: u128, j: i32) -> u128 {
     let u = tau * tau >> (63 + 2 * j);
     let f = (u << 62) / ((1 << 61) + u);
     let p = tau * ((1 << 62) - f) >> 62;
-    p * horner(&EULER, 4 * f) >> 63
+    p * value(&EULER, 4 * f) >> 63
 }
 
 pub fn atan(t: f64) -> f64 {
@@ -100,7 +62,7 @@ pub fn atan(t: f64) -> f64 {
 /// T(s) for s = sg·2^-(62+j), at the scale of sg.
 fn odd_sum(sg: u128, j: i32) -> u128 {
     let w = (sg * sg).checked_shr((60 + 2 * j) as u32).unwrap_or(0);
-    sg * horner(&ODD, w) >> 63
+    sg * value(&ODD, w) >> 63
 }
 
 /// From -3/4 to 3/4; NaN elsewhere.

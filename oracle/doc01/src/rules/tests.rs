@@ -1,23 +1,6 @@
-//! The rules against their own definition (tables, numbers of terms, constants) and, roughly, against the C library.
+//! The rules at their special arguments and, roughly, against the C library; the tables have their own tests.
 
 use super::*;
-
-#[test]
-fn terms_are_the_least_that_do() {
-    for (i, &k) in BY_32.iter().enumerate().take(16) {
-        let ends = |n: usize| ((i as f64 + 1.0) / 32.0).powi(n as i32) <= 2.0f64.powi(-62);
-        assert!(ends(k) && !ends(k - 1), "{i}");
-    }
-    assert_eq!(terms(0), 2);
-    assert_eq!((terms((1 << 62) - 65), terms(1 << 62)), (31, 34));
-    assert_eq!(terms(1 << 63), 62);
-}
-
-#[test]
-fn tables_start_as_said() {
-    assert_eq!(EULER[..4], [1 << 63, (2 << 63) / 3, (8 << 63) / 15, (48 << 63) / 105]);
-    assert_eq!(ODD[..3], [1 << 63, (1 << 63) / 3, (1 << 63) / 5]);
-}
 
 #[test]
 fn specials() {
