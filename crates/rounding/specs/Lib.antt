@@ -3,3 +3,4 @@ pub mod Value
 pub mod Laws
 pub mod Fraction
 pub mod Jam
+pub mod Sign

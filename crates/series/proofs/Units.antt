@@ -1,0 +1,152 @@
+-- A word Y in units of 2 ^ -k, rounded once: the pattern of Y rounded, with k taken from its exponent's field. Assumes nothing.
+use Prim.Native.Nat.{ℕ, zero, suc, _+_, _-_, _*_, _/_, _%_, _^_, _≤_, _<_, compare, Ordering}
+use mathlib.Core.Path.{_≡_, refl, sym, ap, _∙_, subst}
+use mathlib.Core.Bool.{Bool, false, not}
+use mathlib.Core.Logic.{inl, inr}
+use native.Mathlib.Nat.{le-trans, le-of-eq, lt-of-lt-of-le, mul-le-mul-right, mul-lt-mul-of-pos-right, le-div-iff-mul-le, div-lt-iff-lt-mul, mod-lt, div-add-mod'}
+use native.Mathlib.Omega.{arith}
+use lib.IntN.{pos}
+use lib.Dec.{T, eqb}
+use lib.Pow.{pow-pos, pow-add}
+use lib.Ieee.{Float, binary64, size, nearest, round, ofInt, neg, isNan, ofBits, toBits}
+use lib.Ieee.Digits.{size-lt, size-reaches, size-le}
+use lib.Ieee.Fits.{nearest-le}
+use lib.Ieee.Nearest.{nearest-ge}
+use lib.Ieee.Bits.{nanBits-is}
+use Rattle.algebra.specs.Order.{lt-or-le, Compared, compared}
+use Rattle.rounding.specs.Cut.{infinity}
+use Rattle.rounding.specs.Fraction.{pick, rounded-fraction}
+use Rattle.rounding.specs.Sign.{round-neg, bits-neg}
+use Rattle.binary64.specs.Tests.{bits-number}
+use Rattle.binary64.specs.Meaning.{bits-back}
+
+module _ (Y : ℕ) (range : (0 < Y) × (Y < 2 ^ 64)) where
+  size-some : 1 ≤ size Y
+  size-some = elim (lt-or-le 0 (size Y)) [
+    | inl l ↦ l
+    | inr l ↦
+        let z : size Y ≡ 0 = omega arith in
+        let u : Y < 2 ^ 0 = subst (λ (k : ℕ). Y < 2 ^ k) z (size-lt Y) in
+        absurd (omega (arith, range .0))
+  ]
+
+  size-most : size Y ≤ 64
+  size-most = size-le Y 64 (range .1)
+
+  -- the field of Y rounded, less one; the digits that are kept, and what is left of them
+  abbrev field : ℕ
+  field = size Y + 1021
+
+  abbrev number : ℕ
+  number = Y * 2 ^ 1074
+
+  abbrev kept : ℕ
+  kept = number / 2 ^ field
+
+  abbrev rest : ℕ
+  rest = number % 2 ^ field
+
+  abbrev half : Ordering
+  half = compare (rest * 2) (2 ^ field)
+
+  abbrev digits : ℕ
+  digits = nearest kept half
+
+  scale : (i j : ℕ) → i + field ≡ j + 1074 → 2 ^ i * 2 ^ field ≡ 2 ^ j * 2 ^ 1074
+  scale i j e = sym (pow-add 2 i field) ∙ ap (λ (k : ℕ). 2 ^ k) e ∙ pow-add 2 j 1074
+
+  kept-low : 2 ^ 52 ≤ kept
+  kept-low =
+      let z = size Y in
+      let s : 1 ≤ z = size-some in
+      let e : 52 + (z + 1021) ≡ z - 1 + 1074 = omega arith in
+      le-div-iff-mul-le (pow-pos field) .1
+      (le-trans (le-of-eq (scale 52 (z - 1) e)) (mul-le-mul-right (2 ^ 1074) (size-reaches Y (z - 1) (omega arith))))
+
+  kept-high : kept < 2 ^ 53
+  kept-high =
+      let z = size Y in
+      let e : z + 1074 ≡ 53 + (z + 1021) = omega arith in
+      div-lt-iff-lt-mul (pow-pos field) .1
+      (lt-of-lt-of-le (mul-lt-mul-of-pos-right (size-lt Y) (pow-pos 1074)) (le-of-eq (sym (scale 53 z (sym e)))))
+
+  digits-low : 2 ^ 52 ≤ digits
+  digits-low = le-trans kept-low (nearest-ge kept half)
+
+  digits-high : digits ≤ 2 ^ 53
+  digits-high = le-trans (nearest-le kept half) kept-high
+
+  -- Y in units of 2 ^ -k has k less in the field
+  at : (k d : ℕ) → d + k ≡ field → round binary64 false Y (2 ^ k) ≡ ofBits binary64 (d * 2 ^ 52 + digits)
+  at k d e =
+      let f : k + d ≡ field = omega arith in
+      let joined : 2 ^ k * 2 ^ d ≡ 2 ^ field = sym (pow-add 2 k d) ∙ ap (λ (n : ℕ). 2 ^ n) f in
+      let small : d ≤ 1085 = omega (arith, size-most) in
+      sym (rounded-fraction Y (2 ^ k) (pow-pos k))
+      ∙ pick Y (2 ^ k) d kept rest (pow-pos k) (inr kept-low) kept-high
+      (ap (λ (n : ℕ). kept * n + rest) joined ∙ div-add-mod' number (2 ^ field))
+      (subst (λ (n : ℕ). rest < n) (sym joined) (mod-lt number (pow-pos field)))
+      half (subst (λ (n : ℕ). Compared half (rest * 2) n) (sym joined) (compared (rest * 2) (2 ^ field)))
+      (below-infinity d kept small kept-high)
+    where
+      below-infinity : (d w : ℕ) → d ≤ 1085 → w < 2 ^ 53 → d * 2 ^ 52 + w < infinity
+      below-infinity d w s h = omega arith
+
+  -- the pattern of Y itself
+  abbrev pub pattern : ℕ
+  pattern = field * 2 ^ 52 + digits
+
+  pub pattern-low : 1023 * 2 ^ 52 ≤ pattern
+  pattern-low = sum-low (size Y) digits size-some digits-low
+    where
+      sum-low : (z n : ℕ) → 1 ≤ z → 2 ^ 52 ≤ n → 1023 * 2 ^ 52 ≤ (z + 1021) * 2 ^ 52 + n
+      sum-low z n h l = omega arith
+
+  pub pattern-high : pattern ≤ 1087 * 2 ^ 52
+  pattern-high = sum-high (size Y) digits size-most digits-high
+    where
+      sum-high : (z n : ℕ) → z ≤ 64 → n ≤ 2 ^ 53 → (z + 1021) * 2 ^ 52 + n ≤ 1087 * 2 ^ 52
+      sum-high z n h l = omega arith
+
+  whole-is : ofInt binary64 (pos Y) ≡ ofBits binary64 pattern
+  unfolding ofInt
+  whole-is = at 0 field (plus-none field)
+    where
+      plus-none : (n : ℕ) → n + 0 ≡ n
+      plus-none n = omega arith
+
+  pub whole-bits : toBits binary64 (ofInt binary64 (pos Y)) ≡ pattern
+  whole-bits = ap (λ (x : Float). toBits binary64 x) whole-is ∙ back pattern pattern-high
+    where
+      back : (n : ℕ) → n ≤ 1087 * 2 ^ 52 → toBits binary64 (ofBits binary64 n) ≡ n
+      back n h = bits-back n (omega arith) (omega arith)
+
+  pub whole-number : T (not (isNan (ofInt binary64 (pos Y))))
+  whole-number =
+      subst (λ (x : Float). T (not (isNan x))) (sym whole-is)
+      (subst (λ (t : Bool). T (not t)) (nanBits-is binary64 pattern) (bits-number pattern (small pattern pattern-high)))
+    where
+      small : (n : ℕ) → n ≤ 1087 * 2 ^ 52 → n % 2 ^ 63 ≤ infinity
+      small n h = omega arith
+
+  lower : (k : ℕ) → k ≤ 1000 → ofBits binary64 (pattern - k * 2 ^ 52) ≡ round binary64 false Y (2 ^ k)
+  lower k h =
+      let d = field - k in
+      let s : 1 ≤ size Y = size-some in
+      let e : d + k ≡ field = omega arith in
+      ap (λ (n : ℕ). ofBits binary64 n) (less (size Y) digits k h s) ∙ sym (at k d e)
+    where
+      less : (z n k : ℕ) → k ≤ 1000 → 1 ≤ z → (z + 1021) * 2 ^ 52 + n - k * 2 ^ 52 ≡ (z + 1021 - k) * 2 ^ 52 + n
+      less z n k h s = omega arith
+
+  -- THE LAW, with the sign
+  pub scaled-is : (k s : ℕ) → k ≤ 1000 → s ≤ 1 → ofBits binary64 (pattern - k * 2 ^ 52 + s * 2 ^ 63) ≡ round binary64 (eqb s 1) Y (2 ^ k)
+  scaled-is k zero h l =
+      let e : pattern - k * 2 ^ 52 + 0 * 2 ^ 63 ≡ pattern - k * 2 ^ 52 = omega arith in
+      ap (λ (n : ℕ). ofBits binary64 n) e ∙ lower k h
+  scaled-is k (suc zero) h l =
+      bits-neg (pattern - k * 2 ^ 52) (small pattern k pattern-high) ∙ ap neg (lower k h) ∙ sym (round-neg Y (2 ^ k))
+    where
+      small : (n k : ℕ) → n ≤ 1087 * 2 ^ 52 → n - k * 2 ^ 52 < 2 ^ 63
+      small n k h = omega arith
+  scaled-is k (suc (suc s)) h l = absurd (omega arith)

@@ -1,0 +1,3 @@
+// atan, ln and ln_1p of an f64.
+mod quotient;
+mod scaled;
