@@ -1,5 +1,6 @@
 pub mod Pattern
-pub mod Quotient
 pub mod Atan
 pub mod Ln
 pub mod Ln1p
+pub mod Quotient
+pub mod Ranges

@@ -14,4 +14,4 @@ abbrev pub field : ℕ → ℕ
 field a = a / 2 ^ 52
 
 abbrev pub digits : ℕ → ℕ
-digits a = 2 ^ 52 + a % 2 ^ 52
+digits a = a % 2 ^ 52 + 2 ^ 52

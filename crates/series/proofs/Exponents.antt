@@ -1,0 +1,98 @@
+-- ln's exponent e, its binary digits and its leading zeros; and the rule's sum, as the code forms it. Assumes nothing.
+use Prim.Native.Nat.{ℕ, suc, _+_, _-_, _*_, _/_, _%_, _^_, _≤_, _<_}
+use mathlib.Core.Path.{_≡_, sym, ap, _∙_, subst}
+use mathlib.Core.Logic.{inl, inr}
+use mathlib.Core.List.{[], _∷_}
+use native.Mathlib.Nat.{le-trans, le-antisymm, lt-of-lt-of-le, mod-eq-of-lt, mul-lt-mul-of-pos-right, pow-succ'}
+use native.Mathlib.Omega.{arith}
+use lib.Count.{leadingZeros, leading-length}
+use lib.Pow.{pow-pos, pow-add, pow-mono}
+use lib.Ieee.{size}
+use lib.Ieee.Digits.{size-lt, size-reaches, size-le}
+use lib.Ieee.Nearest.{div-same}
+use Rattle.algebra.specs.Ring.{con, _:+_, _:*_, _≈_, _⊩_, _times_≼_, ring}
+use Rattle.algebra.specs.Order.{lt-or-le}
+use Rattle.enclosure.specs.Rules.{ln-two, T-answer, ln-seed, ln-answer}
+use Rattle.enclosure.specs.Sizes.{ln-size, ln-fits}
+use Rattle.series.specs.Ranges.{Exponent}
+
+-- a number of `length` digits
+size-is : (e b : ℕ) → e < 2 ^ b → 2 ^ b ≤ 2 * e + 1 → size e ≡ b
+size-is e b high low = le-antisymm (size-le e b high) (elim (lt-or-le (size e) b) [
+  | inl l ↦
+      let m : 2 ^ suc (size e) ≤ 2 ^ b = pow-mono {i = suc (size e)} {j = b} l in
+      absurd (omega (arith, size-lt e, pow-succ' 2 (size e)))
+  | inr l ↦ l
+])
+
+pub zeros : (e : ℕ) → e < 2 ^ 64 → leadingZeros 64 e + size e ≡ 64
+zeros e h =
+    let found = leading-length 64 e h in
+    ap (λ (b : ℕ). leadingZeros 64 e + b) (size-is e (found .0) (found .2) (found .3)) ∙ found .1
+
+module _ (e m : ℕ) (range : Exponent e m) where
+  abbrev z : ℕ
+  z = leadingZeros 64 e
+
+  abbrev b : ℕ
+  b = size e
+
+  sum-zeros : z + b ≡ 64
+  sum-zeros = zeros e (omega (arith, range .most))
+
+  b-most : b ≤ 11
+  b-most = size-le e 11 (range .most)
+
+  b-least : 1 ≤ b
+  b-least = elim (lt-or-le 0 b) [
+    | inl l ↦ l
+    | inr l ↦
+        let n : b ≡ 0 = omega arith in
+        let h : e < 2 ^ 0 = subst (λ (k : ℕ). e < 2 ^ k) n (size-lt e) in
+        absurd (omega (arith, range .least))
+  ]
+
+  pub zeros-least : 53 ≤ z
+  zeros-least = omega (arith, sum-zeros, b-most)
+
+  pub zeros-most : z ≤ 63
+  zeros-most = omega (arith, sum-zeros, b-least)
+
+  pub scale-is : z - 1 ≡ 63 - b
+  scale-is = omega (arith, sum-zeros, b-least)
+
+  powers : 2 ^ z * 2 ^ b ≡ 2 ^ 64
+  powers = sym (pow-add 2 z b) ∙ ap (λ (k : ℕ). 2 ^ k) sum-zeros
+
+  -- e at the top of a word
+  top-fits : e * 2 ^ z < 2 ^ 64
+  top-fits = subst (λ (n : ℕ). e * 2 ^ z < n) (mul-comm-powers ∙ powers) (mul-lt-mul-of-pos-right (size-lt e) (pow-pos z))
+    where
+      mul-comm-powers : 2 ^ b * 2 ^ z ≡ 2 ^ z * 2 ^ b
+      mul-comm-powers = omega arith
+
+  cross : (e P Q L W : ℕ) → P * Q ≡ W → e * P * L * Q ≡ e * L * W
+  cross = ring 5 (λ e P Q L W. (e :* L times P :* Q ≼ W) ∷ [] ⊩ e :* P :* L :* Q ≈ e :* L :* W) tt
+
+  pub first-is : e * 2 ^ z % 2 ^ 64 * ln-two / 2 ^ 64 ≡ e * ln-two / 2 ^ b
+  first-is =
+      ap (λ (n : ℕ). n * ln-two / 2 ^ 64) (mod-eq-of-lt top-fits)
+      ∙ div-same (e * 2 ^ z * ln-two) (2 ^ 64) (e * ln-two) (2 ^ b) (pow-pos 64) (pow-pos b) (cross e (2 ^ z) (2 ^ b) ln-two (2 ^ 64) powers)
+
+  pub second-is : (t : ℕ) → t / 2 ^ (63 - z) ≡ 2 * t / 2 ^ b
+  second-is t =
+      let k = 63 - z in
+      let f : b ≡ suc k = omega (arith, sum-zeros, b-least) in
+      let twice : 2 ^ b ≡ 2 ^ k * 2 = ap (λ (n : ℕ). 2 ^ n) f ∙ pow-succ' 2 k ∙ omega arith in
+      div-same t (2 ^ k) (2 * t) (2 ^ b) (pow-pos k) (pow-pos b) (rw twice (omega arith))
+
+  pub answer-fits : ln-answer b e m < 2 ^ 64
+  answer-fits = ln-fits m b e (range .low) (range .high) (range .least) (size-lt e)
+
+  pub answer-size : 2 ^ 61 ≤ ln-answer b e m
+  answer-size =
+      let k = b - 1 in
+      let l : 1 ≤ b = b-least in
+      let f : b ≡ suc k = omega arith in
+      let reach : 2 ^ k ≤ e = size-reaches e k (omega arith) in
+      ln-size b e m (rw f (rw (pow-succ' 2 k) (omega arith)))
