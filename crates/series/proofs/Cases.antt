@@ -6,8 +6,11 @@ use native.Mathlib.Nat.{le-trans}
 use native.Mathlib.Omega.{arith}
 use borrow.Author.Tests.{lt-ltb, le-ltb, le-leb, lt-leb, eq-eqb, ne-eqb}
 use lib.Pow.{pow-mono}
-use lib.Ieee.{Float, nan, inf, binary64, toBits}
+use lib.Dec.{T}
+use lib.Ieee.{Float, nan, inf, binary64, fits, ofBits, toBits}
+use lib.Ieee.Bits.{ofBits-toBits}
 use Rattle.rounding.specs.Cut.{infinity}
+use Rattle.rounding.specs.Value.{infinity-is}
 use Rattle.series.specs.Pattern.{negative, size-bits, field, digits}
 use Rattle.series.specs.Atan as arc
 use Rattle.series.specs.Ln as logarithm
@@ -42,3 +45,30 @@ ln-1p-range a h l = record {
   high = omega arith;
   small = three-quarters (1022 - field a) (digits a) (omega arith) (λ e. omega arith);
 }
+
+-- ---- ln
+module _ (x : Float) (b : ℕ) (is : b ≡ toBits binary64 x) where
+  pub ln-below : b < logarithm.two → nan ≡ logarithm.ln x
+  unfolding logarithm.ln
+  ln-below h = rw (← is, lt-ltb b logarithm.two h)
+
+  pub ln-from : logarithm.two ≤ b → b < infinity → logarithm.ln-from-two (field b - 1023) (digits b) ≡ logarithm.ln x
+  unfolding logarithm.ln
+  ln-from h l = rw (← is, le-ltb b logarithm.two h, lt-ltb b infinity l)
+
+  pub ln-infinity : T (fits binary64 x) → b ≡ infinity → x ≡ logarithm.ln x
+  unfolding logarithm.ln
+  ln-infinity f e =
+      let i : x ≡ inf false = sym (ofBits-toBits binary64 x f) ∙ ap (λ (n : ℕ). ofBits binary64 n) (sym is ∙ e) ∙ infinity-is in
+      let h : logarithm.two ≤ b = omega arith in
+      let l : infinity ≤ b = omega arith in
+      i ∙ rw (← is, le-ltb b logarithm.two h, le-ltb b infinity l, eq-eqb b infinity e)
+
+  pub ln-past : infinity ≤ b → (b ≡ infinity → ⊥) → nan ≡ logarithm.ln x
+  unfolding logarithm.ln
+  ln-past l d =
+      let h : logarithm.two ≤ b = omega arith in
+      rw (← is, le-ltb b logarithm.two h, le-ltb b infinity l, ne-eqb b infinity d)
+
+pub ln-range : (b : ℕ) → logarithm.two ≤ b → b < infinity → Exponent (field b - 1023) (digits b)
+ln-range b h l = record { least = omega arith; most = omega arith; low = omega arith; high = omega arith }

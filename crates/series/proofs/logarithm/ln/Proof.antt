@@ -1,51 +1,43 @@
+-- `series::logarithm::ln` meets its contract, case by case. Assumes nothing.
+use mathlib.Core.Path.{sym, _∙_, subst}
+use native.Mathlib.Omega.{arith}
 use borrow.Author.Needs.{needs}
+use lib.Dec.{T}
+use lib.Ieee.{div, ofBits}
+use Rattle.series.proofs.Cases.{ln-below, ln-from, ln-infinity, ln-past, ln-range}
 use Rattle.series.proofs.logarithm.ln.Statement.{statement}
 use Rattle.series.proofs.logarithm.ln.Tie as tie
-use Rattle.series.proofs.logarithm.ln.Reads as reads
-use Rattle.series.proofs.logarithm.ln.Lts as lts
-use Rattle.binary64.proofs.split.Reads as split-reads
-use Rattle.series.proofs.logarithm.from_two.Reads as from-two-reads
 
--- src/logarithm.rt:57:9
-split-requires : tie.Need-split-requires
-split-requires c κs = search needs
-
--- src/logarithm.rt:59:9
 returns : tie.Need-returns
-returns c = ?
+unfolding ofBits div
+returns c = let a = c .before in ln-below (a .before .args .x) (a .split .result) (a .split .ensures) (c .if1 .taken)
 
--- src/logarithm.rt:62:25
-sub-from-two : tie.Need-sub-from-two
-sub-from-two c = search needs
-
--- src/logarithm.rt:62:41
-add-from-two : tie.Need-add-from-two
-add-from-two c = search needs
-
--- src/logarithm.rt:62:9
 from-two-requires : tie.Need-from-two-requires
-from-two-requires c κs = search needs
+from-two-requires c κs = ln-range _ (omega arith) (omega arith)
 
--- src/logarithm.rt:62:9
 returns-2 : tie.Need-returns-2
-returns-2 c = ?
+returns-2 c =
+    let a = c .before .before .before in
+    c .from-two .ensures ∙ ln-from (a .before .args .x) (a .split .result) (a .split .ensures) (omega arith) (omega arith)
 
--- src/logarithm.rt:65:9
 returns-3 : tie.Need-returns-3
-returns-3 c = ?
+returns-3 c =
+    let a = c .before .before .before in
+    let held = subst T (sym (a .before .good .0 .1)) tt in
+    ln-infinity (a .before .args .x) (a .split .result) (a .split .ensures) held (c .if3 .taken)
 
--- src/logarithm.rt:54:1
 returns-4 : tie.Need-returns-4
-returns-4 c = ?
+unfolding ofBits div
+returns-4 c = let a = c .before .before .before in ln-past (a .before .args .x) (a .split .result) (a .split .ensures) (omega arith) (c .if3 .left)
 
 pub ln-spec : {M : Type 1} → statement M
 ln-spec =
     tie.close
     (tie.spec
-    split-requires
+    (λ c κs. search needs)
     returns
-    sub-from-two
-    add-from-two
+    (λ c. search needs)
+    (λ c. search needs)
     from-two-requires
     returns-2
     returns-3
