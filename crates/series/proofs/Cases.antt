@@ -1,8 +1,7 @@
 -- Which case of a definition a pattern falls under, b being x's. Assumes nothing.
-use Prim.Native.Nat.{ℕ, zero, suc, _+_, _-_, _*_, _/_, _%_, _^_, _≤_, _<_}
+use Prim.Native.Nat.{ℕ, zero, suc, _+_, _-_, _*_, _^_, _≤_, _<_}
 use mathlib.Core.Path.{_≡_, sym, ap, _∙_}
 use mathlib.Core.Bool.{false}
-use native.Mathlib.Nat.{le-trans}
 use native.Mathlib.Omega.{arith}
 use borrow.Author.Tests.{lt-ltb, le-ltb, le-leb, lt-leb, eq-eqb, ne-eqb}
 use lib.Pow.{pow-mono}
@@ -17,11 +16,11 @@ use Rattle.series.specs.Ln as logarithm
 use Rattle.series.specs.Ln1p as one-plus
 use Rattle.series.specs.Ranges.{Exponent, Small}
 
--- ---- ln_1p
 module _ (x : Float) (b : ℕ) (is : b ≡ toBits binary64 x) where
   abbrev a : ℕ
   a = size-bits b
 
+  -- ---- ln_1p
   pub ln-1p-tiny : a < one-plus.tiny → x ≡ one-plus.ln-1p x
   unfolding one-plus.ln-1p
   ln-1p-tiny h = rw (← is, lt-ltb a one-plus.tiny h)
@@ -34,20 +33,7 @@ module _ (x : Float) (b : ℕ) (is : b ≡ toBits binary64 x) where
   unfolding one-plus.ln-1p
   ln-1p-none h l = rw (← is, le-ltb a one-plus.tiny h, lt-leb a one-plus.last l)
 
-three-quarters : (j m : ℕ) → m < 2 ^ 53 → (j ≡ 0 → m ≤ 3 * 2 ^ 51) → 4 * m ≤ 3 * 2 ^ (53 + j)
-three-quarters zero m h l = let k = l (omega arith) in omega arith
-three-quarters (suc j) m h l = omega (arith, pow-mono {i = 54} {j = 53 + suc j} (omega arith))
-
-pub ln-1p-range : (a : ℕ) → one-plus.tiny ≤ a → a ≤ one-plus.last → Small (1022 - field a) (digits a)
-ln-1p-range a h l = record {
-  most = omega arith;
-  low = omega arith;
-  high = omega arith;
-  small = three-quarters (1022 - field a) (digits a) (omega arith) (λ e. omega arith);
-}
-
--- ---- ln
-module _ (x : Float) (b : ℕ) (is : b ≡ toBits binary64 x) where
+  -- ---- ln
   pub ln-below : b < logarithm.two → nan ≡ logarithm.ln x
   unfolding logarithm.ln
   ln-below h = rw (← is, lt-ltb b logarithm.two h)
@@ -69,6 +55,58 @@ module _ (x : Float) (b : ℕ) (is : b ≡ toBits binary64 x) where
   ln-past l d =
       let h : logarithm.two ≤ b = omega arith in
       rw (← is, le-ltb b logarithm.two h, le-ltb b infinity l, ne-eqb b infinity d)
+
+  -- ---- atan
+  pub atan-tiny : a < arc.tiny → x ≡ arc.atan x
+  unfolding arc.atan
+  atan-tiny h = rw (← is, lt-ltb a arc.tiny h)
+
+  pub atan-below-one : arc.tiny ≤ a → a < arc.one → arc.below-one (negative b) a ≡ arc.atan x
+  unfolding arc.atan
+  atan-below-one h l = rw (← is, le-ltb a arc.tiny h, lt-ltb a arc.one l)
+
+  pub atan-at-one : a ≡ arc.one → arc.at-one (negative b) ≡ arc.atan x
+  unfolding arc.atan
+  atan-at-one e =
+      let h : arc.tiny ≤ a = omega arith in
+      let l : arc.one ≤ a = omega arith in
+      rw (← is, le-ltb a arc.tiny h, le-ltb a arc.one l, eq-eqb a arc.one e)
+
+  pub atan-above-one : arc.one ≤ a → (a ≡ arc.one → ⊥) → a < arc.far → arc.above-one (negative b) a ≡ arc.atan x
+  unfolding arc.atan
+  atan-above-one l d k =
+      let h : arc.tiny ≤ a = omega arith in
+      rw (← is, le-ltb a arc.tiny h, le-ltb a arc.one l, ne-eqb a arc.one d, lt-ltb a arc.far k)
+
+  pub atan-far : arc.far ≤ a → a ≤ infinity → arc.at-infinity (negative b) ≡ arc.atan x
+  unfolding arc.atan
+  atan-far k i =
+      let h : arc.tiny ≤ a = omega arith in
+      let l : arc.one ≤ a = omega arith in
+      let d : a ≡ arc.one → ⊥ = λ e. omega arith in
+      rw (← is, le-ltb a arc.tiny h, le-ltb a arc.one l, ne-eqb a arc.one d, le-ltb a arc.far k, le-leb a infinity i)
+
+  pub atan-none : infinity < a → nan ≡ arc.atan x
+  unfolding arc.atan
+  atan-none i =
+      let h : arc.tiny ≤ a = omega arith in
+      let l : arc.one ≤ a = omega arith in
+      let d : a ≡ arc.one → ⊥ = λ e. omega arith in
+      let k : arc.far ≤ a = omega arith in
+      rw (← is, le-ltb a arc.tiny h, le-ltb a arc.one l, ne-eqb a arc.one d, le-ltb a arc.far k, lt-leb a infinity i)
+
+-- ---- the ranges
+three-quarters : (j m : ℕ) → m < 2 ^ 53 → (j ≡ 0 → m ≤ 3 * 2 ^ 51) → 4 * m ≤ 3 * 2 ^ (53 + j)
+three-quarters zero m h l = let k = l (omega arith) in omega arith
+three-quarters (suc j) m h l = omega (arith, pow-mono {i = 54} {j = 53 + suc j} (omega arith))
+
+pub ln-1p-range : (a : ℕ) → one-plus.tiny ≤ a → a ≤ one-plus.last → Small (1022 - field a) (digits a)
+ln-1p-range a h l = record {
+  most = omega arith;
+  low = omega arith;
+  high = omega arith;
+  small = three-quarters (1022 - field a) (digits a) (omega arith) (λ e. omega arith);
+}
 
 pub ln-range : (b : ℕ) → logarithm.two ≤ b → b < infinity → Exponent (field b - 1023) (digits b)
 ln-range b h l = record { least = omega arith; most = omega arith; low = omega arith; high = omega arith }

@@ -2,10 +2,10 @@
 use Prim.Native.Nat.{ℕ, _+_, _-_, _*_, _/_, _%_, _^_, _≤_, _<_}
 use mathlib.Core.Path.{_≡_, sym, ap, _∙_}
 use mathlib.Core.List.{[], _∷_}
-use native.Mathlib.Nat.{div-lt-iff-lt-mul, mod-lt, mul-le-mul, div-add-mod', le-of-mul-le-mul-right, mul-le-mul-right}
+use native.Mathlib.Nat.{div-lt-iff-lt-mul, mod-lt, mul-le-mul, div-add-mod', le-of-mul-le-mul-right}
 use native.Mathlib.Omega.{arith}
 use lib.Arith.{digits-div}
-use Rattle.algebra.specs.Ring.{con, _:+_, _:*_, _≈_, _⊩_, _times_≼_, Law, by-ring, ring}
+use Rattle.algebra.specs.Ring.{con, _:+_, _:*_, _≈_, _⊩_, _times_≼_, ring}
 use Rattle.series.specs.Quotient.{Divided, Nearer}
 
 -- (u is the upper part and one more, g what was put on top of d)

@@ -3,16 +3,16 @@ use Prim.Native.Nat.{ℕ, suc, _+_, _-_, _*_, _/_, _%_, _^_, _≤_, _<_}
 use mathlib.Core.Path.{_≡_, sym, ap, _∙_, subst}
 use mathlib.Core.Logic.{inl, inr}
 use mathlib.Core.List.{[], _∷_}
-use native.Mathlib.Nat.{le-trans, le-antisymm, lt-of-lt-of-le, mod-eq-of-lt, mul-lt-mul-of-pos-right, pow-succ'}
+use native.Mathlib.Nat.{le-antisymm, mod-eq-of-lt, mul-lt-mul-of-pos-right, pow-succ'}
 use native.Mathlib.Omega.{arith}
 use lib.Count.{leadingZeros, leading-length}
 use lib.Pow.{pow-pos, pow-add, pow-mono}
 use lib.Ieee.{size}
 use lib.Ieee.Digits.{size-lt, size-reaches, size-le}
 use lib.Ieee.Nearest.{div-same}
-use Rattle.algebra.specs.Ring.{con, _:+_, _:*_, _≈_, _⊩_, _times_≼_, ring}
+use Rattle.algebra.specs.Ring.{_:*_, _≈_, _⊩_, _times_≼_, ring}
 use Rattle.algebra.specs.Order.{lt-or-le}
-use Rattle.enclosure.specs.Rules.{ln-two, T-answer, ln-seed, ln-answer}
+use Rattle.enclosure.specs.Rules.{ln-two, ln-answer}
 use Rattle.enclosure.specs.Sizes.{ln-size, ln-fits}
 use Rattle.series.specs.Ranges.{Exponent}
 

@@ -1,12 +1,12 @@
 -- Products of which the upper word counts: factors scaled so that it is the quotient a rule asks for. Assumes nothing.
 use Prim.Native.Nat.{ℕ, _+_, _-_, _*_, _/_, _^_, _≤_, _<_}
 use mathlib.Core.Path.{_≡_, sym, ap, _∙_}
-use mathlib.Core.List.{[], _∷_}
-use native.Mathlib.Nat.{div-div-eq-div-mul, div-eq-of-lt, lt-of-lt-of-le, mul-pos, mul-le-mul}
+use mathlib.Core.List.{[]}
+use native.Mathlib.Nat.{div-div-eq-div-mul, div-eq-of-lt, div-le-of-le-mul, le-trans, lt-of-lt-of-le, mul-le-mul, mul-le-mul-right}
 use native.Mathlib.Omega.{arith}
 use lib.Pow.{pow-pos, pow-add, pow-mono}
 use lib.Ieee.Nearest.{div-same}
-use Rattle.algebra.specs.Ring.{con, _:+_, _:*_, _≈_, _⊩_, _times_≼_, ring}
+use Rattle.algebra.specs.Ring.{con, _:*_, _≈_, ring}
 use Rattle.enclosure.specs.Rules.{square, front, seed-square}
 
 -- ---- a product with one factor doubled
@@ -22,6 +22,11 @@ shifted n b k = div-div-eq-div-mul n (2 ^ b) (2 ^ k) ∙ ap (λ (d : ℕ). n / d
 
 pub square-is : (j tau : ℕ) → 2 * tau * tau / 2 ^ 64 / 2 ^ (2 * j) ≡ square j tau
 square-is j tau = ap (λ (n : ℕ). n / 2 ^ (2 * j)) (doubled tau tau) ∙ shifted (tau * tau) 63 (2 * j)
+
+pub square-small : (j tau : ℕ) → tau ≤ 2 ^ 62 → square j tau ≤ 2 ^ 61
+square-small j tau h =
+    let k : 2 ^ 63 ≤ 2 ^ (63 + 2 * j) = pow-mono {i = 63} {j = 63 + 2 * j} (omega arith) in
+    div-le-of-le-mul (2 ^ (63 + 2 * j)) (le-trans (mul-le-mul h h) (mul-le-mul-right (2 ^ 61) k))
 
 pub seed-square-is : (j sg : ℕ) → 4 * sg * (4 * sg) / 2 ^ 64 / 2 ^ (2 * j) ≡ seed-square j sg
 seed-square-is j sg =

@@ -1,21 +1,21 @@
 -- The seeds of ln_1p and ln, as the code divides, and what `t_sum` asks of them. Assumes nothing.
 use Prim.Native.Nat.{ℕ, _+_, _-_, _*_, _/_, _^_, _≤_, _<_}
-use mathlib.Core.Path.{_≡_, sym, ap, _∙_}
+use mathlib.Core.Path.{_≡_, ap, _∙_}
 use mathlib.Core.Bool.{Bool, true, false, cond}
-use mathlib.Core.List.{[], _∷_}
+use mathlib.Core.List.{[]}
 use native.Mathlib.Nat.{le-trans, lt-of-lt-of-le, div-le-self, div-lt-iff-lt-mul}
 use native.Mathlib.Omega.{arith}
-use lib.Pow.{pow-pos, pow-mono}
+use lib.Pow.{pow-mono}
 use lib.Ieee.Nearest.{div-same}
-use Rattle.algebra.specs.Ring.{con, _:+_, _:*_, _≈_, _⊩_, _times_≼_, ring}
+use Rattle.algebra.specs.Ring.{con, _:*_, _≈_, ring}
 use Rattle.enclosure.specs.Quotient.{Quotient, units}
-use Rattle.enclosure.specs.Enclosure.{gain, loss, ln-argument}
+use Rattle.enclosure.specs.Enclosure.{gain, loss}
 use Rattle.enclosure.specs.Rules.{T-answer, part, gain-seed, loss-seed, ln-seed}
 use Rattle.enclosure.specs.Logarithm.{Seed}
 use Rattle.enclosure.specs.Seeds.{gain-seeds, loss-seeds, ln-seeds}
 use Rattle.enclosure.specs.Sizes.{seed-inside, T-size, gain-size, loss-size}
 use Rattle.series.specs.Ln1p.{seed}
-use Rattle.series.specs.Ranges.{Seeded, Exponent, Small}
+use Rattle.series.specs.Ranges.{Seeded, Small}
 
 pub proper : (j m : ℕ) → m < 2 ^ 53 → m < 2 ^ (53 + j)
 proper j m h = lt-of-lt-of-le h (pow-mono {i = 53} {j = 53 + j} (omega arith))

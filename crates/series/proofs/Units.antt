@@ -1,6 +1,6 @@
 -- A word Y in units of 2 ^ -k, rounded once: the pattern of Y rounded, with k taken from its exponent's field. Assumes nothing.
 use Prim.Native.Nat.{ℕ, zero, suc, _+_, _-_, _*_, _/_, _%_, _^_, _≤_, _<_, compare, Ordering}
-use mathlib.Core.Path.{_≡_, refl, sym, ap, _∙_, subst}
+use mathlib.Core.Path.{_≡_, sym, ap, _∙_, subst}
 use mathlib.Core.Bool.{Bool, false, not}
 use mathlib.Core.Logic.{inl, inr}
 use native.Mathlib.Nat.{le-trans, le-of-eq, lt-of-lt-of-le, mul-le-mul-right, mul-lt-mul-of-pos-right, le-div-iff-mul-le, div-lt-iff-lt-mul, mod-lt, div-add-mod'}
@@ -19,6 +19,15 @@ use Rattle.rounding.specs.Fraction.{pick, rounded-fraction}
 use Rattle.rounding.specs.Sign.{round-neg, bits-neg}
 use Rattle.binary64.specs.Tests.{bits-number}
 use Rattle.binary64.specs.Meaning.{bits-back}
+
+-- the sign's bit is the sign
+pub with-sign : (n a c s : ℕ) → n < 2 ^ 63 → ofBits binary64 n ≡ round binary64 false a c → s ≤ 1
+    → ofBits binary64 (n + s * 2 ^ 63) ≡ round binary64 (eqb s 1) a c
+with-sign n a c zero h e l =
+    let z : n + 0 * 2 ^ 63 ≡ n = omega arith in
+    ap (λ (k : ℕ). ofBits binary64 k) z ∙ e
+with-sign n a c (suc zero) h e l = bits-neg n h ∙ ap neg e ∙ sym (round-neg a c)
+with-sign n a c (suc (suc s)) h e l = absurd (omega arith)
 
 module _ (Y : ℕ) (range : (0 < Y) × (Y < 2 ^ 64)) where
   size-some : 1 ≤ size Y
@@ -139,14 +148,9 @@ module _ (Y : ℕ) (range : (0 < Y) × (Y < 2 ^ 64)) where
       less : (z n k : ℕ) → k ≤ 1000 → 1 ≤ z → (z + 1021) * 2 ^ 52 + n - k * 2 ^ 52 ≡ (z + 1021 - k) * 2 ^ 52 + n
       less z n k h s = omega arith
 
-  -- THE LAW, with the sign
+  -- THE LAW
   pub scaled-is : (k s : ℕ) → k ≤ 1000 → s ≤ 1 → ofBits binary64 (pattern - k * 2 ^ 52 + s * 2 ^ 63) ≡ round binary64 (eqb s 1) Y (2 ^ k)
-  scaled-is k zero h l =
-      let e : pattern - k * 2 ^ 52 + 0 * 2 ^ 63 ≡ pattern - k * 2 ^ 52 = omega arith in
-      ap (λ (n : ℕ). ofBits binary64 n) e ∙ lower k h
-  scaled-is k (suc zero) h l =
-      bits-neg (pattern - k * 2 ^ 52) (small pattern k pattern-high) ∙ ap neg (lower k h) ∙ sym (round-neg Y (2 ^ k))
+  scaled-is k s h l = with-sign (pattern - k * 2 ^ 52) Y (2 ^ k) s (small pattern k pattern-high) (lower k h) l
     where
       small : (n k : ℕ) → n ≤ 1087 * 2 ^ 52 → n - k * 2 ^ 52 < 2 ^ 63
       small n k h = omega arith
-  scaled-is k (suc (suc s)) h l = absurd (omega arith)

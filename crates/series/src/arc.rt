@@ -5,9 +5,10 @@ use binary64::split;
 use limbs::high;
 use pieces::euler;
 ghost use mathlib.Core.Path.{_≡_};
-ghost use Prim.Native.Nat.{_^_, _≤_};
+ghost use Prim.Native.Nat.{_^_, _≤_, _<_};
+ghost use lib.Dec.{eqb};
 ghost use Rattle.enclosure.specs.Rules.{atan-answer};
-ghost use Rattle.series.specs.Atan.{atan};
+ghost use Rattle.series.specs.Atan.{tiny, one, far, below-one, above-one, atan};
 
 const TOP: u64 = 0x8000_0000_0000_0000; // the sign's weight in a pattern
 
@@ -28,6 +29,24 @@ fn arc(j: u64, tau: u64) -> u64
     high(2 * front, euler(4 * f))
 }
 
+// From 2 ^ -27 to 1, by the pattern a of the size; negative where s is 1.
+fn below_one(s: u64, a: u64) -> f64
+    requires { ⌜ (s ≤ 1) × (tiny ≤ a) × (a < one) ⌝ }
+    ensures { λ r. ⌜ r ≡ below-one (eqb s 1) a ⌝ }
+{
+    let j = 1022 - a / ONE;
+    scaled(arc(j, (a % ONE + ONE) * 512), 62 + j, s)
+}
+
+// From 1 to 2 ^ 63, likewise: π/2 less atan of the inverse.
+fn above_one(s: u64, a: u64) -> f64
+    requires { ⌜ (s ≤ 1) × (one < a) × (a < far) ⌝ }
+    ensures { λ r. ⌜ r ≡ above-one (eqb s 1) a ⌝ }
+{
+    let tau = quotient(UNITS / 2, (a % ONE + ONE) * 512) >> (a / ONE - 1023);
+    scaled(HALF_PI - arc(0, tau), 62, s)
+}
+
 pub fn atan(x: f64) -> f64
     ensures { λ r. ⌜ r ≡ atan x ⌝ }
 {
@@ -38,15 +57,13 @@ pub fn atan(x: f64) -> f64
         return x;
     }
     if a < 0x3ff0_0000_0000_0000 {
-        let j = 1022 - a / ONE;
-        return scaled(arc(j, (a % ONE + ONE) * 512), 62 + j, s);
+        return below_one(s, a);
     }
     if a == 0x3ff0_0000_0000_0000 {
         return f64::from_bits(0x3fe9_21fb_5444_2d18 + s * TOP);
     }
     if a < 0x43e0_0000_0000_0000 {
-        let tau = quotient(UNITS / 2, (a % ONE + ONE) * 512) >> (a / ONE - 1023);
-        return scaled(HALF_PI - arc(0, tau), 62, s);
+        return above_one(s, a);
     }
     if a <= 0x7ff0_0000_0000_0000 {
         return f64::from_bits(0x3ff9_21fb_5444_2d18 + s * TOP);

@@ -1,149 +1,86 @@
+-- `series::arc::atan` meets its contract, case by case. Assumes nothing.
+use Prim.Native.Nat.{ℕ, _+_, _*_, _/_, _%_, _^_, _≤_}
+use mathlib.Core.Path.{_≡_, refl, _∙_}
+use mathlib.Core.Bool.{false}
+use native.Mathlib.Omega.{arith}
 use borrow.Author.Needs.{needs}
+use lib.Ieee.{binary64, round, div, ofBits}
+use Rattle.rounding.specs.Cut.{infinity}
+use Rattle.binary64.specs.Tests.{bits-number}
+use Rattle.enclosure.specs.Pieces.{value, row, numerators}
+use Rattle.enclosure.specs.Rules.{atan-answer, half-pi}
+use Rattle.series.proofs.Units.{with-sign}
+use Rattle.series.proofs.Cases.{atan-tiny, atan-below-one, atan-at-one, atan-above-one, atan-far, atan-none}
 use Rattle.series.proofs.arc.atan.Statement.{statement}
 use Rattle.series.proofs.arc.atan.Tie as tie
-use Rattle.series.proofs.arc.atan.Reads as reads
-use Rattle.series.proofs.arc.atan.Lts as lts
-use Rattle.binary64.proofs.split.Reads as split-reads
-use Rattle.series.proofs.arc.arc.Reads as arc-reads
-use Rattle.series.proofs.quotient.quotient.Reads as quotient-reads
-use Rattle.series.proofs.scaled.scaled.Reads as scaled-reads
 
--- src/arc.rt:34:9
-split-requires : tie.Need-split-requires
-split-requires c κs = search needs
-
--- src/arc.rt:38:9
 returns : tie.Need-returns
-returns c = ?
+returns c = let a = c .before in atan-tiny (a .before .args .x) (a .split .result) (a .split .ensures) (c .if1 .taken)
 
--- src/arc.rt:41:17
-sub-j : tie.Need-sub-j
-sub-j c = search needs
-
--- src/arc.rt:42:31
-add-arc : tie.Need-add-arc
-add-arc c = search needs
-
--- src/arc.rt:42:30
-mul-arc : tie.Need-mul-arc
-mul-arc c = search needs
-
--- src/arc.rt:42:23
-arc-requires : tie.Need-arc-requires
-arc-requires c κs = search needs
-
--- src/arc.rt:42:54
-add-scaled : tie.Need-add-scaled
-add-scaled c = search needs
-
--- src/arc.rt:42:9
-scaled-requires : tie.Need-scaled-requires
-scaled-requires c κs = ?
-
--- src/arc.rt:42:9
 returns-2 : tie.Need-returns-2
-returns-2 c = ?
+returns-2 c =
+    let a = c .before .before .before in
+    c .below-one .ensures ∙ atan-below-one (a .before .args .x) (a .split .result) (a .split .ensures) (omega arith) (omega arith)
 
--- src/arc.rt:45:55
-mul-result : tie.Need-mul-result
-mul-result c = search needs
+-- ---- at 1 and far out there are constants
+no-nan : (n s : ℕ) → n ≤ infinity → s ≤ 1 → (n + s * 2 ^ 63) % 2 ^ 63 ≤ infinity
+no-nan n s h l = omega arith
 
--- src/arc.rt:45:31
-add-result : tie.Need-add-result
-add-result c = search needs
-
--- src/arc.rt:45:16
 float-from-bits-result : tie.Need-float-from-bits-result
-float-from-bits-result c = ?
+float-from-bits-result c = bits-number _ (no-nan 0x3fe9_21fb_5444_2d18 (c .before .before .before .split .result / 2 ^ 63) (omega arith) (omega arith))
 
--- src/arc.rt:45:9
+quarter-pi-is : ofBits binary64 0x3fe9_21fb_5444_2d18 ≡ round binary64 false (atan-answer 0 (2 ^ 62)) (2 ^ 62)
+unfolding ofBits round atan-answer value row numerators
+quarter-pi-is = refl
+
 returns-3 : tie.Need-returns-3
-returns-3 c = ?
+returns-3 c =
+    let a = c .before .before .before in
+    with-sign _ _ _ (a .split .result / 2 ^ 63) (omega arith) quarter-pi-is (omega arith)
+    ∙ atan-at-one (a .before .args .x) (a .split .result) (a .split .ensures) (c .if3 .taken)
 
--- src/arc.rt:48:40
-add-quotient : tie.Need-add-quotient
-add-quotient c = search needs
-
--- src/arc.rt:48:39
-mul-quotient : tie.Need-mul-quotient
-mul-quotient c = search needs
-
--- src/arc.rt:48:19
-quotient-requires : tie.Need-quotient-requires
-quotient-requires c κs = search needs
-
--- src/arc.rt:48:66
-sub-tau : tie.Need-sub-tau
-sub-tau c = search needs
-
--- src/arc.rt:48:19
-shr-tau : tie.Need-shr-tau
-shr-tau c = search needs
-
--- src/arc.rt:49:33
-arc-requires-2 : tie.Need-arc-requires-2
-arc-requires-2 c κs = ?
-
--- src/arc.rt:49:23
-sub-scaled : tie.Need-sub-scaled
-sub-scaled c = ?
-
--- src/arc.rt:49:9
-scaled-requires-2 : tie.Need-scaled-requires-2
-scaled-requires-2 c κs = ?
-
--- src/arc.rt:49:9
 returns-4 : tie.Need-returns-4
-returns-4 c = ?
+returns-4 c =
+    let a = c .before .before .before .before .before in
+    c .above-one .ensures
+    ∙ atan-above-one (a .before .args .x) (a .split .result) (a .split .ensures) (omega arith) (c .before .before .if3 .left) (omega arith)
 
--- src/arc.rt:52:55
-mul-result-2 : tie.Need-mul-result-2
-mul-result-2 c = search needs
-
--- src/arc.rt:52:31
-add-result-2 : tie.Need-add-result-2
-add-result-2 c = search needs
-
--- src/arc.rt:52:16
 float-from-bits-result-2 : tie.Need-float-from-bits-result-2
-float-from-bits-result-2 c = ?
+float-from-bits-result-2 c =
+    bits-number _ (no-nan 0x3ff9_21fb_5444_2d18 (c .before .before .before .before .before .split .result / 2 ^ 63) (omega arith) (omega arith))
 
--- src/arc.rt:52:9
+half-pi-is : ofBits binary64 0x3ff9_21fb_5444_2d18 ≡ round binary64 false half-pi (2 ^ 62)
+unfolding ofBits round
+half-pi-is = refl
+
 returns-5 : tie.Need-returns-5
-returns-5 c = ?
+returns-5 c =
+    let a = c .before .before .before .before .before in
+    with-sign _ _ _ (a .split .result / 2 ^ 63) (omega arith) half-pi-is (omega arith)
+    ∙ atan-far (a .before .args .x) (a .split .result) (a .split .ensures) (omega arith) (omega arith)
 
--- src/arc.rt:31:1
 returns-6 : tie.Need-returns-6
-returns-6 c = ?
+unfolding ofBits div
+returns-6 c =
+    let a = c .before .before .before .before .before in
+    atan-none (a .before .args .x) (a .split .result) (a .split .ensures) (omega arith)
 
 pub atan-spec : {M : Type 1} → statement M
 atan-spec =
     tie.close
     (tie.spec
-    split-requires
+    (λ c κs. search needs)
     returns
-    sub-j
-    add-arc
-    mul-arc
-    arc-requires
-    add-scaled
-    scaled-requires
+    (λ c κs. search needs)
     returns-2
-    mul-result
-    add-result
+    (λ c. search needs)
+    (λ c. search needs)
     float-from-bits-result
     returns-3
-    add-quotient
-    mul-quotient
-    quotient-requires
-    sub-tau
-    shr-tau
-    arc-requires-2
-    sub-scaled
-    scaled-requires-2
+    (λ c κs. search needs)
     returns-4
-    mul-result-2
-    add-result-2
+    (λ c. search needs)
+    (λ c. search needs)
     float-from-bits-result-2
     returns-5
     returns-6)

@@ -37,7 +37,7 @@ unfolding ln-answer
 the-sum c =
     let a = c .before .before .before in
     let t : c .before .t-sum .result ≡ T-answer 1 (ln-seed (a .args .m)) =
-        c .before .t-sum .ensures ∙ ap (λ (g : ℕ). T-answer 1 g) (the-seed (c .before .before)) in
+    c .before .t-sum .ensures ∙ ap (λ (g : ℕ). T-answer 1 g) (the-seed (c .before .before)) in
     ap₂ _+_ (c .high .ensures ∙ first-is (a .args .e) (a .args .m) (a .pre))
     (second-is (a .args .e) (a .args .m) (a .pre) (c .before .t-sum .result) ∙ ap (λ (n : ℕ). 2 * n / 2 ^ size (a .args .e)) t)
 

@@ -16,8 +16,8 @@ returns c =
     let a = c .before .before .before in
     let w = seed-square (a .args .j) (a .args .sg) in
     let sum : c .before .odd .result ≡ value odd w =
-        c .before .odd .ensures ∙ ap (λ (x : ℕ). value-or-zero odd x) (c .before .before .square .ensures)
-        ∙ rw (lt-ltb (piece w) (pieces odd) (a .pre .inside)) in
+    c .before .odd .ensures ∙ ap (λ (x : ℕ). value-or-zero odd x) (c .before .before .square .ensures)
+    ∙ rw (lt-ltb (piece w) (pieces odd) (a .pre .inside)) in
     c .high .ensures ∙ ap (λ (h : ℕ). 2 * a .args .sg * h / 2 ^ 64) sum ∙ doubled (a .args .sg) (value odd w)
 
 pub t-sum-spec : {M : Type 1} → statement M
