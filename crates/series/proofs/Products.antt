@@ -28,21 +28,16 @@ square-small j tau h =
     let k : 2 ^ 63 ≤ 2 ^ (63 + 2 * j) = pow-mono {i = 63} {j = 63 + 2 * j} (omega arith) in
     div-le-of-le-mul (2 ^ (63 + 2 * j)) (le-trans (mul-le-mul h h) (mul-le-mul-right (2 ^ 61) k))
 
-pub seed-square-is : (j sg : ℕ) → 4 * sg * (4 * sg) / 2 ^ 64 / 2 ^ (2 * j) ≡ seed-square j sg
+pub seed-square-is : (j sg : ℕ) → 4 * sg * (4 * sg) / 2 ^ 64 / 2 ^ j / 2 ^ j ≡ seed-square j sg
 seed-square-is j sg =
-    ap (λ (n : ℕ). n / 2 ^ (2 * j)) (div-same (4 * sg * (4 * sg)) (2 ^ 64) (sg * sg) (2 ^ 60) (pow-pos 64) (pow-pos 60) (fourfold sg))
-    ∙ shifted (sg * sg) 60 (2 * j)
+    let e : 60 + j + j ≡ 60 + 2 * j = omega arith in
+    ap (λ (n : ℕ). n / 2 ^ j / 2 ^ j) (div-same (4 * sg * (4 * sg)) (2 ^ 64) (sg * sg) (2 ^ 60) (pow-pos 64) (pow-pos 60) (fourfold sg))
+    ∙ ap (λ (n : ℕ). n / 2 ^ j) (shifted (sg * sg) 60 j)
+    ∙ shifted (sg * sg) (60 + j) j
+    ∙ ap (λ (k : ℕ). sg * sg / 2 ^ k) e
   where
     fourfold : (g : ℕ) → 4 * g * (4 * g) * 2 ^ 60 ≡ g * g * 2 ^ 64
     fourfold = ring 1 (λ g. con 4 :* g :* (con 4 :* g) :* con (2 ^ 60) ≈ g :* g :* con (2 ^ 64)) tt
-
--- (where the shift would be of a whole word, nothing is left)
-pub seed-square-none : (j sg : ℕ) → 32 ≤ j → sg < 2 ^ 62 → seed-square j sg ≡ 0
-seed-square-none j sg h l =
-    let a : sg ≤ 2 ^ 62 - 1 = omega arith in
-    let b : sg * sg ≤ (2 ^ 62 - 1) * (2 ^ 62 - 1) = mul-le-mul a a in
-    let c : sg * sg < 2 ^ 124 = omega arith in
-    div-eq-of-lt (lt-of-lt-of-le c (pow-mono {i = 124} {j = 60 + 2 * j} (omega arith)))
 
 -- ---- the front of atan
 pub front-is : (tau f : ℕ) → 2 * tau * (2 * (2 ^ 62 - f)) / 2 ^ 64 ≡ front tau f

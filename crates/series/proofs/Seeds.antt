@@ -21,8 +21,8 @@ pub proper : (j m : ℕ) → m < 2 ^ 53 → m < 2 ^ (53 + j)
 proper j m h = lt-of-lt-of-le h (pow-mono {i = 53} {j = 53 + j} (omega arith))
 
 -- ---- what a seed of an enclosure is good for
-ready : {s : Quotient} {j sg : ℕ} → Seed s j sg → sg < 2 ^ 62 → Seeded j sg
-ready {s} {j} {sg} h l = record { fits = l; inside = seed-inside s j sg h }
+ready : {s : Quotient} {j sg : ℕ} → Seed s j sg → j < 64 → sg < 2 ^ 62 → Seeded j sg
+ready {s} {j} {sg} h k l = record { few = k; fits = l; inside = seed-inside s j sg h }
 
 -- ---- the divisor of ln_1p: twice 2 + a or 2 - a
 abbrev pub divisor : Bool → ℕ → ℕ
@@ -76,10 +76,10 @@ seed-fits t j m h =
 pub seeded : (t : Bool) (j m : ℕ) → Small j m → Seeded j (seed t j m)
 seeded true j m h =
     let fits : m ≤ 2 ^ 53 = omega (arith, h .high) in
-    ready (loss-seeds j m (proper j m (h .high)) fits (h .small)) (seed-fits true j m (h .high))
+    ready (loss-seeds j m (proper j m (h .high)) fits (h .small)) (omega (arith, h .most)) (seed-fits true j m (h .high))
 seeded false j m h =
     let fits : m ≤ 2 ^ 53 = omega (arith, h .high) in
-    ready (gain-seeds j m fits (h .small)) (seed-fits false j m (h .high))
+    ready (gain-seeds j m fits (h .small)) (omega (arith, h .most)) (seed-fits false j m (h .high))
 
 pub seed-size : (t : Bool) (j m : ℕ) → Small j m → 2 ^ 59 ≤ T-answer j (seed t j m)
 seed-size true j m h =
@@ -103,4 +103,4 @@ ln-seed-is m =
     div-same (p * 512 * 2 ^ 62) (d * 256) (2 * p * 2 ^ 62) d k q (ln-same p d)
 
 pub ln-seeded : (m : ℕ) → 2 ^ 52 ≤ m → m < 2 ^ 53 → Seeded 1 (ln-seed m)
-ln-seeded m low high = ready (ln-seeds m low high) (below-one (2 * (m - 2 ^ 52)) (m + 2 ^ 52) (omega arith))
+ln-seeded m low high = ready (ln-seeds m low high) (omega arith) (below-one (2 * (m - 2 ^ 52)) (m + 2 ^ 52) (omega arith))

@@ -5,6 +5,7 @@ use Rattle.enclosure.specs.Rules.{seed-square}
 
 -- a seed: its square lies in a piece that the table has
 pub record Seeded (j sg : ℕ) : Type 0 where
+  pub few : j < 64
   pub fits : sg < 2 ^ 62
   pub inside : piece (seed-square j sg) < pieces odd
 

@@ -9,7 +9,7 @@ ghost use Prim.Native.Nat.{_+_, _-_, _*_, _^_, _≤_, _<_};
 ghost use mathlib.Core.Bool.{cond};
 ghost use lib.Dec.{eqb};
 ghost use lib.Ieee.{binary64, round};
-ghost use Rattle.enclosure.specs.Rules.{seed-square, T-answer};
+ghost use Rattle.enclosure.specs.Rules.{T-answer};
 ghost use Rattle.series.specs.Ln.{ln, ln-from-two};
 ghost use Rattle.series.specs.Ln1p.{ln-1p, seed};
 ghost use Rattle.series.specs.Ranges.{Seeded, Exponent, Small};
@@ -22,23 +22,14 @@ const LN_TWO: u64 = 0x58b9_0bfb_e8e7_bcd5; // ln 2 in units of 2 ^ -63, rounded 
 
 const FOUR: u64 = 0x4000_0000_0000_0000; // 2 ^ 62: 4 in the units of a divisor of `ln_1p`
 
-// s² in units of 2 ^ -64, where s is sg units of 2 ^ -(62 + j).
-fn square(j: u64, sg: u64) -> u64
-    requires { ⌜ sg < 2 ^ 62 ⌝ }
-    ensures { λ r. ⌜ r ≡ seed-square j sg ⌝ }
-{
-    if j < 32 {
-        return high(4 * sg, 4 * sg) >> (2 * j);
-    }
-    0
-}
-
-// T(s) in the units of s.
+// T(s), where s is sg units of 2 ^ -(62 + j), in these units. The square in units of 2 ^ -64 is shifted by j twice over, since 2 * j may be past a
+// word; with a branch for that, LLVM would make jumps of the table's rows.
 fn t_sum(j: u64, sg: u64) -> u64
     requires { ⌜ Seeded j sg ⌝ }
     ensures { λ r. ⌜ r ≡ T-answer j sg ⌝ }
 {
-    high(2 * sg, odd(square(j, sg)))
+    let square = high(4 * sg, 4 * sg) >> j >> j;
+    high(2 * sg, odd(square))
 }
 
 // ln of m * 2 ^ (e - 52). Where e has b digits, e << z is e * 2 ^ (64 - b).
