@@ -48,7 +48,7 @@ doubled-high : Order 6 (λ v b x x' p q.
 doubled-high = by-below tt
 
 module _ (s : Quotient) (proper : s .num < s .den) (j sg : ℕ) (seed : Seed s j sg) where
-  double-near : Within (double-lower s) (double-upper s proper) (units (61 + j) (T-answer j sg)) (units (61 + j) 12) (units (61 + j) 39)
+  pub double-near : Within (double-lower s) (double-upper s proper) (units (61 + j) (T-answer j sg)) (units (61 + j) 12) (units (61 + j) 39)
   unfolding double-lower double-upper
   double-near =
       let near = T-near s proper j sg seed in

@@ -2,5 +2,11 @@ pub mod Pattern
 pub mod Atan
 pub mod Ln
 pub mod Ln1p
+pub mod Near
 pub mod Quotient
 pub mod Ranges
+pub mod Cases
+pub mod Exponents
+pub mod Units
+pub mod Inverse
+pub mod Rounded

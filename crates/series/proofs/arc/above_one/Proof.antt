@@ -8,7 +8,7 @@ use lib.Ieee.{binary64, round}
 use Rattle.enclosure.specs.Rules.{atan-answer, half-pi, steep-answer}
 use Rattle.series.specs.Pattern.{field, digits}
 use Rattle.series.specs.Atan.{one}
-use Rattle.series.proofs.Inverse.{inverse-is, inverse-fits, arc-below, steep-some, past-one}
+use Rattle.series.specs.Inverse.{inverse-is, inverse-fits, arc-below, steep-some, past-one}
 use Rattle.series.proofs.arc.above_one.Statement.{statement}
 use Rattle.series.proofs.arc.above_one.Tie as tie
 

@@ -9,8 +9,8 @@ use Rattle.rounding.specs.Cut.{infinity}
 use Rattle.binary64.specs.Tests.{bits-number}
 use Rattle.enclosure.specs.Pieces.{value, row, numerators}
 use Rattle.enclosure.specs.Rules.{atan-answer, half-pi}
-use Rattle.series.proofs.Units.{with-sign}
-use Rattle.series.proofs.Cases.{atan-tiny, atan-below-one, atan-at-one, atan-above-one, atan-far, atan-none}
+use Rattle.series.specs.Units.{with-sign}
+use Rattle.series.specs.Cases.{atan-tiny, atan-below-one, atan-at-one, atan-above-one, atan-far, atan-none}
 use Rattle.series.proofs.arc.atan.Statement.{statement}
 use Rattle.series.proofs.arc.atan.Tie as tie
 

@@ -1,4 +1,4 @@
--- `series::logarithm::from_two` meets its contract, by `Seeds` and `Exponents`. Assumes nothing.
+-- `series::logarithm::from_two` meets its contract, by `Seeds` and `Zeros`. Assumes nothing.
 use Prim.Native.Nat.{ℕ, _+_, _-_, _*_, _/_, _^_, _≤_}
 use mathlib.Core.Path.{_≡_, sym, ap, ap₂, _∙_, subst}
 use mathlib.Core.Bool.{false}
@@ -9,7 +9,8 @@ use lib.Ieee.{binary64, size, round}
 use Rattle.enclosure.specs.Rules.{T-answer, ln-seed, ln-answer}
 use Rattle.series.specs.Ranges.{Seeded}
 use Rattle.series.proofs.Seeds.{ln-seed-is, ln-seeded}
-use Rattle.series.proofs.Exponents.{zeros-least, zeros-most, scale-is, first-is, second-is, answer-fits, answer-size}
+use Rattle.series.specs.Exponents.{answer-fits, answer-size}
+use Rattle.series.proofs.Zeros.{zeros-least, zeros-most, scale-is, first-is, second-is}
 use Rattle.series.proofs.logarithm.from_two.Statement.{statement}
 use Rattle.series.proofs.logarithm.from_two.Tie as tie
 

@@ -4,7 +4,7 @@ use native.Mathlib.Omega.{arith}
 use borrow.Author.Needs.{needs}
 use lib.Dec.{T}
 use lib.Ieee.{div, ofBits}
-use Rattle.series.proofs.Cases.{ln-below, ln-from, ln-infinity, ln-past, ln-range}
+use Rattle.series.specs.Cases.{ln-below, ln-from, ln-infinity, ln-past, ln-range}
 use Rattle.series.proofs.logarithm.ln.Statement.{statement}
 use Rattle.series.proofs.logarithm.ln.Tie as tie
 

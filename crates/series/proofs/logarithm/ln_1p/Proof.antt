@@ -3,7 +3,7 @@ use mathlib.Core.Path.{_∙_}
 use native.Mathlib.Omega.{arith}
 use borrow.Author.Needs.{needs}
 use lib.Ieee.{div, ofBits}
-use Rattle.series.proofs.Cases.{ln-1p-tiny, ln-1p-small, ln-1p-none, ln-1p-range}
+use Rattle.series.specs.Cases.{ln-1p-tiny, ln-1p-small, ln-1p-none, ln-1p-range}
 use Rattle.series.proofs.logarithm.ln_1p.Statement.{statement}
 use Rattle.series.proofs.logarithm.ln_1p.Tie as tie
 

@@ -7,7 +7,7 @@ use borrow.Author.Needs.{needs}
 use lib.Dec.{T}
 use lib.Ieee.{Float, binary64, isNan, ofBits, toBits}
 use Rattle.binary64.specs.Tests.{bits-number}
-use Rattle.series.proofs.Units.{pattern, pattern-low, pattern-high, whole-bits, whole-number, scaled-is}
+use Rattle.series.specs.Units.{pattern, pattern-low, pattern-high, whole-bits, whole-number, scaled-is}
 use Rattle.series.proofs.scaled.scaled.Statement.{statement}
 use Rattle.series.proofs.scaled.scaled.Tie as tie
 

@@ -39,26 +39,26 @@ module _ (Y : ℕ) (range : (0 < Y) × (Y < 2 ^ 64)) where
         absurd (omega (arith, range .0))
   ]
 
-  size-most : size Y ≤ 64
+  pub size-most : size Y ≤ 64
   size-most = size-le Y 64 (range .1)
 
   -- the field of Y rounded, less one; the digits that are kept, and what is left of them
-  abbrev field : ℕ
+  abbrev pub field : ℕ
   field = size Y + 1021
 
   abbrev number : ℕ
   number = Y * 2 ^ 1074
 
-  abbrev kept : ℕ
+  abbrev pub kept : ℕ
   kept = number / 2 ^ field
 
-  abbrev rest : ℕ
+  abbrev pub rest : ℕ
   rest = number % 2 ^ field
 
-  abbrev half : Ordering
+  abbrev pub half : Ordering
   half = compare (rest * 2) (2 ^ field)
 
-  abbrev digits : ℕ
+  abbrev pub digits : ℕ
   digits = nearest kept half
 
   scale : (i j : ℕ) → i + field ≡ j + 1074 → 2 ^ i * 2 ^ field ≡ 2 ^ j * 2 ^ 1074
@@ -79,10 +79,10 @@ module _ (Y : ℕ) (range : (0 < Y) × (Y < 2 ^ 64)) where
       div-lt-iff-lt-mul (pow-pos field) .1
       (lt-of-lt-of-le (mul-lt-mul-of-pos-right (size-lt Y) (pow-pos 1074)) (le-of-eq (sym (scale 53 z (sym e)))))
 
-  digits-low : 2 ^ 52 ≤ digits
+  pub digits-low : 2 ^ 52 ≤ digits
   digits-low = le-trans kept-low (nearest-ge kept half)
 
-  digits-high : digits ≤ 2 ^ 53
+  pub digits-high : digits ≤ 2 ^ 53
   digits-high = le-trans (nearest-le kept half) kept-high
 
   -- Y in units of 2 ^ -k has k less in the field
@@ -138,7 +138,7 @@ module _ (Y : ℕ) (range : (0 < Y) × (Y < 2 ^ 64)) where
       small : (n : ℕ) → n ≤ 1087 * 2 ^ 52 → n % 2 ^ 63 ≤ infinity
       small n h = omega arith
 
-  lower : (k : ℕ) → k ≤ 1000 → ofBits binary64 (pattern - k * 2 ^ 52) ≡ round binary64 false Y (2 ^ k)
+  pub lower : (k : ℕ) → k ≤ 1000 → ofBits binary64 (pattern - k * 2 ^ 52) ≡ round binary64 false Y (2 ^ k)
   lower k h =
       let d = field - k in
       let s : 1 ≤ size Y = size-some in

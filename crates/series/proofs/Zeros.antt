@@ -1,4 +1,4 @@
--- ln's exponent e, its binary digits and its leading zeros; and the rule's sum, as the code forms it. Assumes nothing.
+-- ln's exponent e, its leading zeros, and the rule's sum as the code forms it. Assumes nothing.
 use Prim.Native.Nat.{ℕ, suc, _+_, _-_, _*_, _/_, _%_, _^_, _≤_, _<_}
 use mathlib.Core.Path.{_≡_, sym, ap, _∙_, subst}
 use mathlib.Core.Logic.{inl, inr}
@@ -13,8 +13,8 @@ use lib.Ieee.Nearest.{div-same}
 use Rattle.algebra.specs.Ring.{_:*_, _≈_, _⊩_, _times_≼_, ring}
 use Rattle.algebra.specs.Order.{lt-or-le}
 use Rattle.enclosure.specs.Rules.{ln-two, ln-answer}
-use Rattle.enclosure.specs.Sizes.{ln-size, ln-fits}
 use Rattle.series.specs.Ranges.{Exponent}
+use Rattle.series.specs.Exponents.{digits-most, digits-least}
 
 -- a number of `length` digits
 size-is : (e b : ℕ) → e < 2 ^ b → 2 ^ b ≤ 2 * e + 1 → size e ≡ b
@@ -40,26 +40,14 @@ module _ (e m : ℕ) (range : Exponent e m) where
   sum-zeros : z + b ≡ 64
   sum-zeros = zeros e (omega (arith, range .most))
 
-  b-most : b ≤ 11
-  b-most = size-le e 11 (range .most)
-
-  b-least : 1 ≤ b
-  b-least = elim (lt-or-le 0 b) [
-    | inl l ↦ l
-    | inr l ↦
-        let n : b ≡ 0 = omega arith in
-        let h : e < 2 ^ 0 = subst (λ (k : ℕ). e < 2 ^ k) n (size-lt e) in
-        absurd (omega (arith, range .least))
-  ]
-
   pub zeros-least : 53 ≤ z
-  zeros-least = omega (arith, sum-zeros, b-most)
+  zeros-least = omega (arith, sum-zeros, digits-most e m range)
 
   pub zeros-most : z ≤ 63
-  zeros-most = omega (arith, sum-zeros, b-least)
+  zeros-most = omega (arith, sum-zeros, digits-least e m range)
 
   pub scale-is : z - 1 ≡ 63 - b
-  scale-is = omega (arith, sum-zeros, b-least)
+  scale-is = omega (arith, sum-zeros, digits-least e m range)
 
   powers : 2 ^ z * 2 ^ b ≡ 2 ^ 64
   powers = sym (pow-add 2 z b) ∙ ap (λ (k : ℕ). 2 ^ k) sum-zeros
@@ -82,17 +70,6 @@ module _ (e m : ℕ) (range : Exponent e m) where
   pub second-is : (t : ℕ) → t / 2 ^ (63 - z) ≡ 2 * t / 2 ^ b
   second-is t =
       let k = 63 - z in
-      let f : b ≡ suc k = omega (arith, sum-zeros, b-least) in
+      let f : b ≡ suc k = omega (arith, sum-zeros, digits-least e m range) in
       let twice : 2 ^ b ≡ 2 ^ k * 2 = ap (λ (n : ℕ). 2 ^ n) f ∙ pow-succ' 2 k ∙ omega arith in
       div-same t (2 ^ k) (2 * t) (2 ^ b) (pow-pos k) (pow-pos b) (rw twice (omega arith))
-
-  pub answer-fits : ln-answer b e m < 2 ^ 64
-  answer-fits = ln-fits m b e (range .low) (range .high) (range .least) (size-lt e)
-
-  pub answer-size : 2 ^ 61 ≤ ln-answer b e m
-  answer-size =
-      let k = b - 1 in
-      let l : 1 ≤ b = b-least in
-      let f : b ≡ suc k = omega arith in
-      let reach : 2 ^ k ≤ e = size-reaches e k (omega arith) in
-      ln-size b e m (rw f (rw (pow-succ' 2 k) (omega arith)))
