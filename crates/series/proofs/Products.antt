@@ -1,8 +1,8 @@
 -- Products of which the upper word counts: factors scaled so that it is the quotient a rule asks for. Assumes nothing.
-use Prim.Native.Nat.{ℕ, _+_, _-_, _*_, _/_, _^_, _≤_, _<_}
+use Prim.Native.Nat.{ℕ, _+_, _-_, _*_, _/_, _^_, _≤_}
 use mathlib.Core.Path.{_≡_, sym, ap, _∙_}
 use mathlib.Core.List.{[]}
-use native.Mathlib.Nat.{div-div-eq-div-mul, div-eq-of-lt, div-le-of-le-mul, le-trans, lt-of-lt-of-le, mul-le-mul, mul-le-mul-right}
+use native.Mathlib.Nat.{div-div-eq-div-mul, div-le-of-le-mul, le-trans, mul-le-mul, mul-le-mul-right}
 use native.Mathlib.Omega.{arith}
 use lib.Pow.{pow-pos, pow-add, pow-mono}
 use lib.Ieee.Nearest.{div-same}

@@ -8,11 +8,11 @@ use native.Mathlib.Omega.{arith}
 use lib.Count.{leadingZeros, leading-length}
 use lib.Pow.{pow-pos, pow-add, pow-mono}
 use lib.Ieee.{size}
-use lib.Ieee.Digits.{size-lt, size-reaches, size-le}
+use lib.Ieee.Digits.{size-lt, size-le}
 use lib.Ieee.Nearest.{div-same}
 use Rattle.algebra.specs.Ring.{_:*_, _≈_, _⊩_, _times_≼_, ring}
 use Rattle.algebra.specs.Order.{lt-or-le}
-use Rattle.enclosure.specs.Rules.{ln-two, ln-answer}
+use Rattle.enclosure.specs.Rules.{ln-two}
 use Rattle.series.specs.Ranges.{Exponent}
 use Rattle.series.specs.Exponents.{digits-most, digits-least}
 

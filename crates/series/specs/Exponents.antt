@@ -1,5 +1,5 @@
 -- ln's exponent e and its binary digits, of which there are b: the answer has 62 at least, and fits a word. Assumes nothing.
-use Prim.Native.Nat.{ℕ, suc, _+_, _-_, _*_, _^_, _≤_, _<_}
+use Prim.Native.Nat.{ℕ, suc, _-_, _^_, _≤_, _<_}
 use mathlib.Core.Path.{_≡_, subst}
 use mathlib.Core.Logic.{inl, inr}
 use native.Mathlib.Nat.{pow-succ'}

@@ -3,6 +3,9 @@ pub mod Atan
 pub mod Ln
 pub mod Ln1p
 pub mod Near
+pub mod Names
+pub mod Within
+pub mod Ends
 pub mod Quotient
 pub mod Ranges
 pub mod Cases
@@ -10,3 +13,6 @@ pub mod Exponents
 pub mod Units
 pub mod Inverse
 pub mod Rounded
+pub mod Arguments
+pub mod Small
+pub mod Examples

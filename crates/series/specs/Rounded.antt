@@ -14,7 +14,7 @@ use Rattle.rounding.specs.Value.{value-at}
 use Rattle.enclosure.specs.Quotient.{Quotient, _≼_, units}
 use Rattle.enclosure.specs.Enclosure.{Within}
 use Rattle.enclosure.specs.Answers.{within-same, within-rounded}
-use Rattle.series.specs.Near.{number, unit, Near}
+use Rattle.series.specs.Near.{unit, Near}
 use Rattle.series.specs.Units as whole
 
 -- ---- what is picked of w G and (w + 1) G is at most G / 2 away
@@ -63,7 +63,7 @@ module _ (Y k : ℕ) (least : 2 ^ 59 ≤ Y) (word : Y < 2 ^ 64) (few : k ≤ 100
   rest-is : whole.rest Y range ≡ Y % G * 2 ^ 1074
   rest-is =
       let whole-number : Y / G * (G * 2 ^ 1074) + whole.rest Y range ≡ Y * 2 ^ 1074 =
-          ap₂ (λ (q f : ℕ). q * f + whole.rest Y range) (sym kept-is) (sym field-is) ∙ div-add-mod' (Y * 2 ^ 1074) (2 ^ whole.field Y range) in
+      ap₂ (λ (q f : ℕ). q * f + whole.rest Y range) (sym kept-is) (sym field-is) ∙ div-add-mod' (Y * 2 ^ 1074) (2 ^ whole.field Y range) in
       cancel (Y / G) G (2 ^ 1074) (Y % G) (whole.rest Y range) (whole-number ∙ ap (λ (y : ℕ). y * 2 ^ 1074) (sym (div-add-mod' Y G)))
     where
       cancel : (q g b r t : ℕ) → q * (g * b) + t ≡ (q * g + r) * b → t ≡ r * b
