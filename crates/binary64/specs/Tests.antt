@@ -43,6 +43,14 @@ same-no-nan nan h = absurd (true≢false (sym nan-differs ∙ h))
 same-no-nan (inf s) h = refl
 same-no-nan (fin s m e) h = refl
 
+pub ne-itself : (x : Float) → ne x x ≡ isNan x
+unfolding isNan
+ne-itself x = go (ne x x) refl
+  where
+    go : (t : Bool) → ne x x ≡ t → t ≡ isNan x
+    go true h = sym (is-nan x h)
+    go false h = sym (same-no-nan x h)
+
 -- what `to_bits` asks
 pub not-nan : (x : Float) → isNan x ≡ false → T (not (isNan x))
 not-nan x h = subst (λ (t : Bool). T (not t)) (sym h) tt

@@ -1,0 +1,6 @@
+-- `stays` meets its contract, step by step as its definition. Assumes nothing.
+use Rattle.carlson.proofs.rescaling.stays.Statement.{statement}
+use Rattle.carlson.proofs.rescaling.stays.Tie as tie
+
+pub stays-spec : {M : Type 1} → statement M
+stays-spec = tie.close (tie.spec (λ c. cc) (λ c. cc))

@@ -1,0 +1,6 @@
+pub mod Constants
+pub mod Answer
+pub mod Checks
+pub mod Rescaling
+pub mod Loop
+pub mod Common

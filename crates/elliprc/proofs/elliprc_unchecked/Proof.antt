@@ -1,0 +1,20 @@
+-- `elliprc_unchecked` meets its contract: its tests are those of the definition, in its order. Assumes nothing.
+use mathlib.Core.Path.{sym, _∙_}
+use Rattle.elliprc.specs.Rc.{rcUnchecked}
+use Rattle.elliprc.proofs.elliprc_unchecked.Statement.{statement}
+use Rattle.elliprc.proofs.elliprc_unchecked.Tie as tie
+
+pub elliprc-unchecked-spec : {M : Type 1} → statement M
+unfolding rcUnchecked
+elliprc-unchecked-spec =
+    tie.close
+    (tie.spec
+    (λ c κs. tt)
+    (λ c κs. tt)
+    (λ c κs. tt)
+    (λ c κs. tt)
+    (λ c. rw (sym (c .before .before .before .before .before .scale2 .ensures), sym (c .before .before .before .before .beyond .ensures) ∙ c .before .before .before .if1 .taken, sym (c .before .before .stay2 .ensures) ∙ c .before .if2 .taken) (c .rescaled .ensures))
+    (λ c κs. tt)
+    (λ c. rw (sym (c .before .before .before .before .before .scale2 .ensures), sym (c .before .before .before .before .beyond .ensures) ∙ c .before .before .before .if1 .taken, sym (c .before .before .stay2 .ensures) ∙ c .before .if2 .left) (c .steps .ensures))
+    (λ c κs. tt)
+    (λ c. rw (sym (c .before .before .before .scale2 .ensures), sym (c .before .before .beyond .ensures) ∙ c .before .if1 .left) (c .steps2 .ensures)))

@@ -1,0 +1,71 @@
+// RC's closed forms. For y < 0 the integral is singular, and its Cauchy principal value is a prefix times RC at other arguments.
+use carlson::constants::PI_2;
+use root::sqrt;
+use series::atan;
+use series::ln;
+use series::ln_1p;
+ghost use mathlib.Core.Path.{_≡_};
+ghost use Rattle.elliprc.specs.Rc.{rcSteps, rcCases, atZero, atEqual, byAtan, byLn1p, byLn};
+
+// RC(0, y)
+fn at_zero(prefix: f64, y: f64) -> f64
+    ensures { λ r. ⌜ r ≡ atZero prefix y ⌝ }
+{
+    prefix * PI_2 / sqrt(y)
+}
+
+// RC(x, x)
+fn at_equal(prefix: f64, x: f64) -> f64
+    ensures { λ r. ⌜ r ≡ atEqual prefix x ⌝ }
+{
+    prefix / sqrt(x)
+}
+
+// x < y
+fn by_atan(prefix: f64, x: f64, y: f64) -> f64
+    ensures { λ r. ⌜ r ≡ byAtan prefix x y ⌝ }
+{
+    prefix * atan(sqrt((y - x) / x)) / sqrt(y - x)
+}
+
+// y < x, with y near x: a difference of two logarithms near 1 keeps its digits.
+fn by_ln_1p(prefix: f64, x: f64, y: f64) -> f64
+    ensures { λ r. ⌜ r ≡ byLn1p prefix x y ⌝ }
+{
+    let arg = sqrt((x - y) / x);
+    prefix * (ln_1p(arg) - ln_1p(-arg)) / (2.0 * sqrt(x - y))
+}
+
+// y < x, with y at most x / 2
+fn by_ln(prefix: f64, x: f64, y: f64) -> f64
+    ensures { λ r. ⌜ r ≡ byLn prefix x y ⌝ }
+{
+    prefix * ln((sqrt(x) + sqrt(x - y)) / sqrt(y)) / sqrt(x - y)
+}
+
+fn cases(prefix: f64, x: f64, y: f64) -> f64
+    ensures { λ r. ⌜ r ≡ rcCases prefix x y ⌝ }
+{
+    if x == 0.0 {
+        return at_zero(prefix, y);
+    }
+    if x == y {
+        return at_equal(prefix, x);
+    }
+    if y > x {
+        return by_atan(prefix, x, y);
+    }
+    if y / x > 0.5 {
+        return by_ln_1p(prefix, x, y);
+    }
+    by_ln(prefix, x, y)
+}
+
+pub fn steps(x: f64, y: f64) -> f64
+    ensures { λ r. ⌜ r ≡ rcSteps x y ⌝ }
+{
+    if y < 0.0 {
+        return cases(sqrt(x / (x - y)), x - y, -y);
+    }
+    cases(1.0, x, y)
+}

@@ -1,0 +1,133 @@
+// RD's duplication (DLMF 19.26.20, 19.36.2), with its sum of closed terms.
+use binary64::max;
+use carlson::answer::Found;
+use carlson::answer::duplication;
+use carlson::answer::not_a_number;
+use carlson::common::lambda_of;
+use carlson::common::third_kind;
+use power::pow_neg_3_2;
+use root::sqrt;
+ghost use mathlib.Core.Path.{_≡_};
+ghost use Rattle.elliprd.specs.Duplicate.{rdMean, rdStart, rdBegin, rdMoved, rdStep, rdClose, rdCorrection, rdFactor, rdSeries, rdDuplication};
+
+// The Rust's cap on its passes.
+const CAP: u32 = 50;
+
+// (2 ^ -54) ^ (-1 / 8), the nearest f64.
+const START: f64 = 107.63474115247546;
+
+// The running mean, arguments, distance, power of four and sum of one pass.
+pub struct Round {
+    pub an: f64,
+    pub xn: f64,
+    pub yn: f64,
+    pub zn: f64,
+    pub q: f64,
+    pub fnval: f64,
+    pub sum: f64,
+}
+
+pub fn mean_of(x: f64, y: f64, z: f64) -> f64
+    ensures { λ r. ⌜ r ≡ rdMean x y z ⌝ }
+{
+    (x + y + 3.0 * z) / 5.0
+}
+
+// The largest difference is of signed ones, as the Rust has it.
+pub fn start_of(an: f64, x: f64, y: f64, z: f64) -> f64
+    ensures { λ r. ⌜ r ≡ rdStart an x y z ⌝ }
+{
+    START * max(max(an - x, an - y), an - z) * 1.2
+}
+
+fn begin(x: f64, y: f64, z: f64) -> Round
+    ensures { λ r. ⌜ r ≡ rdBegin x y z ⌝ }
+{
+    let an = mean_of(x, y, z);
+    Round {
+        an,
+        xn: x,
+        yn: y,
+        zn: z,
+        q: start_of(an, x, y, z),
+        fnval: 1.0,
+        sum: 0.0,
+    }
+}
+
+// One pass, with its lambda and the root of zn.
+fn moved(s: Round, lambda: f64, rz: f64) -> Round
+    ensures { λ r. ⌜ r ≡ rdMoved s lambda rz ⌝ }
+{
+    Round {
+        an: (s.an + lambda) / 4.0,
+        xn: (s.xn + lambda) / 4.0,
+        yn: (s.yn + lambda) / 4.0,
+        zn: (s.zn + lambda) / 4.0,
+        q: s.q / 4.0,
+        fnval: s.fnval / 4.0,
+        sum: s.sum + s.fnval / (rz * (s.zn + lambda)),
+    }
+}
+
+fn step(s: Round) -> Round
+    ensures { λ r. ⌜ r ≡ rdStep s ⌝ }
+{
+    let rz = sqrt(s.zn);
+    let lambda = lambda_of(sqrt(s.xn), sqrt(s.yn), rz);
+    moved(s, lambda, rz)
+}
+
+fn close(s: Round) -> bool
+    ensures { λ r. ⌜ r ≡ rdClose s ⌝ }
+{
+    s.q < s.an
+}
+
+fn correction(fnval: f64, a0: f64, x: f64, an: f64) -> f64
+    ensures { λ r. ⌜ r ≡ rdCorrection fnval a0 x an ⌝ }
+{
+    fnval * (a0 - x) / an
+}
+
+// The series, of the corrections x and y.
+fn factor(x: f64, y: f64) -> f64
+    ensures { λ r. ⌜ r ≡ rdFactor x y ⌝ }
+{
+    let z = -(x + y) / 3.0;
+    let xyz = x * y * z;
+    let z2 = z * z;
+    let z3 = z2 * z;
+    third_kind(
+        x * y - 6.0 * z2,
+        3.0 * xyz - 8.0 * z3,
+        3.0 * (xyz - z3) * z,
+        xyz * z2,
+    )
+}
+
+// Of a state that is close: with the mean a0 and the arguments x and y of the start.
+pub fn series(x: f64, y: f64, a0: f64, an: f64, fnval: f64, sum: f64) -> f64
+    ensures { λ r. ⌜ r ≡ rdSeries x y a0 an fnval sum ⌝ }
+{
+    let f = factor(correction(fnval, a0, x, an), correction(fnval, a0, y, an));
+    fnval * pow_neg_3_2(an) * f + 3.0 * sum
+}
+
+pub fn duplicated(x: f64, y: f64, z: f64) -> Found
+    ensures { λ r. ⌜ r ≡ rdDuplication x y z ⌝ }
+{
+    let mut at = begin(x, y, z);
+    let a0 = at.an;
+    let mut n: u32 = 0;
+    loop {
+        if n == CAP {
+            break duplication(not_a_number(), n);
+        }
+        at = step(at);
+        n += 1;
+        if close(at) {
+            break duplication(series(x, y, a0, at.an, at.fnval, at.sum), n);
+        }
+    }
+}

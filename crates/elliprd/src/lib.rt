@@ -1,0 +1,138 @@
+// RD, the degenerate symmetric elliptic integral of the third kind (elliprd.rs; DLMF 19.16.5).
+pub mod duplicate;
+mod means;
+
+use crate::duplicate::duplicated;
+use crate::means::agm_of;
+use binary64::min;
+use carlson::answer::Answer;
+use carlson::answer::Found;
+use carlson::answer::closed;
+use carlson::answer::settle_late;
+use carlson::checks::any_infinite3;
+use carlson::checks::any_nan3;
+use carlson::checks::both;
+use carlson::constants::BELOW_ZERO;
+use carlson::constants::NO_RESULT;
+use carlson::constants::PI;
+use carlson::constants::Z_NOT_ABOVE;
+use carlson::constants::ZEROS;
+use carlson::rescaling::beyond;
+use carlson::rescaling::scale3;
+use carlson::rescaling::stay3;
+use root::sqrt;
+ghost use mathlib.Core.Path.{_≡_};
+ghost use Rattle.elliprd.specs.Rd.{rdEqual, rdZero, rdGeneral, rdOrdered, rdSteps, overScale, rdRescaled, rdUnchecked, rdSettled, rd};
+
+// RD(x, x, x)
+fn all_equal(x: f64) -> Answer
+    ensures { λ r. ⌜ r ≡ rdEqual x ⌝ }
+{
+    Answer::Value(closed(1.0 / (x * sqrt(x))))
+}
+
+// RD(0, y, y)
+fn one_zero(y: f64) -> Answer
+    ensures { λ r. ⌜ r ≡ rdZero y ⌝ }
+{
+    Answer::Value(closed(3.0 * PI / (4.0 * y * sqrt(y))))
+}
+
+// The mean only at moderate ratios: a large y / z makes its identity subtract nearly equal terms.
+fn general(x: f64, y: f64, z: f64) -> Answer
+    ensures { λ r. ⌜ r ≡ rdGeneral x y z ⌝ }
+{
+    if x == 0.0 {
+        if y <= 16.0 * z {
+            return agm_of(y, z);
+        }
+        return Answer::Value(duplicated(x, y, z));
+    }
+    Answer::Value(duplicated(x, y, z))
+}
+
+// x and y are in the order in which the steps want them.
+fn ordered(x: f64, y: f64, z: f64) -> Answer
+    ensures { λ r. ⌜ r ≡ rdOrdered x y z ⌝ }
+{
+    if y == z {
+        if x == y {
+            return all_equal(x);
+        }
+        if x == 0.0 {
+            return one_zero(y);
+        }
+        return general(x, y, z);
+    }
+    general(x, y, z)
+}
+
+fn steps(x: f64, y: f64, z: f64) -> Answer
+    ensures { λ r. ⌜ r ≡ rdSteps x y z ⌝ }
+{
+    if x == z {
+        return ordered(y, x, z);
+    }
+    ordered(x, y, z)
+}
+
+// What was found at the rescaled arguments, over the scale and then its root.
+pub fn over_scale(a: Answer, scale: f64) -> Answer
+    ensures { λ r. ⌜ r ≡ overScale a scale ⌝ }
+{
+    match a {
+        Answer::Value(found) => Answer::Value(Found {
+            value: found.value / scale / sqrt(scale),
+            rounds: found.rounds,
+        }),
+        Answer::Refused(n) => Answer::Refused(n),
+    }
+}
+
+fn rescaled(x: f64, y: f64, z: f64, scale: f64) -> Answer
+    ensures { λ r. ⌜ r ≡ rdRescaled x y z scale ⌝ }
+{
+    over_scale(steps(x / scale, y / scale, z / scale), scale)
+}
+
+// The inner part: any three f64s, any f64 back with its rounds, or no. 9.
+pub fn elliprd_unchecked(x: f64, y: f64, z: f64) -> Answer
+    ensures { λ r. ⌜ r ≡ rdUnchecked x y z ⌝ }
+{
+    let scale = scale3(x, y, z);
+    if beyond(scale) {
+        if stay3(x, y, z, scale) {
+            return rescaled(x, y, z, scale);
+        }
+        return steps(x, y, z);
+    }
+    steps(x, y, z)
+}
+
+fn settled(a: Answer, nan: bool, unbounded: bool) -> Answer
+    ensures { λ r. ⌜ r ≡ rdSettled a nan unbounded ⌝ }
+{
+    match a {
+        Answer::Value(found) => settle_late(found, nan, unbounded, NO_RESULT),
+        Answer::Refused(n) => Answer::Refused(n),
+    }
+}
+
+pub fn elliprd(x: f64, y: f64, z: f64) -> Answer
+    ensures { λ r. ⌜ r ≡ rd x y z ⌝ }
+{
+    if min(x, y) < 0.0 {
+        return Answer::Refused(BELOW_ZERO);
+    }
+    if both(x == 0.0, y == 0.0) {
+        return Answer::Refused(ZEROS);
+    }
+    if z <= 0.0 {
+        return Answer::Refused(Z_NOT_ABOVE);
+    }
+    settled(
+        elliprd_unchecked(x, y, z),
+        any_nan3(x, y, z),
+        any_infinite3(x, y, z),
+    )
+}

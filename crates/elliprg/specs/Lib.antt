@@ -1,0 +1,4 @@
+pub mod Sorting
+pub mod Means
+pub mod Joint
+pub mod Rg

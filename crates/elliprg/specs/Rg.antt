@@ -1,0 +1,67 @@
+-- RG as the steps of elliprg.rs, each rounded once, with document 01's rescaling, numbers and order. Definitions only.
+use mathlib.Core.Bool.{Bool, false, cond}
+use lib.Ieee.{Float, eq}
+use Rattle.binary64.specs.Operators.{_⊕_, _⊗_, _⊘_}
+use Rattle.root.specs.Root.{root}
+use Rattle.carlson.specs.Constants.{zero, two, four, pi, below-zero, rg-no-result}
+use Rattle.carlson.specs.Rescaling.{scaleOf3, beyondLimits, survive3}
+use Rattle.carlson.specs.Checks.{anyNan3, below3}
+use Rattle.carlson.specs.Answer.{closedAt, settledLate}
+use Rattle.carlson.specs.declared.answer.Answer.{Answer}
+use Rattle.carlson.specs.declared.answer.Answer.the-variants.{Value, Refused}
+use Rattle.elliprc.specs.Rc.{rcUnchecked}
+use Rattle.elliprg.specs.declared.sorting.Triple.{Triple}
+use Rattle.elliprg.specs.Sorting.{sortedOf}
+use Rattle.elliprg.specs.Means.{rgAgmOf}
+use Rattle.elliprg.specs.Joint.{rgJoint}
+
+-- ---- special cases (DLMF 19.20(ii))
+-- RG(x, x, x)
+unfoldable pub rgEqual : Float → Answer
+rgEqual x = Value (closedAt (root x))
+
+-- RG(0, y, y)
+unfoldable pub rgZero : Float → Answer
+rgZero y = Value (closedAt (pi ⊗ root y ⊘ four))
+
+-- RG(x, y, y)
+unfoldable pub rgTwo : Float → Float → Answer
+rgTwo x y = Value (closedAt ((y ⊗ rcUnchecked x y ⊕ root x) ⊘ two))
+
+-- RG(0, 0, x)
+unfoldable pub rgAlone : Float → Answer
+rgAlone x = Value (closedAt (root x ⊘ two))
+
+unfoldable pub rgTop : Float → Float → Float → Answer
+rgTop x y z = cond (eq y z) (rgEqual x) (cond (eq y zero) (rgZero x) (rgTwo y x))
+
+unfoldable pub rgLow : Float → Float → Answer
+rgLow x y = cond (eq y zero) (rgAlone x) (rgTwo x y)
+
+unfoldable pub rgSorted : Float → Float → Float → Answer
+rgSorted x y z =
+    cond (eq x z) (rgTop x y z) (cond (eq y z) (rgLow x y) (cond (eq y zero) (rgAgmOf x z) (Value (rgJoint x y z))))
+
+unfoldable pub rgSteps : Float → Float → Float → Answer
+rgSteps x y z = let t = sortedOf (record { x = x; y = y; z = z }) in rgSorted (t .x) (t .y) (t .z)
+
+-- ---- rescaling: "multiplied by the root"
+unfoldable pub timesRoot : Answer → Float → Answer
+timesRoot (Value f) s = Value (record { value = f .value ⊗ root s; rounds = f .rounds })
+timesRoot (Refused n) s = Refused n
+
+unfoldable pub rgRescaled : Float → Float → Float → Float → Answer
+rgRescaled x y z s = timesRoot (rgSteps (x ⊘ s) (y ⊘ s) (z ⊘ s)) s
+
+unfoldable pub rgUnchecked : Float → Float → Float → Answer
+rgUnchecked x y z =
+    let s = scaleOf3 x y z in
+    cond (beyondLimits s) (cond (survive3 x y z s) (rgRescaled x y z s) (rgSteps x y z)) (rgSteps x y z)
+
+-- ---- the entry: 2, steps with 9; finite stands; else 1, 8
+unfoldable pub rgSettled : Answer → Bool → Answer
+rgSettled (Value f) nan = settledLate f nan false rg-no-result
+rgSettled (Refused n) nan = Refused n
+
+unfoldable pub rg : Float → Float → Float → Answer
+rg x y z = cond (below3 x y z) (Refused below-zero) (rgSettled (rgUnchecked x y z) (anyNan3 x y z))

@@ -1,0 +1,151 @@
+// RG, the symmetric elliptic integral of the second kind (elliprg.rs; DLMF 19.16.2_5).
+mod joint;
+mod means;
+mod sorting;
+
+use crate::joint::joined;
+use crate::means::agm_of;
+use crate::sorting::Triple;
+use crate::sorting::sorted;
+use carlson::answer::Answer;
+use carlson::answer::Found;
+use carlson::answer::closed;
+use carlson::answer::settle_late;
+use carlson::checks::any_nan3;
+use carlson::checks::below3;
+use carlson::constants::BELOW_ZERO;
+use carlson::constants::PI;
+use carlson::constants::RG_NO_RESULT;
+use carlson::rescaling::beyond;
+use carlson::rescaling::scale3;
+use carlson::rescaling::stay3;
+use elliprc::elliprc_unchecked;
+use root::sqrt;
+ghost use mathlib.Core.Path.{_≡_};
+ghost use mathlib.Core.Bool.{false};
+ghost use Rattle.elliprg.specs.Rg.{rgEqual, rgZero, rgTwo, rgAlone, rgTop, rgLow, rgSorted, rgSteps, timesRoot, rgRescaled, rgUnchecked, rgSettled, rg};
+
+// RG(x, x, x)
+fn all_equal(x: f64) -> Answer
+    ensures { λ r. ⌜ r ≡ rgEqual x ⌝ }
+{
+    Answer::Value(closed(sqrt(x)))
+}
+
+// RG(0, y, y)
+fn one_zero(y: f64) -> Answer
+    ensures { λ r. ⌜ r ≡ rgZero y ⌝ }
+{
+    Answer::Value(closed(PI * sqrt(y) / 4.0))
+}
+
+// RG(x, y, y)
+fn two_equal(x: f64, y: f64) -> Answer
+    ensures { λ r. ⌜ r ≡ rgTwo x y ⌝ }
+{
+    Answer::Value(closed((y * elliprc_unchecked(x, y) + sqrt(x)) / 2.0))
+}
+
+// RG(0, 0, x)
+fn alone(x: f64) -> Answer
+    ensures { λ r. ⌜ r ≡ rgAlone x ⌝ }
+{
+    Answer::Value(closed(sqrt(x) / 2.0))
+}
+
+// The two larger ones are equal.
+fn top_equal(x: f64, y: f64, z: f64) -> Answer
+    ensures { λ r. ⌜ r ≡ rgTop x y z ⌝ }
+{
+    if y == z {
+        return all_equal(x);
+    }
+    if y == 0.0 {
+        return one_zero(x);
+    }
+    two_equal(y, x)
+}
+
+// The two smaller ones are equal.
+fn low_equal(x: f64, y: f64) -> Answer
+    ensures { λ r. ⌜ r ≡ rgLow x y ⌝ }
+{
+    if y == 0.0 {
+        return alone(x);
+    }
+    two_equal(x, y)
+}
+
+// y <= z <= x, but for NaN.
+fn in_order(x: f64, y: f64, z: f64) -> Answer
+    ensures { λ r. ⌜ r ≡ rgSorted x y z ⌝ }
+{
+    if x == z {
+        return top_equal(x, y, z);
+    }
+    if y == z {
+        return low_equal(x, y);
+    }
+    if y == 0.0 {
+        return agm_of(x, z);
+    }
+    Answer::Value(joined(x, y, z))
+}
+
+fn steps(x: f64, y: f64, z: f64) -> Answer
+    ensures { λ r. ⌜ r ≡ rgSteps x y z ⌝ }
+{
+    let t = sorted(Triple { x, y, z });
+    in_order(t.x, t.y, t.z)
+}
+
+// What was found at the rescaled arguments, times the scale's root.
+fn times_root(a: Answer, scale: f64) -> Answer
+    ensures { λ r. ⌜ r ≡ timesRoot a scale ⌝ }
+{
+    match a {
+        Answer::Value(found) => Answer::Value(Found {
+            value: found.value * sqrt(scale),
+            rounds: found.rounds,
+        }),
+        Answer::Refused(n) => Answer::Refused(n),
+    }
+}
+
+fn rescaled(x: f64, y: f64, z: f64, scale: f64) -> Answer
+    ensures { λ r. ⌜ r ≡ rgRescaled x y z scale ⌝ }
+{
+    times_root(steps(x / scale, y / scale, z / scale), scale)
+}
+
+// The inner part: any three f64s, any f64 back with its rounds, or no. 9.
+pub fn elliprg_unchecked(x: f64, y: f64, z: f64) -> Answer
+    ensures { λ r. ⌜ r ≡ rgUnchecked x y z ⌝ }
+{
+    let scale = scale3(x, y, z);
+    if beyond(scale) {
+        if stay3(x, y, z, scale) {
+            return rescaled(x, y, z, scale);
+        }
+        return steps(x, y, z);
+    }
+    steps(x, y, z)
+}
+
+fn settled(a: Answer, nan: bool) -> Answer
+    ensures { λ r. ⌜ r ≡ rgSettled a nan ⌝ }
+{
+    match a {
+        Answer::Value(found) => settle_late(found, nan, false, RG_NO_RESULT),
+        Answer::Refused(n) => Answer::Refused(n),
+    }
+}
+
+pub fn elliprg(x: f64, y: f64, z: f64) -> Answer
+    ensures { λ r. ⌜ r ≡ rg x y z ⌝ }
+{
+    if below3(x, y, z) {
+        return Answer::Refused(BELOW_ZERO);
+    }
+    settled(elliprg_unchecked(x, y, z), any_nan3(x, y, z))
+}

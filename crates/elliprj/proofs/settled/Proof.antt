@@ -1,0 +1,16 @@
+-- `settled` meets its contract, case by case. Assumes nothing.
+use borrow.Author.Needs.{needs}
+use Rattle.elliprj.specs.Rj.{rjSettled}
+use Rattle.elliprj.proofs.settled.Statement.{statement}
+use Rattle.elliprj.proofs.settled.Tie as tie
+
+pub settled-spec : {M : Type 1} → statement M
+unfolding rjSettled
+settled-spec =
+    tie.close
+    (tie.spec
+    (λ c. search needs)
+    (λ c κs. tt)
+    (λ c. search needs)
+    (λ c. rw (c .before .before .a .given .1) (c .settle .ensures))
+    (λ c. rw (c .before .a2 .given .1)))

@@ -1,0 +1,82 @@
+// RJ, the symmetric elliptic integral of the third kind (elliprj.rs; DLMF 19.16.2).
+mod duplicate;
+mod helper;
+mod nearzero;
+mod plan;
+mod positive;
+mod reduction;
+
+use crate::plan::Plan;
+use crate::plan::planned;
+use crate::reduction::carried;
+use carlson::answer::Answer;
+use carlson::answer::infinite;
+use carlson::answer::settle;
+use carlson::checks::any_infinite4;
+use carlson::checks::any_nan4;
+use carlson::checks::below3;
+use carlson::checks::zeros3;
+use carlson::constants::BELOW_ZERO;
+use carlson::constants::NAN_GIVEN;
+use carlson::constants::NO_RESULT;
+use carlson::constants::TOO_DEEP;
+use carlson::constants::ZERO_GIVEN;
+use carlson::constants::ZEROS;
+use elliprd::over_scale;
+ghost use mathlib.Core.Path.{_≡_};
+ghost use Rattle.elliprj.specs.Rj.{planOf, rjRun, rjUnchecked, rjSettled, rj};
+
+// Document 01, Rounds: at most four calls deep, the first included.
+const ALLOWANCE: u32 = 4;
+
+// A call with so many left, itself included. The allowance falls with each call of itself.
+fn call(x: f64, y: f64, z: f64, p: f64, left: u32) -> Answer
+    ensures { λ r. ⌜ r ≡ rjRun left (planOf x y z p) ⌝ }
+{
+    if left == 0 {
+        return Answer::Refused(TOO_DEEP);
+    }
+    let plan = planned(x, y, z, p);
+    match plan {
+        Plan::Done(a) => a,
+        Plan::Rescale(c) => over_scale(call(c.x, c.y, c.z, c.p, left - 1), c.scale),
+        Plan::Reduce(r) => carried(r, call(r.x, r.y, r.z, r.p, left - 1)),
+    }
+}
+
+// The inner part: any four f64s, any f64 back with its rounds, or no. 9 or 10.
+pub fn elliprj_unchecked(x: f64, y: f64, z: f64, p: f64) -> Answer
+    ensures { λ r. ⌜ r ≡ rjUnchecked x y z p ⌝ }
+{
+    call(x, y, z, p, ALLOWANCE)
+}
+
+fn settled(a: Answer) -> Answer
+    ensures { λ r. ⌜ r ≡ rjSettled a ⌝ }
+{
+    match a {
+        Answer::Value(found) => settle(found, NO_RESULT),
+        Answer::Refused(n) => Answer::Refused(n),
+    }
+}
+
+pub fn elliprj(x: f64, y: f64, z: f64, p: f64) -> Answer
+    ensures { λ r. ⌜ r ≡ rj x y z p ⌝ }
+{
+    if any_nan4(x, y, z, p) {
+        return Answer::Refused(NAN_GIVEN);
+    }
+    if p == 0.0 {
+        return Answer::Refused(ZERO_GIVEN);
+    }
+    if below3(x, y, z) {
+        return Answer::Refused(BELOW_ZERO);
+    }
+    if zeros3(x, y, z) {
+        return Answer::Refused(ZEROS);
+    }
+    if any_infinite4(x, y, z, p) {
+        return infinite();
+    }
+    settled(elliprj_unchecked(x, y, z, p))
+}
