@@ -1,22 +1,14 @@
-use borrow.Author.Needs.{needs}
+-- `gatewren_rc` meets its contract: it hands out what the entry answers. Assumes nothing.
+use mathlib.Core.Path.{sym}
 use Rattle.gatewren.proofs.entries.gatewren_rc.Statement.{statement}
 use Rattle.gatewren.proofs.entries.gatewren_rc.Tie as tie
-use Rattle.gatewren.proofs.entries.gatewren_rc.Reads as reads
-use Rattle.gatewren.proofs.entries.gatewren_rc.Lts as lts
-use Rattle.elliprc.proofs.elliprc.Reads as elliprc-reads
-use Rattle.gatewren.proofs.entries.told.Reads as told-reads
-
--- src/entries.rt:32:10
-elliprc-requires : tie.Need-elliprc-requires
-elliprc-requires c κs = search needs
-
--- src/entries.rt:32:5
-told-requires : tie.Need-told-requires
-told-requires c κs = search needs
-
--- src/entries.rt:26:1
-returns : tie.Need-returns
-returns c = ?
 
 pub gatewren-rc-spec : {M : Type 1} → statement M
-gatewren-rc-spec = tie.close (tie.spec elliprc-requires told-requires returns)
+gatewren-rc-spec =
+    tie.close
+    (tie.spec
+    (λ c κs. tt)
+    (λ c κs. tt)
+    (λ c.
+        let e = sym (c .before .before .before .elliprc .ensures) in
+        (rw e (c .told .ensures .0), (rw e (c .told .ensures .1 .0), rw e (c .told .ensures .1 .1)))))

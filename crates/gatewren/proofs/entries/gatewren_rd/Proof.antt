@@ -1,22 +1,14 @@
-use borrow.Author.Needs.{needs}
+-- `gatewren_rd` meets its contract: it hands out what the entry answers. Assumes nothing.
+use mathlib.Core.Path.{sym}
 use Rattle.gatewren.proofs.entries.gatewren_rd.Statement.{statement}
 use Rattle.gatewren.proofs.entries.gatewren_rd.Tie as tie
-use Rattle.gatewren.proofs.entries.gatewren_rd.Reads as reads
-use Rattle.gatewren.proofs.entries.gatewren_rd.Lts as lts
-use Rattle.elliprd.proofs.elliprd.Reads as elliprd-reads
-use Rattle.gatewren.proofs.entries.told.Reads as told-reads
-
--- src/entries.rt:50:10
-elliprd-requires : tie.Need-elliprd-requires
-elliprd-requires c κs = search needs
-
--- src/entries.rt:50:5
-told-requires : tie.Need-told-requires
-told-requires c κs = search needs
-
--- src/entries.rt:44:1
-returns : tie.Need-returns
-returns c = ?
 
 pub gatewren-rd-spec : {M : Type 1} → statement M
-gatewren-rd-spec = tie.close (tie.spec elliprd-requires told-requires returns)
+gatewren-rd-spec =
+    tie.close
+    (tie.spec
+    (λ c κs. tt)
+    (λ c κs. tt)
+    (λ c.
+        let e = sym (c .before .before .before .elliprd .ensures) in
+        (rw e (c .told .ensures .0), (rw e (c .told .ensures .1 .0), rw e (c .told .ensures .1 .1)))))

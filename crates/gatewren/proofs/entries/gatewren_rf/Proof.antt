@@ -1,22 +1,14 @@
-use borrow.Author.Needs.{needs}
+-- `gatewren_rf` meets its contract: it hands out what the entry answers. Assumes nothing.
+use mathlib.Core.Path.{sym}
 use Rattle.gatewren.proofs.entries.gatewren_rf.Statement.{statement}
 use Rattle.gatewren.proofs.entries.gatewren_rf.Tie as tie
-use Rattle.gatewren.proofs.entries.gatewren_rf.Reads as reads
-use Rattle.gatewren.proofs.entries.gatewren_rf.Lts as lts
-use Rattle.elliprf.proofs.elliprf.Reads as elliprf-reads
-use Rattle.gatewren.proofs.entries.told.Reads as told-reads
-
--- src/entries.rt:41:10
-elliprf-requires : tie.Need-elliprf-requires
-elliprf-requires c κs = search needs
-
--- src/entries.rt:41:5
-told-requires : tie.Need-told-requires
-told-requires c κs = search needs
-
--- src/entries.rt:35:1
-returns : tie.Need-returns
-returns c = ?
 
 pub gatewren-rf-spec : {M : Type 1} → statement M
-gatewren-rf-spec = tie.close (tie.spec elliprf-requires told-requires returns)
+gatewren-rf-spec =
+    tie.close
+    (tie.spec
+    (λ c κs. tt)
+    (λ c κs. tt)
+    (λ c.
+        let e = sym (c .before .before .before .elliprf .ensures) in
+        (rw e (c .told .ensures .0), (rw e (c .told .ensures .1 .0), rw e (c .told .ensures .1 .1)))))

@@ -1,22 +1,14 @@
-use borrow.Author.Needs.{needs}
+-- `gatewren_rg` meets its contract: it hands out what the entry answers. Assumes nothing.
+use mathlib.Core.Path.{sym}
 use Rattle.gatewren.proofs.entries.gatewren_rg.Statement.{statement}
 use Rattle.gatewren.proofs.entries.gatewren_rg.Tie as tie
-use Rattle.gatewren.proofs.entries.gatewren_rg.Reads as reads
-use Rattle.gatewren.proofs.entries.gatewren_rg.Lts as lts
-use Rattle.elliprg.proofs.elliprg.Reads as elliprg-reads
-use Rattle.gatewren.proofs.entries.told.Reads as told-reads
-
--- src/entries.rt:59:10
-elliprg-requires : tie.Need-elliprg-requires
-elliprg-requires c κs = search needs
-
--- src/entries.rt:59:5
-told-requires : tie.Need-told-requires
-told-requires c κs = search needs
-
--- src/entries.rt:53:1
-returns : tie.Need-returns
-returns c = ?
 
 pub gatewren-rg-spec : {M : Type 1} → statement M
-gatewren-rg-spec = tie.close (tie.spec elliprg-requires told-requires returns)
+gatewren-rg-spec =
+    tie.close
+    (tie.spec
+    (λ c κs. tt)
+    (λ c κs. tt)
+    (λ c.
+        let e = sym (c .before .before .before .elliprg .ensures) in
+        (rw e (c .told .ensures .0), (rw e (c .told .ensures .1 .0), rw e (c .told .ensures .1 .1)))))

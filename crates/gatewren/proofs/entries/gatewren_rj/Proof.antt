@@ -1,22 +1,14 @@
-use borrow.Author.Needs.{needs}
+-- `gatewren_rj` meets its contract: it hands out what the entry answers. Assumes nothing.
+use mathlib.Core.Path.{sym}
 use Rattle.gatewren.proofs.entries.gatewren_rj.Statement.{statement}
 use Rattle.gatewren.proofs.entries.gatewren_rj.Tie as tie
-use Rattle.gatewren.proofs.entries.gatewren_rj.Reads as reads
-use Rattle.gatewren.proofs.entries.gatewren_rj.Lts as lts
-use Rattle.elliprj.proofs.elliprj.Reads as elliprj-reads
-use Rattle.gatewren.proofs.entries.told.Reads as told-reads
-
--- src/entries.rt:75:10
-elliprj-requires : tie.Need-elliprj-requires
-elliprj-requires c κs = search needs
-
--- src/entries.rt:75:5
-told-requires : tie.Need-told-requires
-told-requires c κs = search needs
-
--- src/entries.rt:62:1
-returns : tie.Need-returns
-returns c = ?
 
 pub gatewren-rj-spec : {M : Type 1} → statement M
-gatewren-rj-spec = tie.close (tie.spec elliprj-requires told-requires returns)
+gatewren-rj-spec =
+    tie.close
+    (tie.spec
+    (λ c κs. tt)
+    (λ c κs. tt)
+    (λ c.
+        let e = sym (c .before .before .before .elliprj .ensures) in
+        (rw e (c .told .ensures .0), (rw e (c .told .ensures .1 .0), rw e (c .told .ensures .1 .1)))))
