@@ -32,6 +32,20 @@ pub fn run(name: &str, n: u64, seed: u64) -> bool {
     }
 }
 
+/// `answers`: what a series leaf of the proved library says to the patterns on standard input, a line each.
+pub fn answers(name: &str) -> bool {
+    let Some(leaf) = series::linked(name) else {
+        eprintln!("{name} is no series leaf, or not linked (README.md)");
+        return false;
+    };
+    for line in std::io::stdin().lines() {
+        let line = line.expect("standard input");
+        let pattern = u64::from_str_radix(&line, 16).expect("sixteen digits");
+        println!("{:016X}", bits(unsafe { leaf(f64::from_bits(pattern)) }));
+    }
+    true
+}
+
 #[derive(Default)]
 struct Tally {
     cases: u64,

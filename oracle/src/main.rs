@@ -15,7 +15,7 @@ mod units;
 
 use std::process::ExitCode;
 
-const USAGE: &str = "oracle examples | make-list | check-list | call | diff N [SEED] | leaf NAME N [SEED]";
+const USAGE: &str = "oracle examples | make-list | check-list | call | diff N [SEED] | leaf NAME N [SEED] | answers NAME";
 
 fn main() -> ExitCode {
     let words: Vec<String> = std::env::args().skip(1).collect();
@@ -27,6 +27,7 @@ fn main() -> ExitCode {
         ["call"] => listing::run(),
         ["diff", n] => diff::run(number(n), 1),
         ["diff", n, seed] => diff::run(number(n), number(seed)),
+        ["answers", name] => leaf::answers(name),
         ["leaf", name, n] => leaf::run(name, number(n), 1),
         ["leaf", name, n, seed] => leaf::run(name, number(n), number(seed)),
         _ => {

@@ -6,11 +6,24 @@ use crate::shapes::{corner, moved, scaled, wide, CORNERS};
 use crate::symbols;
 use doc01::rules;
 
+type Leaf = unsafe extern "C" fn(f64) -> f64;
+
+/// The leaf of the proved library, as far as it is linked.
+pub fn linked(name: &str) -> Option<Leaf> {
+    match name {
+        "atan" => symbols::ATAN,
+        "ln" => symbols::LN,
+        "ln_1p" => symbols::LN_1P,
+        _ => None,
+    }
+}
+
 pub fn run(name: &str, n: u64, random: &mut Random) -> Option<Tally> {
-    let (leaf, rule): (_, fn(f64) -> f64) = match name {
-        "atan" => (symbols::ATAN?, rules::atan),
-        "ln" => (symbols::LN?, rules::ln),
-        _ => (symbols::LN_1P?, rules::ln_1p),
+    let leaf = linked(name)?;
+    let rule: fn(f64) -> f64 = match name {
+        "atan" => rules::atan,
+        "ln" => rules::ln,
+        _ => rules::ln_1p,
     };
     let mut tally = Tally::default();
     let mut take = |a: f64| {
