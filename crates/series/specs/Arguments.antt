@@ -103,6 +103,13 @@ inverse-none a h =
     ] in
     div-eq-of-lt (lt-of-lt-of-le (lit< {m = 2 ^ 1136} {n = 2 ^ 1137} tt) long)
 
+-- ---- ln: the size is digits / 2 ^ 52 times 2 ^ e (for readers of `ln-within`)
+pub ln-parts : (b : ℕ) → one ≤ b → value b * 2 ^ 52 ≡ digits b * 2 ^ (field b - 1023) * 2 ^ 1074
+ln-parts b h =
+    let i = field b - 1 in
+    let e : i + 52 ≡ field b - 1023 + 1074 = omega arith in
+    ap (λ (v : ℕ). v * 2 ^ 52) (size-is b (omega arith)) ∙ scale i 52 (field b - 1023) e (digits b)
+
 -- ---- ln_1p: a seed is that of the quotient, however it is written
 seed-low : Order 5 (λ g d n P K. (K times g :* d ≼ n :* P :+ d) ∷ [] ⊩ g :* (d :* K) ≈ n :* K :* P :+ d :* K)
 seed-low = by-below tt

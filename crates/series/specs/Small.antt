@@ -15,7 +15,8 @@ use Rattle.series.specs.Ln1p as one-plus
 
 -- n is the size and u its unit, both in units of 2 ^ -1074
 cube : Order 2 (λ n u.
-    (con (2 ^ 1074) :* n :* n times n ≼ con (2 ^ 53) :* u) ∷ (con (2 ^ 1127) :* u :* n times n ≼ con (2 ^ 1047)) ∷ (con (2 ^ 2174) :* u times n ≼ con (2 ^ 1047)) ∷ []
+    (con (2 ^ 1074) :* n :* n times n ≼ con (2 ^ 53) :* u)
+    ∷ (con (2 ^ 1127) :* u :* n times n ≼ con (2 ^ 1047)) ∷ (con (2 ^ 2174) :* u times n ≼ con (2 ^ 1047)) ∷ []
     ⊩ n :* (n :* n) :* con (2 ^ 1074) ≈ u :* (con (2 ^ 1074) :* (con (2 ^ 1074) :* con (2 ^ 1074))))
 cube = by-below tt
 

@@ -179,12 +179,14 @@ module _ (a : ℕ) (small : a ≤ last) where
     | inr l ↦
         let range = cases.ln-1p-range a l small in
         let some = gain-size (1022 - field a) (digits a) (range .low) in
+        let j = 1022 - field a in
         near-is (sym (ln-1p-is 0 (omega arith) l))
-        (double-rounded 0 (omega arith) (gain (number a)) (gain-proper (number a)) (1022 - field a) (gain-seed (1022 - field a) (digits a)) (seed-above a l small) (omega arith) some)
+        (double-rounded 0 (omega arith) (gain (number a)) (gain-proper (number a)) j (gain-seed j (digits a)) (seed-above a l small) (omega arith) some)
   ]
 
   -- THEOREM
-  pub ln-1p-within-below : Near 1 (ln-1p (signed 1 a)) (double-lower (loss (number a) below-one)) (double-upper (loss (number a) below-one) (loss-proper (number a) below-one))
+  pub ln-1p-within-below : let r = loss (number a) below-one in
+      Near 1 (ln-1p (signed 1 a)) (double-lower r) (double-upper r (loss-proper (number a) below-one))
   ln-1p-within-below = elim (lt-or-le a one-plus.tiny) [
     | inl l ↦ record {
       bits = a;
@@ -196,11 +198,13 @@ module _ (a : ℕ) (small : a ≤ last) where
         let range = cases.ln-1p-range a l small in
         let fits : digits a ≤ 2 ^ 53 = omega arith in
         let some = loss-size (1022 - field a) (digits a) (range .low) fits in
+        let j = 1022 - field a in
+        let r = loss (number a) below-one in
         near-is (sym (ln-1p-is 1 (omega arith) l))
-        (double-rounded 1 (omega arith) (loss (number a) below-one) (loss-proper (number a) below-one) (1022 - field a) (loss-seed (1022 - field a) (digits a)) (seed-below a l small below-one) (omega arith) some)
+        (double-rounded 1 (omega arith) r (loss-proper (number a) below-one) j (loss-seed j (digits a)) (seed-below a l small below-one) (omega arith) some)
   ]
 
--- ---- ln from 2 up: the number is m * 2 ^ e, m = digits / 2 ^ 52
+-- ---- ln from 2 up: the number is m * 2 ^ e, m = digits / 2 ^ 52 (`ln-parts`)
 -- THEOREM
 pub ln-within : (b : ℕ) → two ≤ b → b < infinity
     → Near 0 (ln (ofBits binary64 b)) (ln-lower (units 52 (digits b)) (field b - 1023)) (ln-upper (units 52 (digits b)) (field b - 1023))

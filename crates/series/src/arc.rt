@@ -10,13 +10,25 @@ ghost use lib.Dec.{eqb};
 ghost use Rattle.enclosure.specs.Rules.{atan-answer};
 ghost use Rattle.series.specs.Atan.{tiny, one, far, below-one, above-one, atan};
 
-const TOP: u64 = 0x8000_0000_0000_0000; // the sign's weight in a pattern
+const TOP: u64 = 0x8000_0000_0000_0000; // the weights in a pattern: of the sign,
 
-const ONE: u64 = 0x10_0000_0000_0000; // 2 ^ 52: the exponent's
+const FIELD: u64 = 0x10_0000_0000_0000; // and of the exponent's field, 2 ^ 52
+
+const TINY: u64 = 0x3e40_0000_0000_0000; // the patterns of 2 ^ -27,
+
+const ONE: u64 = 0x3ff0_0000_0000_0000; // of 1,
+
+const FAR: u64 = 0x43e0_0000_0000_0000; // of 2 ^ 63,
+
+const INFINITY: u64 = 0x7ff0_0000_0000_0000; // of the infinity,
+
+const QUARTER_PI: u64 = 0x3fe9_21fb_5444_2d18; // of atan at 1,
+
+const HALF_PI: u64 = 0x3ff9_21fb_5444_2d18; // and at the infinity
 
 const UNITS: u64 = 0x4000_0000_0000_0000; // 2 ^ 62: one in units of 2 ^ -62
 
-const HALF_PI: u64 = 0x6487_ed51_10b4_611a; // π/2 in units of 2 ^ -62, rounded down
+const HALF_PI_UNITS: u64 = 0x6487_ed51_10b4_611a; // and π/2, rounded down
 
 // atan of tau units of 2 ^ -(62 + j), in these units.
 fn arc(j: u64, tau: u64) -> u64
@@ -34,8 +46,8 @@ fn below_one(s: u64, a: u64) -> f64
     requires { ⌜ (s ≤ 1) × (tiny ≤ a) × (a < one) ⌝ }
     ensures { λ r. ⌜ r ≡ below-one (eqb s 1) a ⌝ }
 {
-    let j = 1022 - a / ONE;
-    scaled(arc(j, (a % ONE + ONE) * 512), 62 + j, s)
+    let j = 1022 - a / FIELD;
+    scaled(arc(j, (a % FIELD + FIELD) * 512), 62 + j, s)
 }
 
 // From 1 to 2 ^ 63, likewise: π/2 less atan of the inverse.
@@ -43,8 +55,8 @@ fn above_one(s: u64, a: u64) -> f64
     requires { ⌜ (s ≤ 1) × (one < a) × (a < far) ⌝ }
     ensures { λ r. ⌜ r ≡ above-one (eqb s 1) a ⌝ }
 {
-    let tau = quotient(UNITS / 2, (a % ONE + ONE) * 512) >> (a / ONE - 1023);
-    scaled(HALF_PI - arc(0, tau), 62, s)
+    let tau = quotient(UNITS / 2, (a % FIELD + FIELD) * 512) >> (a / FIELD - 1023);
+    scaled(HALF_PI_UNITS - arc(0, tau), 62, s)
 }
 
 pub fn atan(x: f64) -> f64
@@ -53,20 +65,20 @@ pub fn atan(x: f64) -> f64
     let b = split(x);
     let a = b % TOP;
     let s = b / TOP;
-    if a < 0x3e40_0000_0000_0000 {
+    if a < TINY {
         return x;
     }
-    if a < 0x3ff0_0000_0000_0000 {
+    if a < ONE {
         return below_one(s, a);
     }
-    if a == 0x3ff0_0000_0000_0000 {
-        return f64::from_bits(0x3fe9_21fb_5444_2d18 + s * TOP);
+    if a == ONE {
+        return f64::from_bits(QUARTER_PI + s * TOP);
     }
-    if a < 0x43e0_0000_0000_0000 {
+    if a < FAR {
         return above_one(s, a);
     }
-    if a <= 0x7ff0_0000_0000_0000 {
-        return f64::from_bits(0x3ff9_21fb_5444_2d18 + s * TOP);
+    if a <= INFINITY {
+        return f64::from_bits(HALF_PI + s * TOP);
     }
     0.0 / 0.0
 }

@@ -14,16 +14,24 @@ ghost use Rattle.series.specs.Ln.{ln, ln-from-two};
 ghost use Rattle.series.specs.Ln1p.{ln-1p, seed};
 ghost use Rattle.series.specs.Ranges.{Seeded, Exponent, Small};
 
-const TOP: u64 = 0x8000_0000_0000_0000; // the sign's weight in a pattern
+const TOP: u64 = 0x8000_0000_0000_0000; // the weights in a pattern: of the sign,
 
-const ONE: u64 = 0x10_0000_0000_0000; // 2 ^ 52: the exponent's
+const FIELD: u64 = 0x10_0000_0000_0000; // and of the exponent's field, 2 ^ 52
+
+const TINY: u64 = 0x3c90_0000_0000_0000; // the patterns of 2 ^ -54,
+
+const LAST: u64 = 0x3fe8_0000_0000_0000; // of 3/4,
+
+const TWO: u64 = 0x4000_0000_0000_0000; // of 2,
+
+const INFINITY: u64 = 0x7ff0_0000_0000_0000; // and of the infinity
 
 const LN_TWO: u64 = 0x58b9_0bfb_e8e7_bcd5; // ln 2 in units of 2 ^ -63, rounded down
 
-const FOUR: u64 = 0x4000_0000_0000_0000; // 2 ^ 62: 4 in the units of a divisor of `ln_1p`
+const FOUR: u64 = 0x4000_0000_0000_0000; // 4 in units of 2 ^ -60, those of a divisor
 
-// T(s), where s is sg units of 2 ^ -(62 + j), in these units. The square in units of 2 ^ -64 is shifted by j twice over, since 2 * j may be past a
-// word; with a branch for that, LLVM would make jumps of the table's rows.
+// T(s), where s is sg units of 2 ^ -(62 + j), in these units. The square in units of 2 ^ -64 is shifted by j twice over, since 2 * j
+// may be more than a word has; with a branch for that, LLVM would make jumps of the table's rows.
 fn t_sum(j: u64, sg: u64) -> u64
     requires { ⌜ Seeded j sg ⌝ }
     ensures { λ r. ⌜ r ≡ T-answer j sg ⌝ }
@@ -38,7 +46,7 @@ fn from_two(e: u64, m: u64) -> f64
     ensures { λ r. ⌜ r ≡ ln-from-two e m ⌝ }
 {
     let z = u64::leading_zeros(e) as u64;
-    let t = t_sum(1, quotient((m - ONE) * 512, (m + ONE) * 256));
+    let t = t_sum(1, quotient((m - FIELD) * 512, (m + FIELD) * 256));
     scaled(high(e << z, LN_TWO) + (t >> (63 - z)), z - 1, 0)
 }
 
@@ -46,13 +54,13 @@ pub fn ln(x: f64) -> f64
     ensures { λ r. ⌜ r ≡ ln x ⌝ }
 {
     let b = split(x);
-    if b < 0x4000_0000_0000_0000 {
+    if b < TWO {
         return 0.0 / 0.0;
     }
-    if b < 0x7ff0_0000_0000_0000 {
-        return from_two(b / ONE - 1023, b % ONE + ONE);
+    if b < INFINITY {
+        return from_two(b / FIELD - 1023, b % FIELD + FIELD);
     }
-    if b == 0x7ff0_0000_0000_0000 {
+    if b == INFINITY {
         return x;
     }
     0.0 / 0.0
@@ -83,11 +91,11 @@ pub fn ln_1p(x: f64) -> f64
 {
     let b = split(x);
     let a = b % TOP;
-    if a < 0x3c90_0000_0000_0000 {
+    if a < TINY {
         return x;
     }
-    if a <= 0x3fe8_0000_0000_0000 {
-        return near_one(b / TOP, 1022 - a / ONE, a % ONE + ONE);
+    if a <= LAST {
+        return near_one(b / TOP, 1022 - a / FIELD, a % FIELD + FIELD);
     }
     0.0 / 0.0
 }
