@@ -27,7 +27,7 @@ no-nan : (n s : ℕ) → n ≤ infinity → s ≤ 1 → (n + s * 2 ^ 63) % 2 ^ 6
 no-nan n s h l = omega arith
 
 float-from-bits-result : tie.Need-float-from-bits-result
-float-from-bits-result c = bits-number _ (no-nan 0x3fe9_21fb_5444_2d18 (c .before .before .before .split .result / 2 ^ 63) (omega arith) (omega arith))
+float-from-bits-result c = bits-number _ (no-nan _ (c .before .before .before .split .result / 2 ^ 63) (omega arith) (omega arith))
 
 quarter-pi-is : ofBits binary64 0x3fe9_21fb_5444_2d18 ≡ round binary64 false (atan-answer 0 (2 ^ 62)) (2 ^ 62)
 unfolding ofBits round atan-answer value row numerators
@@ -47,7 +47,7 @@ returns-4 c =
 
 float-from-bits-result-2 : tie.Need-float-from-bits-result-2
 float-from-bits-result-2 c =
-    bits-number _ (no-nan 0x3ff9_21fb_5444_2d18 (c .before .before .before .before .before .split .result / 2 ^ 63) (omega arith) (omega arith))
+    bits-number _ (no-nan _ (c .before .before .before .before .before .split .result / 2 ^ 63) (omega arith) (omega arith))
 
 half-pi-is : ofBits binary64 0x3ff9_21fb_5444_2d18 ≡ round binary64 false half-pi (2 ^ 62)
 unfolding ofBits round
