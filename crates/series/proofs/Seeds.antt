@@ -42,25 +42,18 @@ divisor-range t j m d h e =
     let strict : m * 256 < d = r .0 in
     (omega arith, r .1, r .2)
 
-gain-same : (m d : ℕ) → m * 256 * 2 ^ 62 * d ≡ m * 2 ^ 7 * 2 ^ 62 * (2 * d)
-gain-same = ring 2 (λ m d. m :* con 256 :* con (2 ^ 62) :* d ≈ m :* con (2 ^ 7) :* con (2 ^ 62) :* (con 2 :* d)) tt
+-- (n is twice d)
+halved : (m d n : ℕ) → 0 < d → n ≡ 2 * d → m * 256 * 2 ^ 62 / n ≡ m * 2 ^ 7 * 2 ^ 62 / d
+halved m d n p e =
+    let q : 0 < 2 * d = omega arith in
+    ap (λ (k : ℕ). m * 256 * 2 ^ 62 / k) e ∙ div-same (m * 256 * 2 ^ 62) (2 * d) (m * 2 ^ 7 * 2 ^ 62) d q p (same m d)
+  where
+    same : (m d : ℕ) → m * 256 * 2 ^ 62 * d ≡ m * 2 ^ 7 * 2 ^ 62 * (2 * d)
+    same = ring 2 (λ m d. m :* con 256 :* con (2 ^ 62) :* d ≈ m :* con (2 ^ 7) :* con (2 ^ 62) :* (con 2 :* d)) tt
 
 pub seed-is : (t : Bool) (j m : ℕ) → m < 2 ^ 53 → m * 256 * 2 ^ 62 / divisor t (part j m) ≡ seed t j m
-seed-is true j m h =
-    let c = part j m in
-    let small : c < 2 ^ 60 = part-small j m h in
-    let d = 2 ^ 61 - c in
-    let e : 2 ^ 62 - 2 * c ≡ 2 * d = omega arith in
-    let p : 0 < 2 * d = omega arith in
-    let q : 0 < d = omega arith in
-    ap (λ (n : ℕ). m * 256 * 2 ^ 62 / n) e ∙ div-same (m * 256 * 2 ^ 62) (2 * d) (m * 2 ^ 7 * 2 ^ 62) d p q (gain-same m d)
-seed-is false j m h =
-    let c = part j m in
-    let d = 2 ^ 61 + c in
-    let e : 2 ^ 62 + 2 * c ≡ 2 * d = omega arith in
-    let p : 0 < 2 * d = omega arith in
-    let q : 0 < d = omega arith in
-    ap (λ (n : ℕ). m * 256 * 2 ^ 62 / n) e ∙ div-same (m * 256 * 2 ^ 62) (2 * d) (m * 2 ^ 7 * 2 ^ 62) d p q (gain-same m d)
+seed-is true j m h = let small : part j m < 2 ^ 60 = part-small j m h in halved m (2 ^ 61 - part j m) _ (omega arith) (omega arith)
+seed-is false j m h = halved m (2 ^ 61 + part j m) _ (omega arith) (omega arith)
 
 -- a quotient below 1
 below-one : (p d : ℕ) → p < d → p * 2 ^ 62 / d < 2 ^ 62
