@@ -1,9 +1,9 @@
 -- That no second answer would do (document 01, "How tight the contracts are"). A contract `r ≡ definition` leaves one answer by itself;
 -- shown here is that document 01's own words for the leaf leave one too, and that it is the definition's. Assumes nothing.
-use Prim.Native.Nat.{ℕ, _*_, _%_, _^_, _≤_, _<_}
+use Prim.Native.Nat.{ℕ, _%_, _^_, _≤_, _<_}
 use mathlib.Core.Path.{_≡_, refl, sym, ap, _∙_, subst}
 use mathlib.Core.Bool.{Bool, true, false, not, cond, true≢false}
-use lib.Dec.{T, not-T}
+use lib.Dec.{T}
 use lib.Ieee.{Float, nan, inf, fin, binary64, fits, isNan, lt, ofBits, toBits}
 use lib.Ieee.Bits.{ofBits-toBits, toBits-ofBits, nanBits-is}
 use Rattle.rounding.specs.Cut.{infinity}

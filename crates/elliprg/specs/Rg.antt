@@ -10,7 +10,6 @@ use Rattle.carlson.specs.Answer.{closedAt, settledLate}
 use Rattle.carlson.specs.declared.answer.Answer.{Answer}
 use Rattle.carlson.specs.declared.answer.Answer.the-variants.{Value, Refused}
 use Rattle.elliprc.specs.Rc.{rcUnchecked}
-use Rattle.elliprg.specs.declared.sorting.Triple.{Triple}
 use Rattle.elliprg.specs.Sorting.{sortedOf}
 use Rattle.elliprg.specs.Means.{rgAgmOf}
 use Rattle.elliprg.specs.Joint.{rgJoint}

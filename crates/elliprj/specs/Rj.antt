@@ -11,7 +11,6 @@ use Rattle.carlson.specs.Answer.{closedAt, infiniteAt, settled}
 use Rattle.carlson.specs.declared.answer.Answer.{Answer}
 use Rattle.carlson.specs.declared.answer.Answer.the-variants.{Value, Refused}
 use Rattle.elliprd.specs.Rd.{overScale}
-use Rattle.elliprj.specs.declared.reduction.Triple.{Triple}
 use Rattle.elliprj.specs.declared.nearzero.Near.{Near}
 use Rattle.elliprj.specs.declared.nearzero.Near.the-variants.{Taylor, Far}
 use Rattle.elliprj.specs.declared.plan.Plan.{Plan}

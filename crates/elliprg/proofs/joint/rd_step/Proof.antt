@@ -1,5 +1,5 @@
 -- `rd_step` meets its contract: a share that is done stays as it is. Assumes nothing.
-use mathlib.Core.Path.{_≡_, sym, ap, _∙_}
+use mathlib.Core.Path.{_≡_, ap, _∙_}
 use mathlib.Core.Bool.{true, false}
 use lib.Ieee.{Float}
 use Rattle.elliprg.specs.declared.joint.RdPart.{RdPart}

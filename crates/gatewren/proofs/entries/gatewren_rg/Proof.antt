@@ -10,5 +10,5 @@ gatewren-rg-spec =
     (λ c κs. tt)
     (λ c κs. tt)
     (λ c.
-        let e = sym (c .before .before .before .elliprg .ensures) in
-        (rw e (c .told .ensures .0), (rw e (c .told .ensures .1 .0), rw e (c .told .ensures .1 .1)))))
+    let e = sym (c .before .before .before .elliprg .ensures) in
+    (rw e (c .told .ensures .0), (rw e (c .told .ensures .1 .0), rw e (c .told .ensures .1 .1)))))
