@@ -1,0 +1,4 @@
+pub mod Digits
+pub mod DigitLaws
+pub mod Calls
+pub mod CallLaws

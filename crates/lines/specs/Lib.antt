@@ -1,0 +1,5 @@
+pub mod Decimal
+pub mod Written
+pub mod Answers
+pub mod Stream
+pub mod StreamLaws

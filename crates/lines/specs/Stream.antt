@@ -1,0 +1,57 @@
+-- The listing as its input comes, a byte after the other. Definitions only.
+use Prim.Native.Nat.{ℕ, _+_, _≤_}
+use mathlib.Core.Path.{_≡_}
+use mathlib.Core.Bool.{cond}
+use mathlib.Core.List.{List, [], _∷_, _++_}
+use lib.Dec.{eqb, ltb}
+use lib.ListN.{take}
+use Rattle.lines.specs.Answers.{replyOf}
+use Rattle.lines.specs.Written.{Put}
+
+-- ---- what is right: a reply to each line of the input
+-- a line ends at a newline, or with the input where something is left there
+unfoldable pub lastLine : List ℕ → List (List ℕ)
+lastLine [] = []
+lastLine (b ∷ l) = (b ∷ l) ∷ []
+
+-- the lines of the input, where `begun` is what came of the first
+unfoldable pub linesFrom : List ℕ → List ℕ → List (List ℕ)
+linesFrom begun [] = lastLine begun
+linesFrom begun (b ∷ bs) = cond (eqb b 10) (begun ∷ linesFrom [] bs) (linesFrom (begun ++ b ∷ []) bs)
+
+unfoldable pub repliesTo : List (List ℕ) → List ℕ
+repliesTo [] = []
+repliesTo (l ∷ ls) = replyOf l ++ repliesTo ls
+
+unfoldable pub listingOf : List ℕ → List ℕ
+listingOf input = repliesTo (linesFrom [] input)
+
+-- ---- how it is done: of a line that has not ended 71 bytes are held, one more than the longest good line has
+unfoldable pub heldAfter : List ℕ → ℕ → List ℕ
+heldAfter held b = cond (eqb b 10) [] (take 71 (held ++ b ∷ []))
+
+unfoldable pub saidAt : List ℕ → ℕ → List ℕ
+saidAt held b = cond (eqb b 10) (replyOf held) []
+
+-- what is held after some bytes, and what was said to them
+unfoldable pub restOf : List ℕ → List ℕ → List ℕ
+restOf held [] = held
+restOf held (b ∷ bs) = restOf (heldAfter held b) bs
+
+unfoldable pub saidOf : List ℕ → List ℕ → List ℕ
+saidOf held [] = []
+saidOf held (b ∷ bs) = saidAt held b ++ saidOf (heldAfter held b) bs
+
+-- what is said at the input's end
+unfoldable pub saidLast : List ℕ → List ℕ
+saidLast held = repliesTo (lastLine held)
+
+-- how many of `size` bytes are held after one more: a byte past the end is lost, and so is `set` there
+unfoldable pub pushed : ℕ → ℕ → ℕ
+pushed n size = cond (ltb n size) (n + 1) n
+
+-- ---- what a function that is fed some bytes does: n of the bytes in `after` are held, and what is said was put into `out`
+pub record Fed (held bytes after before : List ℕ) (at : ℕ) (out : List ℕ) (n next : ℕ) : Type 0 where
+  pub rest : take n after ≡ restOf held bytes
+  pub few : n ≤ 71
+  pub said : Put before at (saidOf held bytes) out next

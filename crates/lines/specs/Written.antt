@@ -1,0 +1,39 @@
+-- Bytes written into a longer list, one run after the other. Assumes nothing.
+use Prim.Native.Nat.{ℕ, suc, _+_}
+use mathlib.Core.Path.{_≡_, refl, ap, _∙_}
+use mathlib.Core.List.{List, [], _∷_, _++_}
+use native.Mathlib.Nat.{add-zero, add-suc, suc-add}
+use native.Mathlib.Omega.{arith}
+use lib.ListN.{length, set, length-append}
+use lib.Seq.{sets, length-sets, set-comm}
+
+-- `out` is `before` with `text` written over it from `at` on, and `next` is the place after that
+pub record Put (before : List ℕ) (at : ℕ) (text out : List ℕ) (next : ℕ) : Type 0 where
+  pub bytes : out ≡ sets before at text
+  pub place : next ≡ at + length text
+
+-- ---- a run after a run is one run
+sets-more : (vs ws l : List ℕ) (i : ℕ) → sets (sets l i vs) (i + length vs) ws ≡ sets l i (vs ++ ws)
+sets-more [] ws l i = rw add-zero
+sets-more (v ∷ vs) ws l i = rw (add-suc, ← suc-add) (sets-more vs ws (set l i v) (suc i))
+
+pub put-more :
+    {before middle out vs ws : List ℕ} {at next end : ℕ} → Put before at vs middle next → Put middle next ws out end → Put before at (vs ++ ws) out end
+put-more {before} {middle} {out} {vs} {ws} {at} {next} {end} p q = record {
+  bytes = q .bytes ∙ rw (p .bytes, p .place) (sets-more vs ws before at);
+  place = rw length-append (omega (arith, p .place, q .place));
+}
+
+pub put-length : {before text out : List ℕ} {at next : ℕ} → Put before at text out next → length out ≡ length before
+put-length {before} {text} {out} {at} p = ap length (p .bytes) ∙ length-sets before at text
+
+-- one byte
+pub put-byte : (before : List ℕ) (at b : ℕ) → Put before at (b ∷ []) (set before at b) (at + 1)
+put-byte before at b = record { bytes = refl; place = refl }
+
+-- ---- a byte first at the end of the run, then the rest before it
+pub sets-last : (vs l : List ℕ) (i b : ℕ) → sets (set l (i + length vs) b) i vs ≡ sets l i (vs ++ b ∷ [])
+sets-last [] l i b = rw add-zero
+sets-last (v ∷ vs) l i b =
+    ap (λ (m : List ℕ). sets m (suc i) vs) (set-comm l (i + suc (length vs)) i b v (λ e. omega arith))
+    ∙ rw (add-suc, ← suc-add) (sets-last vs (set l i v) (suc i) b)

@@ -1,0 +1,117 @@
+// A call to its answer, and an answer to its text.
+use crate::digits::places;
+use crate::digits::spell;
+use binary64::join;
+use binary64::split;
+use calls::Call;
+use calls::Line;
+use calls::call_of;
+use carlson::answer::Answer;
+use carlson::answer::Found;
+use elliprc::elliprc;
+use elliprd::elliprd;
+use elliprf::elliprf;
+use elliprg::elliprg;
+use elliprj::elliprj;
+ghost use mathlib.Core.Path.{_≡_};
+ghost use Prim.Native.Nat.{_+_, _≤_};
+ghost use lib.ListN.{length};
+ghost use Rattle.calls.specs.Calls.{letterOf};
+ghost use Rattle.lines.specs.Answers.{answerOf, countText, valueText, refusalText, textOf, replyOf};
+ghost use Rattle.lines.specs.Written.{Put};
+
+// What the entry of that name answers.
+pub fn answer_of(call: Call) -> Answer
+    ensures { λ r. ⌜ r ≡ answerOf call ⌝ }
+{
+    match call {
+        Call::Rc(x, y) => elliprc(join(x), join(y)),
+        Call::Rf(x, y, z) => elliprf(join(x), join(y), join(z)),
+        Call::Rd(x, y, z) => elliprd(join(x), join(y), join(z)),
+        Call::Rg(x, y, z) => elliprg(join(x), join(y), join(z)),
+        Call::Rj(x, y, z, p) => elliprj(join(x), join(y), join(z), join(p)),
+    }
+}
+
+fn letter(call: Call) -> u8
+    ensures { λ r. ⌜ r ≡ letterOf call ⌝ }
+{
+    match call {
+        Call::Rc(_, _) => b'C',
+        Call::Rf(_, _, _) => b'F',
+        Call::Rd(_, _, _) => b'D',
+        Call::Rg(_, _, _) => b'G',
+        Call::Rj(_, _, _, _) => b'J',
+    }
+}
+
+fn put_text(text: &[u8], out: &mut [u8], at: usize) -> usize
+    requires { ⌜ at + length (now text) ≤ length (now out) ⌝ }
+    ensures { λ r. ⌜ Put (now (out .entry)) at (now (text .entry)) (now (out .exit)) r ⌝ }
+{
+    let mut i = 0;
+    while i < text.len() {
+        out[at + i] = text[i];
+        i += 1;
+    }
+    at + i
+}
+
+// A count in decimal, at most ten digits, and the line's end.
+fn put_count(n: u32, out: &mut [u8], at: usize) -> usize
+    requires { ⌜ at + 11 ≤ length (now out) ⌝ }
+    ensures { λ r. ⌜ Put (now (out .entry)) at (countText n) (now (out .exit)) r ⌝ }
+{
+    let end = spell(n as u64, 10, places(n), out, at);
+    out[end] = b'\n';
+    end + 1
+}
+
+fn put_value(found: Found, out: &mut [u8], at: usize) -> usize
+    requires { ⌜ at + 29 ≤ length (now out) ⌝ }
+    ensures { λ r. ⌜ Put (now (out .entry)) at (valueText found) (now (out .exit)) r ⌝ }
+{
+    out[at] = b' ';
+    let end = spell(split(found.value), 16, 16, out, at + 1);
+    out[end] = b' ';
+    put_count(found.rounds, out, end + 1)
+}
+
+fn put_refusal(number: u32, out: &mut [u8], at: usize) -> usize
+    requires { ⌜ at + 20 ≤ length (now out) ⌝ }
+    ensures { λ r. ⌜ Put (now (out .entry)) at (refusalText number) (now (out .exit)) r ⌝ }
+{
+    let end = put_text(b" refused ", out, at);
+    put_count(number, out, end)
+}
+
+// The answer's line, with its end, from `at` on; the place after it.
+fn put_answer(call: Call, answer: Answer, out: &mut [u8], at: usize) -> usize
+    requires { ⌜ at + 31 ≤ length (now out) ⌝ }
+    ensures { λ r. ⌜ Put (now (out .entry)) at (textOf call answer) (now (out .exit)) r ⌝ }
+{
+    out[at] = b'R';
+    out[at + 1] = letter(call);
+    match answer {
+        Answer::Value(found) => put_value(found, out, at + 2),
+        Answer::Refused(number) => put_refusal(number, out, at + 2),
+    }
+}
+
+// The answer's line at the start of `out`, and its length.
+pub fn answer_text(call: Call, answer: Answer, out: &mut [u8; 31]) -> usize
+    ensures { λ r. ⌜ Put (now (out .entry)) 0 (textOf call answer) (now (out .exit)) r ⌝ }
+{
+    put_answer(call, answer, out, 0)
+}
+
+// The reply to a line that was given without its end.
+pub fn put_reply(line: &[u8], out: &mut [u8], at: usize) -> usize
+    requires { ⌜ at + 31 ≤ length (now out) ⌝ }
+    ensures { λ r. ⌜ Put (now (out .entry)) at (replyOf (now (line .entry))) (now (out .exit)) r ⌝ }
+{
+    match call_of(line) {
+        Line::Good(call) => put_answer(call, answer_of(call), out, at),
+        Line::Bad => put_text(b"bad line\n", out, at),
+    }
+}
