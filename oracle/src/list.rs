@@ -10,7 +10,7 @@ use std::path::PathBuf;
 const HEADER: &str = "gatewren calls 1";
 
 fn path() -> PathBuf {
-    PathBuf::from(env!("CARGO_MANIFEST_DIR")).join("calls.txt")
+    PathBuf::from(env!("CARGO_MANIFEST_DIR")).join("../crates/replay/stdin")
 }
 
 fn row(call: &Call, judged: &Judged) -> String {
@@ -32,13 +32,13 @@ fn text() -> String {
 
 pub fn make() -> bool {
     let text = text();
-    std::fs::write(path(), &text).expect("calls.txt can be written");
+    std::fs::write(path(), &text).expect("the list can be written");
     println!("{} rows", text.lines().count() - 1);
     summary(&text);
     true
 }
 
-/// Whether calls.txt is what the oracle says now.
+/// Whether the list is what the oracle says now.
 pub fn check() -> bool {
     let committed = match std::fs::read_to_string(path()) {
         Ok(text) => text,

@@ -41,7 +41,7 @@ unfolding afterName valueText refusalText
 answer-length (Value f) = rw (length-append, word-length) (omega (arith, count-length (f .rounds)))
 answer-length (Refused n) = omega (arith, count-length n)
 
-text-length : (c : Call) (a : Answer) → length (textOf c a) ≤ 31
+pub text-length : (c : Call) (a : Answer) → length (textOf c a) ≤ 31
 unfolding textOf
 text-length c a = omega (arith, answer-length a)
 

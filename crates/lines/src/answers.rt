@@ -16,6 +16,7 @@ use elliprj::elliprj;
 ghost use mathlib.Core.Path.{_≡_};
 ghost use Prim.Native.Nat.{_+_, _≤_};
 ghost use lib.ListN.{length};
+ghost use Rattle.io.specs.Counts.{Counts};
 ghost use Rattle.calls.specs.Calls.{letterOf};
 ghost use Rattle.lines.specs.Answers.{answerOf, countText, valueText, refusalText, textOf, replyOf};
 ghost use Rattle.lines.specs.Written.{Put};
@@ -101,6 +102,7 @@ fn put_answer(call: Call, answer: Answer, out: &mut [u8], at: usize) -> usize
 // The answer's line at the start of `out`, and its length.
 pub fn answer_text(call: Call, answer: Answer, out: &mut [u8; 31]) -> usize
     ensures { λ r. ⌜ Put (now (out .entry)) 0 (textOf call answer) (now (out .exit)) r ⌝ }
+    ensures { λ r. ⌜ Counts r (now (out .exit)) ⌝ }
 {
     put_answer(call, answer, out, 0)
 }

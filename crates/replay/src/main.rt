@@ -1,0 +1,159 @@
+// Runs the oracle's fixed list through the proved entries and compares values, counts and numbers. The list is this program's standard
+// input: a header, then rows such as `RF 4010000000000000 4010000000000000 4010000000000000 = 3FE0000000000000 0` or `.. = refused 3`,
+// of which some end in ` s`, a mark of the oracle's that is passed over here.
+mod row;
+
+use crate::row::Verdict;
+use crate::row::judge;
+use libc::STDERR_FILENO;
+use libc::STDIN_FILENO;
+use libc::STDOUT_FILENO;
+
+// How many rows that differ are shown.
+const SHOWN: u64 = 5;
+
+struct Tally {
+    // rows of each entry, in the order RC, RF, RD, RG, RJ, and of all; those that differ, likewise
+    rows: [u64; 6],
+    differ: [u64; 6],
+    // rows in another form
+    odd: u64,
+    // how many bytes of the next row are held, whether that is the header, and whether there is more to read
+    held: usize,
+    header: bool,
+    going: bool,
+}
+
+fn more(x: u64) -> u64 {
+    if x < u64::MAX {
+        return x + 1;
+    }
+    x
+}
+
+fn count(tally: Tally, entry: usize) -> Tally {
+    let mut t = tally;
+    if entry < 5 {
+        t.rows[entry] = more(t.rows[entry]);
+        t.rows[5] = more(t.rows[5]);
+    }
+    t
+}
+
+fn count_differing(tally: Tally, entry: usize) -> Tally {
+    let mut t = count(tally, entry);
+    if entry < 5 {
+        t.differ[entry] = more(t.differ[entry]);
+        t.differ[5] = more(t.differ[5]);
+    }
+    t
+}
+
+fn count_odd(tally: Tally) -> Tally {
+    let mut t = tally;
+    t.odd = more(t.odd);
+    t
+}
+
+fn take_header(row: &[u8], tally: Tally) -> Tally {
+    let mut t = tally;
+    t.header = false;
+    if check::same(row, b"gatewren calls 1") {
+        return t;
+    }
+    count_odd(t)
+}
+
+fn take_row(row: &[u8], tally: Tally) -> Tally {
+    if tally.header {
+        return take_header(row, tally);
+    }
+    match judge(row, tally.differ[5] < SHOWN) {
+        Verdict::Agrees(entry) => count(tally, entry),
+        Verdict::Differs(entry) => count_differing(tally, entry),
+        Verdict::Odd => count_odd(tally),
+    }
+}
+
+// A row that is longer than `held` is cut, and then in another form.
+fn take_byte(b: u8, held: &mut [u8], tally: Tally) -> Tally {
+    let mut t = tally;
+    let n = t.held;
+    if b == b'\n' {
+        t.held = 0;
+        if n <= held.len() {
+            return take_row(&held[..n], t);
+        }
+        return t;
+    }
+    t.held = lines::push(held, n, b);
+    t
+}
+
+fn take_block(block: &[u8], held: &mut [u8], tally: Tally) -> Tally {
+    let mut t = tally;
+    let mut i = 0;
+    while i < block.len() {
+        t = take_byte(block[i], held, t);
+        i += 1;
+    }
+    t
+}
+
+fn read_some(held: &mut [u8; 128], tally: Tally) -> Tally {
+    let mut t = tally;
+    let mut block = [0u8; 2048];
+    let got = libc::read(STDIN_FILENO, &mut block);
+    if got < 0 {
+        io::write_all(STDERR_FILENO, b"replay: cannot read\n");
+    }
+    if got <= 0 {
+        t.going = false;
+        // the last row may lack its end
+        if t.held > 0 {
+            return take_byte(b'\n', held, t);
+        }
+        return t;
+    }
+    let size = io::count(got, &block);
+    take_block(&block[..size], held, t)
+}
+
+fn report(name: &[u8], rows: u64, differ: u64) {
+    io::write_all(STDOUT_FILENO, name);
+    io::write_all(STDOUT_FILENO, b" ");
+    io::print_decimal(STDOUT_FILENO, rows);
+    io::write_all(STDOUT_FILENO, b" rows, ");
+    io::print_decimal(STDOUT_FILENO, differ);
+    io::write_all(STDOUT_FILENO, b" differ\n");
+}
+
+fn report_all(t: Tally) {
+    report(b"RC", t.rows[0], t.differ[0]);
+    report(b"RF", t.rows[1], t.differ[1]);
+    report(b"RD", t.rows[2], t.differ[2]);
+    report(b"RG", t.rows[3], t.differ[3]);
+    report(b"RJ", t.rows[4], t.differ[4]);
+    report(b"all", t.rows[5], t.differ[5]);
+    io::print_decimal(STDOUT_FILENO, t.odd);
+    io::write_all(STDOUT_FILENO, b" rows in another form\n");
+}
+
+fn main() {
+    let mut held = [0u8; 128];
+    let mut t = Tally {
+        rows: [0; 6],
+        differ: [0; 6],
+        odd: 0,
+        held: 0,
+        header: true,
+        going: true,
+    };
+    // A proved loop has to end, and nothing says that the input does: so many turns no run uses up.
+    let mut turns = u64::MAX;
+    while turns > 0 && t.going {
+        t = read_some(&mut held, t);
+        turns -= 1;
+    }
+    report_all(t);
+}

@@ -1,0 +1,102 @@
+// One row of the list: a call, ` =`, and what the oracle answers to it.
+use calls::Call;
+use calls::Line;
+use calls::call_of;
+use libc::STDOUT_FILENO;
+ghost use Prim.Native.Nat.{_≤_};
+ghost use lib.ListN.{length};
+
+// What a row led to, with the entry's place in the order RC, RF, RD, RG, RJ.
+pub enum Verdict {
+    Agrees(usize),
+    Differs(usize),
+    // The row has another form.
+    Odd,
+}
+
+fn place(call: Call) -> usize {
+    match call {
+        Call::Rc(_, _) => 0,
+        Call::Rf(_, _, _) => 1,
+        Call::Rd(_, _, _) => 2,
+        Call::Rg(_, _, _) => 3,
+        Call::Rj(_, _, _, _) => 4,
+    }
+}
+
+// Where the first `=` stands, or the row's length.
+fn equals(row: &[u8]) -> usize
+    ensures { λ r. ⌜ r ≤ length (now (row .entry)) ⌝ }
+{
+    let mut i = 0;
+    while i < row.len() {
+        if row[i] == b'=' {
+            return i;
+        }
+        i += 1;
+    }
+    i
+}
+
+// Where the answer ends: before the mark ` s`, if there is one.
+fn end(row: &[u8]) -> usize
+    ensures { λ r. ⌜ r ≤ length (now (row .entry)) ⌝ }
+{
+    let n = row.len();
+    if n < 2 {
+        return n;
+    }
+    if row[n - 1] == b's' {
+        if row[n - 2] == b' ' {
+            return n - 2;
+        }
+    }
+    n
+}
+
+// Whether the answer's line says, after its name and up to its end, what the row says.
+fn says(line: &[u8], said: &[u8]) -> bool {
+    let n = line.len();
+    if n < 3 {
+        return false;
+    }
+    check::same(&line[2..n - 1], said)
+}
+
+fn show(row: &[u8], line: &[u8]) {
+    io::write_all(STDOUT_FILENO, b"the list: ");
+    io::write_all(STDOUT_FILENO, row);
+    io::write_all(STDOUT_FILENO, b"\n    here: ");
+    io::write_all(STDOUT_FILENO, line);
+}
+
+fn compare(call: Call, said: &[u8], row: &[u8], shown: bool) -> Verdict {
+    let mut text = [0u8; 31];
+    let n = lines::answer_text(call, lines::answer_of(call), &mut text);
+    if says(&text[..n], said) {
+        return Verdict::Agrees(place(call));
+    }
+    if shown {
+        show(row, &text[..n]);
+    }
+    Verdict::Differs(place(call))
+}
+
+// A row that differs is shown where that is asked for.
+pub fn judge(row: &[u8], shown: bool) -> Verdict {
+    let at = equals(row);
+    let last = end(row);
+    if at < 1 {
+        return Verdict::Odd;
+    }
+    if last <= at {
+        return Verdict::Odd;
+    }
+    if row[at - 1] != b' ' {
+        return Verdict::Odd;
+    }
+    match call_of(&row[..at - 1]) {
+        Line::Good(call) => compare(call, &row[at + 1..last], row, shown),
+        Line::Bad => Verdict::Odd,
+    }
+}
