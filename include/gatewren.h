@@ -1,0 +1,80 @@
+/*
+ * Gatewren: Carlson's elliptic integrals RC, RF, RD, RG and RJ on doubles, proved to the last bit, and the leaves they stand on.
+ *
+ * Link libgatewren.a (rt staticlib gatewren) or libgatewren.so (./gatewren shared). Neither wants the C maths library.
+ * The code counts on what IEEE 754 and C start with: rounding to nearest, and subnormal numbers kept.
+ */
+#ifndef GATEWREN_H
+#define GATEWREN_H
+
+#include <stdint.h>
+
+#ifdef __cplusplus
+extern "C" {
+#endif
+
+/* What an entry returns: 0, or the number for which it refused. docs/REFUSALS.md has the order in which an entry tests. */
+enum gatewren_outcome {
+    GATEWREN_ANSWERED = 0,
+    GATEWREN_NAN_GIVEN = 1,     /* an argument is NaN */
+    GATEWREN_BELOW_ZERO = 2,    /* an argument is below zero that must not be */
+    GATEWREN_ZEROS = 3,         /* too many zeros: two of RF's or RJ's x, y, z, or both of RD's x, y */
+    GATEWREN_ZERO_GIVEN = 4,    /* RC's y or RJ's p is zero */
+    GATEWREN_Z_NOT_ABOVE = 5,   /* RD's z is zero or less */
+    GATEWREN_NO_RESULT = 6,     /* RF, RD or RJ ends without a finite result */
+    GATEWREN_RC_NO_RESULT = 7,  /* RC ends so */
+    GATEWREN_RG_NO_RESULT = 8,  /* RG ends so */
+    GATEWREN_AGM_SPENT = 9,     /* the cap of 40 on RD's or RG's mean is spent */
+    GATEWREN_TOO_DEEP = 10      /* RJ would call itself a fifth time */
+};
+
+/*
+ * The entries. Every argument is answered, whatever its bits, in one of two ways:
+ *   0 is returned, *value is a finite number and *rounds the number of rounds gone through; or
+ *   a number of the list above is returned, and neither *value nor *rounds is touched.
+ * value and rounds point to two places apart from each other, neither of them null.
+ * The same arguments give the same 64 bits on every machine.
+ */
+
+/* RC(x, y); for y below zero its Cauchy principal value. Returns 0, 1, 2, 4 or 7. */
+uint32_t gatewren_rc(double x, double y, double *value, uint32_t *rounds);
+
+/* RF(x, y, z). Returns 0, 1, 2, 3 or 6. */
+uint32_t gatewren_rf(double x, double y, double z, double *value, uint32_t *rounds);
+
+/* RD(x, y, z). Returns 0, 1, 2, 3, 5, 6 or 9. */
+uint32_t gatewren_rd(double x, double y, double z, double *value, uint32_t *rounds);
+
+/* RG(x, y, z). Returns 0, 1, 2, 8 or 9. */
+uint32_t gatewren_rg(double x, double y, double z, double *value, uint32_t *rounds);
+
+/* RJ(x, y, z, p); for p below zero its Cauchy principal value. Returns 0, 1, 2, 3, 4, 6, 9 or 10. */
+uint32_t gatewren_rj(double x, double y, double z, double p, double *value, uint32_t *rounds);
+
+/*
+ * The leaves. A leaf always returns a number; where the exact result is none, that is a NaN, and which NaN is left open.
+ */
+
+/* The square root, rounded once. -0 has root -0, a number below zero NaN. */
+double gatewren_sqrt(double x);
+
+/* a times b plus c, rounded once. */
+double gatewren_mul_add(double a, double b, double c);
+
+/* a to the power -3/2, rounded once. A zero of either sign gives +infinity, +infinity gives +0, a number below zero NaN. */
+double gatewren_pow_neg_3_2(double a);
+
+/* The arc tangent, by one whole-number rule within one unit of the exact one: every finite number, and both infinities. */
+double gatewren_atan(double x);
+
+/* The natural logarithm, likewise, from 2 up; +infinity gives +infinity, all else NaN. */
+double gatewren_ln(double x);
+
+/* The natural logarithm of 1 + x, likewise, for x from -3/4 to 3/4; all else gives NaN. */
+double gatewren_ln_1p(double x);
+
+#ifdef __cplusplus
+}
+#endif
+
+#endif
