@@ -1,0 +1,167 @@
+"""Document 01's settled and printed examples through the binding, and what a refused answer does not let one do."""
+
+import ctypes
+import doctest
+import math
+import operator
+import os
+import pathlib
+import struct
+import subprocess
+import sys
+import unittest
+
+import gatewren
+from gatewren import Refusal, Refused, Value, rc, rd, rf, rg, rj
+
+INF, NAN = math.inf, math.nan
+
+
+def of_bits(bits):
+    return struct.unpack("<d", struct.pack("<Q", bits))[0]
+
+
+class Examples(unittest.TestCase):
+    def test_the_sixteen_settled(self):
+        def value(bits):
+            return Value(of_bits(bits), 0)
+
+        settled = [
+            (rf(4, 4, 4), value(0x3FE0000000000000)),
+            (rf(4, 0, 4), value(0x3FE921FB54442D18)),
+            (rf(INF, 0, 0), Refused(3)),
+            (rf(INF, 0, 1), value(0)),
+            (rf(NAN, -1, 1), Refused(1)),
+            (rc(0, -4), value(0)),
+            (rc(NAN, 0), Refused(4)),
+            (rc(-1, 0), Refused(2)),
+            (rd(4, 4, 4), value(0x3FC0000000000000)),
+            (rd(NAN, -1, 1), Refused(2)),
+            (rd(0, 0, -1), Refused(3)),
+            (rg(0, 0, 4), value(0x3FF0000000000000)),
+            (rg(INF, 0, 0), Refused(8)),
+            (rj(4, 4, 4, 4), value(0x3FC0000000000000)),
+            (rj(3, 2, 2, -1), value(0)),
+            (rj(1, 1, 1, -INF), Refused(6)),
+        ]
+        for came_out, wanted in settled:
+            self.assertEqual(came_out, wanted)
+
+    def test_the_printed(self):
+        printed = [
+            (rc(1, 0.5), 1.2464504802804608),
+            (rf(1, 0.5, 0.25), 1.370171633266872),
+            (rd(1, 0.5, 0.25), 4.022594757168912),
+            (rg(1, 0.5, 0.25), 0.7526721491833781),
+            (rj(1, 0.5, 0.25, 0.125), 5.680557292035963),
+            (rg(0, 25, 9), 25.526998863398124 / 8),
+        ]
+        for answer, near in printed:
+            self.assertLessEqual(abs(float(answer) - near), 1e-15 * near)
+        self.assertEqual(rd(1e-308, 1e-308, 1e-308), Refused(Refusal.NO_RESULT))
+
+    def test_rounds_are_counted(self):
+        self.assertEqual(rf(1, 0.5, 0.25), Value(of_bits(0x3FF5EC39172C9C25), 4))
+
+    def test_no_10(self):
+        tiny = of_bits(1)
+        self.assertEqual(rj(0, tiny, 0.25, -tiny), Refused(Refusal.TOO_DEEP))
+
+    def test_leaves(self):
+        self.assertEqual(gatewren.sqrt(2), math.sqrt(2))
+        self.assertTrue(math.isnan(gatewren.sqrt(-1)))
+        self.assertEqual(gatewren.mul_add(0.1, 10, -1), 2.0**-54)
+        self.assertEqual(gatewren.pow_neg_3_2(4), 0.125)
+        self.assertEqual(gatewren.atan(INF), math.pi / 2)
+        self.assertLess(abs(gatewren.ln(2) - math.log(2)), 1e-15)
+        self.assertTrue(math.isnan(gatewren.ln(1.5)))
+        self.assertLess(abs(gatewren.ln_1p(-0.5) + math.log(2)), 1e-15)
+
+    def test_what_the_comments_show(self):
+        self.assertEqual(doctest.testmod(gatewren).failed, 0)
+
+
+class Answers(unittest.TestCase):
+    """A refused answer is never taken for a number, and no answer for a truth."""
+
+    def test_refused_is_no_number(self):
+        refused = rf(-1, 1, 1)
+        for convert in (float, int, complex, bool, math.sqrt, round, abs, operator.neg, operator.index):
+            with self.assertRaises(TypeError, msg=convert):
+                convert(refused)
+
+    def test_refused_has_no_arithmetic_and_no_order(self):
+        refused = rf(-1, 1, 1)
+        names = "add sub mul truediv floordiv mod pow lt le gt ge eq ne"
+        for name in names.split():
+            does = getattr(operator, name)
+            with self.assertRaises(TypeError, msg=name):
+                does(refused, 1.0)
+            with self.assertRaises(TypeError, msg=name):
+                does(1.0, refused)
+
+    def test_what_is_no_number_is_no_argument(self):
+        for argument in (rf(-1, 1, 1), "4", None):
+            with self.assertRaises(TypeError, msg=argument):
+                rf(argument, 1, 1)
+
+    def test_a_refused_answer_has_no_value(self):
+        self.assertFalse(hasattr(rf(-1, 1, 1), "value"))
+        self.assertEqual(rf(-1, 1, 1).number, 2)
+
+    def test_answers_compare_with_answers(self):
+        self.assertEqual(rf(-1, 1, 1), Refused(2))
+        self.assertNotEqual(rf(-1, 1, 1), Refused(1))
+        self.assertNotEqual(rf(4, 4, 4), Refused(1))
+        self.assertNotEqual(Value(0.0, 0), Value(-0.0, 0))
+        self.assertEqual(len({rf(4, 4, 4), rf(4, 4, 4), Refused(1)}), 2)
+        with self.assertRaises(TypeError):
+            rf(4, 4, 4) == 0.5
+        with self.assertRaises(TypeError):
+            bool(rf(INF, 0, 1))
+
+    def test_answers_do_not_change(self):
+        with self.assertRaises(AttributeError):
+            rf(4, 4, 4).value = 1.0
+        with self.assertRaises(AttributeError):
+            rf(-1, 1, 1).value = 1.0
+
+    def test_every_number_has_a_meaning(self):
+        self.assertEqual([refusal.value for refusal in Refusal], list(range(1, 11)))
+        for number in (0, 11):
+            with self.assertRaises(ValueError):
+                Refused(number)
+
+
+class Interface(unittest.TestCase):
+    """The C interface as include/gatewren.h has it."""
+
+    ENTRIES = [("rc", (-1.0, 1.0)), ("rf", (-1.0, 1.0, 1.0)), ("rd", (-1.0, 1.0, 1.0)), ("rg", (-1.0, 1.0, 1.0))]
+    ENTRIES.append(("rj", (-1.0, 1.0, 1.0, 1.0)))
+
+    def test_a_refusal_touches_neither_place(self):
+        for name, arguments in self.ENTRIES:
+            value, rounds = ctypes.c_double(-77.5), ctypes.c_uint32(4242)
+            symbol = getattr(gatewren._LIBRARY, f"gatewren_{name}")
+            self.assertEqual(symbol(*arguments, ctypes.byref(value), ctypes.byref(rounds)), 2)
+            self.assertEqual((value.value, rounds.value), (-77.5, 4242))
+
+    def test_the_header_names_every_function_that_is_called(self):
+        header = pathlib.Path(__file__).resolve().parents[2] / "include" / "gatewren.h"
+        text = header.read_text()
+        names = ["rc", "rf", "rd", "rg", "rj", "sqrt", "mul_add", "pow_neg_3_2", "atan", "ln", "ln_1p"]
+        for name in names:
+            self.assertIn(f"gatewren_{name}(", text)
+        for refusal in Refusal:
+            self.assertRegex(text, rf"GATEWREN_{refusal.name} = {refusal.value}\b")
+
+    def test_a_missing_library_is_named(self):
+        environment = dict(os.environ, GATEWREN_SO="nowhere/libgatewren.so")
+        run = subprocess.run([sys.executable, "-c", "import gatewren"], cwd=pathlib.Path(__file__).parent,
+                             env=environment, capture_output=True, text=True)
+        self.assertNotEqual(run.returncode, 0)
+        self.assertIn("./gatewren shared", run.stderr)
+
+
+if __name__ == "__main__":
+    unittest.main()

@@ -1,0 +1,17 @@
+//! Gatewren for Rust: Carlson's elliptic integrals [`rc`], [`rf`], [`rd`], [`rg`] and [`rj`], and the [`leaf`] functions they
+//! stand on. What is called is the proved library, libgatewren.a; here is only its dress.
+//!
+//! ```
+//! use gatewren::{rf, Answer, Refusal};
+//!
+//! assert_eq!(rf(4.0, 4.0, 4.0), Answer::Value { value: 0.5, rounds: 0 });
+//! assert_eq!(rf(f64::NAN, -1.0, 1.0), Answer::Refused(Refusal::NanGiven));
+//! ```
+
+mod answer;
+mod entries;
+pub mod leaf;
+mod symbols;
+
+pub use answer::{Answer, Refusal};
+pub use entries::{rc, rd, rf, rg, rj};

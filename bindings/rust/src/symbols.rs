@@ -1,0 +1,15 @@
+//! The C interface, as include/gatewren.h has it.
+
+extern "C" {
+    pub fn gatewren_rc(x: f64, y: f64, value: &mut f64, rounds: &mut u32) -> u32;
+    pub fn gatewren_rf(x: f64, y: f64, z: f64, value: &mut f64, rounds: &mut u32) -> u32;
+    pub fn gatewren_rd(x: f64, y: f64, z: f64, value: &mut f64, rounds: &mut u32) -> u32;
+    pub fn gatewren_rg(x: f64, y: f64, z: f64, value: &mut f64, rounds: &mut u32) -> u32;
+    pub fn gatewren_rj(x: f64, y: f64, z: f64, p: f64, value: &mut f64, rounds: &mut u32) -> u32;
+    pub fn gatewren_sqrt(x: f64) -> f64;
+    pub fn gatewren_mul_add(a: f64, b: f64, c: f64) -> f64;
+    pub fn gatewren_pow_neg_3_2(a: f64) -> f64;
+    pub fn gatewren_atan(x: f64) -> f64;
+    pub fn gatewren_ln(x: f64) -> f64;
+    pub fn gatewren_ln_1p(x: f64) -> f64;
+}

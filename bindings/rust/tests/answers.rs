@@ -1,0 +1,93 @@
+//! Document 01's settled and printed examples, and the leaves at a few points, through the binding.
+
+use gatewren::{leaf, rc, rd, rf, rg, rj, Answer, Refusal};
+
+const INF: f64 = f64::INFINITY;
+const NAN: f64 = f64::NAN;
+
+fn value(bits: u64) -> Answer {
+    Answer::Value { value: f64::from_bits(bits), rounds: 0 }
+}
+
+/// To the bit and the sign of a zero, where == would take -0 for 0.
+fn same(came_out: Answer, wanted: Answer) {
+    let bits = |answer: Answer| answer.value().map(f64::to_bits);
+    assert_eq!(came_out, wanted);
+    assert_eq!(bits(came_out), bits(wanted));
+}
+
+#[test]
+fn the_sixteen_settled_examples() {
+    let no = |number| Answer::Refused(Refusal::of(number).unwrap());
+    same(rf(4.0, 4.0, 4.0), value(0x3FE0_0000_0000_0000));
+    same(rf(4.0, 0.0, 4.0), value(0x3FE9_21FB_5444_2D18));
+    same(rf(INF, 0.0, 0.0), no(3));
+    same(rf(INF, 0.0, 1.0), value(0));
+    same(rf(NAN, -1.0, 1.0), no(1));
+    same(rc(0.0, -4.0), value(0));
+    same(rc(NAN, 0.0), no(4));
+    same(rc(-1.0, 0.0), no(2));
+    same(rd(4.0, 4.0, 4.0), value(0x3FC0_0000_0000_0000));
+    same(rd(NAN, -1.0, 1.0), no(2));
+    same(rd(0.0, 0.0, -1.0), no(3));
+    same(rg(0.0, 0.0, 4.0), value(0x3FF0_0000_0000_0000));
+    same(rg(INF, 0.0, 0.0), no(8));
+    same(rj(4.0, 4.0, 4.0, 4.0), value(0x3FC0_0000_0000_0000));
+    same(rj(3.0, 2.0, 2.0, -1.0), value(0));
+    same(rj(1.0, 1.0, 1.0, -INF), no(6));
+}
+
+#[test]
+fn the_printed_examples() {
+    let near = |answer: Answer, printed: f64| {
+        let value = answer.value().unwrap();
+        assert!((value - printed).abs() <= 1e-15 * printed, "{value}, not {printed}");
+    };
+    near(rc(1.0, 0.5), 1.2464504802804608);
+    near(rf(1.0, 0.5, 0.25), 1.370171633266872);
+    near(rd(1.0, 0.5, 0.25), 4.022594757168912);
+    near(rg(1.0, 0.5, 0.25), 0.7526721491833781);
+    near(rj(1.0, 0.5, 0.25, 0.125), 5.680557292035963);
+    near(rg(0.0, 25.0, 9.0), 25.526998863398124 / 8.0);
+    same(rd(1e-308, 1e-308, 1e-308), Answer::Refused(Refusal::NoResult));
+}
+
+#[test]
+fn rounds_are_counted() {
+    assert_eq!(rf(1.0, 0.5, 0.25), Answer::Value { value: f64::from_bits(0x3FF5_EC39_172C_9C25), rounds: 4 });
+}
+
+#[test]
+fn every_number_has_a_meaning() {
+    let numbers: Vec<u32> = Refusal::ALL.iter().map(|refusal| refusal.number()).collect();
+    assert_eq!(numbers, (1..=10).collect::<Vec<u32>>());
+    assert!(Refusal::ALL.iter().all(|&refusal| Refusal::of(refusal.number()) == Some(refusal)));
+    assert_eq!(Refusal::of(0), None);
+    assert_eq!(Refusal::of(11), None);
+    assert_eq!(Refusal::TooDeep.to_string(), "refused 10: RJ would call itself a fifth time");
+}
+
+#[test]
+fn no_10_is_told() {
+    let tiny = f64::from_bits(1);
+    assert_eq!(rj(0.0, tiny, 0.25, -tiny), Answer::Refused(Refusal::TooDeep));
+}
+
+#[test]
+fn leaves() {
+    for x in [2.0, 0.5, 1e-310, f64::MAX, INF, 0.0, -0.0] {
+        assert_eq!(leaf::sqrt(x).to_bits(), x.sqrt().to_bits());
+    }
+    assert!(leaf::sqrt(-1.0).is_nan());
+    let tenth = 0.1;
+    assert_eq!(leaf::mul_add(tenth, 10.0, -1.0), tenth.mul_add(10.0, -1.0));
+    assert_ne!(leaf::mul_add(tenth, 10.0, -1.0), tenth * 10.0 - 1.0);
+    assert_eq!(leaf::pow_neg_3_2(4.0), 0.125);
+    assert_eq!(leaf::pow_neg_3_2(-0.0), INF);
+    assert_eq!(leaf::atan(INF).to_bits(), 0x3FF9_21FB_5444_2D18);
+    assert!((leaf::atan(1.0) - std::f64::consts::FRAC_PI_4).abs() < 1e-15);
+    assert!((leaf::ln(2.0) - std::f64::consts::LN_2).abs() < 1e-15);
+    assert!(leaf::ln(1.5).is_nan());
+    assert!((leaf::ln_1p(-0.5) + std::f64::consts::LN_2).abs() < 1e-15);
+    assert!(leaf::ln_1p(0.8).is_nan());
+}
