@@ -44,6 +44,11 @@ impl Call {
         &self.args[..self.entry.arity()]
     }
 
+    /// The arguments' bits, zeros beyond them.
+    pub fn bits(&self) -> [u64; 4] {
+        self.args.map(bits)
+    }
+
     /// `RF 4010000000000000 4010000000000000 4010000000000000`, and nothing looser.
     pub fn parse(line: &str) -> Option<Call> {
         let mut words = line.split(' ');

@@ -1,6 +1,8 @@
 //! The judge for Gatewren's entries and leaves; README.md says what it compiles and what it is asked.
 
+mod aims;
 mod call;
+mod compare;
 mod diff;
 mod examples;
 mod families;
@@ -11,11 +13,13 @@ mod listing;
 mod random;
 mod shapes;
 mod symbols;
+mod tally;
 mod units;
 
 use std::process::ExitCode;
 
-const USAGE: &str = "oracle examples | make-list | check-list | call | diff N [SEED] | leaf NAME N [SEED] | answers NAME";
+const USAGE: &str = "oracle examples | make-list | check-list | call | diff N [SEED] | leaf NAME N [SEED] | answers NAME |
+       compare N [SEED [THREADS]]";
 
 fn main() -> ExitCode {
     let words: Vec<String> = std::env::args().skip(1).collect();
@@ -27,6 +31,9 @@ fn main() -> ExitCode {
         ["call"] => listing::run(),
         ["diff", n] => diff::run(number(n), 1),
         ["diff", n, seed] => diff::run(number(n), number(seed)),
+        ["compare", n] => compare::run(number(n), 1, compare::all_threads()),
+        ["compare", n, seed] => compare::run(number(n), number(seed), compare::all_threads()),
+        ["compare", n, seed, threads] => compare::run(number(n), number(seed), number(threads)),
         ["answers", name] => leaf::answers(name),
         ["leaf", name, n] => leaf::run(name, number(n), 1),
         ["leaf", name, n, seed] => leaf::run(name, number(n), number(seed)),

@@ -1,5 +1,6 @@
 //! What only RJ has.
 
+use crate::aims;
 use crate::call::{Call, Entry};
 use crate::random::Random;
 use crate::shapes::{self, moved, power_of_two};
@@ -115,15 +116,6 @@ fn deep(random: &mut Random) -> Vec<Call> {
 
 /// p below zero, and arguments at the far ends of the range.
 fn extreme(random: &mut Random) -> Call {
-    let mut args = [0; 4].map(|_| match random.below(8) {
-        0 => 0.0,
-        1 | 2 => f64::from_bits(1 + random.below(40)),
-        3 => shapes::scaled(random, -1070, -1000),
-        4 => shapes::scaled(random, -130, -126),
-        5 => shapes::scaled(random, 126, 130),
-        6 => shapes::moderate(random),
-        _ => shapes::wide(random),
-    });
-    args[3] = -args[3];
-    call(args)
+    let [x, y, z, p] = aims::extreme(random);
+    call([x, y, z, -p])
 }

@@ -1,21 +1,23 @@
 //! The fused multiply-add against the standard library's, which is the processor's or the C library's.
 
-use super::Tally;
+use super::{Args, Leaf};
 use crate::random::Random;
 use crate::shapes::{corner, fraction, moved, power_of_two, CORNERS};
 use crate::symbols;
 
-pub fn run(n: u64, random: &mut Random) -> Option<Tally> {
-    let mul_add = symbols::MUL_ADD?;
-    let mut tally = Tally::default();
-    let mut take = |[a, b, c]: [f64; 3]| tally.take(&[a, b, c], unsafe { mul_add(a, b, c) }, a.mul_add(b, c));
-    for a in CORNERS {
-        for b in CORNERS {
-            CORNERS.into_iter().for_each(|c| take([a, b, c].map(f64::from_bits)));
-        }
-    }
-    (0..n).for_each(|_| take(case(random)));
-    Some(tally)
+pub static LEAF: Leaf = Leaf {
+    name: "mul_add",
+    arity: 3,
+    ours: |[a, b, c]| Some(unsafe { symbols::MUL_ADD?(a, b, c) }),
+    wanted: |[a, b, c]| a.mul_add(b, c),
+    standard: |[a, b, c]| a.mul_add(b, c),
+    fixed,
+    case,
+};
+
+fn fixed() -> Vec<Args> {
+    let pairs = CORNERS.into_iter().flat_map(|a| CORNERS.map(|b| [a, b]));
+    pairs.flat_map(|[a, b]| CORNERS.map(|c| [a, b, c].map(f64::from_bits))).collect()
 }
 
 fn case(random: &mut Random) -> [f64; 3] {

@@ -1,29 +1,20 @@
-//! The power -3/2 against the exact one of whole numbers; says also how often the C library's power is another.
+//! The power -3/2 against the exact one of whole numbers.
 
-use super::Tally;
+use super::{one_argument, Leaf};
 use crate::random::Random;
-use crate::shapes::{moved, scaled, wide, CORNERS};
+use crate::shapes::{moved, scaled, wide};
 use crate::symbols;
 use doc01::neg_three_halves;
 
-pub fn run(n: u64, random: &mut Random) -> Option<Tally> {
-    let power = symbols::POW?;
-    let (mut tally, mut library) = (Tally::default(), 0);
-    let mut take = |a: f64| {
-        let exact = neg_three_halves(a);
-        library += u64::from(a.powf(-1.5).to_bits() != exact.to_bits() && !exact.is_nan());
-        tally.take(&[a], unsafe { power(a) }, exact);
-    };
-    CORNERS.map(f64::from_bits).into_iter().for_each(&mut take);
-    for field in 0..2047u64 {
-        for fraction in [0, 1, 2, 1 << 51, (1 << 52) - 2, (1 << 52) - 1] {
-            take(f64::from_bits(field << 52 | fraction));
-        }
-    }
-    (0..n).for_each(|_| take(case(random)));
-    println!("the C library's pow(a, -1.5) is another number in {library}");
-    Some(tally)
-}
+pub static LEAF: Leaf = Leaf {
+    name: "pow",
+    arity: 1,
+    ours: |[a, ..]| Some(unsafe { symbols::POW?(a) }),
+    wanted: |[a, ..]| neg_three_halves(a),
+    standard: |[a, ..]| a.powf(-1.5),
+    fixed: || one_argument(&[0, 1, 2, 1 << 51, (1 << 52) - 2, (1 << 52) - 1]),
+    case: |random| [case(random), 0.0, 0.0],
+};
 
 fn case(random: &mut Random) -> f64 {
     match random.below(8) {

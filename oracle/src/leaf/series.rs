@@ -1,51 +1,56 @@
 //! `atan`, `ln` and `ln_1p` against the rules.
 
-use super::Tally;
+use super::{Args, Leaf};
 use crate::random::Random;
 use crate::shapes::{corner, moved, scaled, wide, CORNERS};
 use crate::symbols;
 use doc01::rules;
 
-type Leaf = unsafe extern "C" fn(f64) -> f64;
+pub static ATAN: Leaf = Leaf {
+    name: "atan",
+    arity: 1,
+    ours: |[a, ..]| Some(unsafe { symbols::ATAN?(a) }),
+    wanted: |[a, ..]| rules::atan(a),
+    standard: |[a, ..]| a.atan(),
+    fixed,
+    case: |random| signed(random, |random| of_any_size(random)),
+};
 
-/// The leaf of the proved library, as far as it is linked.
-pub fn linked(name: &str) -> Option<Leaf> {
-    match name {
-        "atan" => symbols::ATAN,
-        "ln" => symbols::LN,
-        "ln_1p" => symbols::LN_1P,
-        _ => None,
-    }
+pub static LN: Leaf = Leaf {
+    name: "ln",
+    arity: 1,
+    ours: |[a, ..]| Some(unsafe { symbols::LN?(a) }),
+    wanted: |[a, ..]| rules::ln(a),
+    standard: |[a, ..]| a.ln(),
+    fixed,
+    case: |random| [from_two(random), 0.0, 0.0],
+};
+
+pub static LN_1P: Leaf = Leaf {
+    name: "ln_1p",
+    arity: 1,
+    ours: |[a, ..]| Some(unsafe { symbols::LN_1P?(a) }),
+    wanted: |[a, ..]| rules::ln_1p(a),
+    standard: |[a, ..]| a.ln_1p(),
+    fixed,
+    case: |random| signed(random, |random| to_three_quarters(random)),
+};
+
+/// Of either sign: the corners, each power of two and the numbers about it, and those about 3/4.
+fn fixed() -> Vec<Args> {
+    let powers = (0..2047u64).flat_map(|field| (-3..4).map(move |off| moved(f64::from_bits(field << 52), off)));
+    let border = (-99..100).map(|off| moved(0.75, off));
+    let all = CORNERS.map(f64::from_bits).into_iter().chain(powers).chain(border);
+    all.flat_map(|a| [[a, 0.0, 0.0], [-a, 0.0, 0.0]]).collect()
 }
 
-pub fn run(name: &str, n: u64, random: &mut Random) -> Option<Tally> {
-    let leaf = linked(name)?;
-    let rule: fn(f64) -> f64 = match name {
-        "atan" => rules::atan,
-        "ln" => rules::ln,
-        _ => rules::ln_1p,
-    };
-    let mut tally = Tally::default();
-    let mut take = |a: f64| {
-        for a in [a, -a] {
-            tally.take(&[a], unsafe { leaf(a) }, rule(a));
-        }
-    };
-    CORNERS.map(f64::from_bits).into_iter().for_each(&mut take);
-    for field in 0..2047u64 {
-        for off in -3..4 {
-            take(moved(f64::from_bits(field << 52), off));
-        }
-    }
-    for off in -99..100 {
-        take(moved(0.75, off));
-    }
-    (0..n).for_each(|_| take(case(random)));
-    Some(tally)
+fn signed(random: &mut Random, size: impl Fn(&mut Random) -> f64) -> Args {
+    let a = size(random);
+    [if random.coin() { a } else { -a }, 0.0, 0.0]
 }
 
 /// All exponents alike, and more where the sums are long: about 1 and to the ends of each range.
-fn case(random: &mut Random) -> f64 {
+fn of_any_size(random: &mut Random) -> f64 {
     match random.below(8) {
         0 => f64::from_bits(random.word()),
         1 => wide(random),
@@ -55,5 +60,27 @@ fn case(random: &mut Random) -> f64 {
         5 => scaled(random, -2, -1),
         6 => scaled(random, 0, 3),
         _ => corner(random),
+    }
+}
+
+/// Mostly from 2 up, where `ln` has a value.
+fn from_two(random: &mut Random) -> f64 {
+    match random.below(8) {
+        0 => of_any_size(random),
+        1 => moved(2.0, random.between(-9, 1 << 20)),
+        2 | 3 => scaled(random, 1, 3),
+        4 => scaled(random, 1, 70),
+        _ => scaled(random, 1, 1023),
+    }
+}
+
+/// Mostly up to 3/4, where `ln_1p` has a value.
+fn to_three_quarters(random: &mut Random) -> f64 {
+    match random.below(8) {
+        0 => of_any_size(random),
+        1 => moved(0.75, random.between(-(1 << 20), 9)),
+        2 => scaled(random, -60, -2),
+        3 => scaled(random, -1074, -2),
+        _ => 0.75 * (scaled(random, 0, 0) - 1.0),
     }
 }

@@ -1,23 +1,19 @@
 //! The root against the processor's.
 
-use super::Tally;
+use super::{one_argument, Leaf};
 use crate::random::Random;
-use crate::shapes::{moved, power_of_two, wide, CORNERS};
+use crate::shapes::{moved, power_of_two, wide};
 use crate::symbols;
 
-pub fn run(n: u64, random: &mut Random) -> Option<Tally> {
-    let root = symbols::SQRT?;
-    let mut tally = Tally::default();
-    let mut take = |a: f64| tally.take(&[a], unsafe { root(a) }, a.sqrt());
-    CORNERS.map(f64::from_bits).into_iter().for_each(&mut take);
-    for field in 0..2047u64 {
-        for fraction in [0, 1, 2, (1 << 51) - 1, 1 << 51, (1 << 51) + 1, (1 << 52) - 2, (1 << 52) - 1] {
-            take(f64::from_bits(field << 52 | fraction));
-        }
-    }
-    (0..n).for_each(|_| take(case(random)));
-    Some(tally)
-}
+pub static LEAF: Leaf = Leaf {
+    name: "sqrt",
+    arity: 1,
+    ours: |[a, ..]| Some(unsafe { symbols::SQRT?(a) }),
+    wanted: |[a, ..]| a.sqrt(),
+    standard: |[a, ..]| a.sqrt(),
+    fixed: || one_argument(&[0, 1, 2, (1 << 51) - 1, 1 << 51, (1 << 51) + 1, (1 << 52) - 2, (1 << 52) - 1]),
+    case: |random| [case(random), 0.0, 0.0],
+};
 
 fn case(random: &mut Random) -> f64 {
     match random.below(6) {
