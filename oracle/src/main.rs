@@ -6,6 +6,7 @@ mod compare;
 mod diff;
 mod examples;
 mod families;
+mod fuzz;
 mod gatewren;
 mod leaf;
 mod list;
@@ -19,7 +20,7 @@ mod units;
 use std::process::ExitCode;
 
 const USAGE: &str = "oracle examples | make-list | check-list | call | diff N [SEED] | leaf NAME N [SEED] | answers NAME |
-       compare N [SEED [THREADS]]";
+       compare N [SEED [THREADS]] | fuzz SECONDS [SEED]";
 
 fn main() -> ExitCode {
     let words: Vec<String> = std::env::args().skip(1).collect();
@@ -34,6 +35,8 @@ fn main() -> ExitCode {
         ["compare", n] => compare::run(number(n), 1, compare::all_threads()),
         ["compare", n, seed] => compare::run(number(n), number(seed), compare::all_threads()),
         ["compare", n, seed, threads] => compare::run(number(n), number(seed), number(threads)),
+        ["fuzz", seconds] => fuzz::run(number(seconds), 1),
+        ["fuzz", seconds, seed] => fuzz::run(number(seconds), number(seed)),
         ["answers", name] => leaf::answers(name),
         ["leaf", name, n] => leaf::run(name, number(n), 1),
         ["leaf", name, n, seed] => leaf::run(name, number(n), number(seed)),
