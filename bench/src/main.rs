@@ -1,9 +1,10 @@
-//! Times each leaf and entry of the proved library beside what a Rust program would use in its place.
+//! Times each leaf and entry of the proved library beside what a Rust program would use in its place, and the listing.
 
 mod clock;
 mod entries;
 mod inputs;
 mod leaves;
+mod listing;
 #[path = "../../oracle/src/random.rs"]
 #[allow(dead_code)]
 mod random;
@@ -11,19 +12,41 @@ mod random;
 mod symbols;
 
 use clock::Row;
+use std::process::Command;
 
 const REPEATS: usize = 40;
+const LISTING_REPEATS: usize = 10;
 
 /// Words after the command choose rows by their beginnings, as `bench/run sqrt RJ`.
 fn main() {
     let wanted: Vec<String> = std::env::args().skip(1).collect();
+    let chosen = |name: &str| wanted.is_empty() || wanted.iter().any(|word| name.starts_with(word.as_str()));
     let mut rows = leaves::rows();
     rows.extend(entries::rows());
-    rows.retain(|row| wanted.is_empty() || wanted.iter().any(|word| row.name.starts_with(word.as_str())));
+    rows.retain(|row| chosen(&row.name));
+    let mut listings = listing::rows();
+    listings.retain(|row| chosen(&row.name));
     // All rows in turn, and again: a slow spell of the machine then falls on all alike and the least time passes over it.
     for _ in 0..REPEATS {
         rows.iter_mut().for_each(Row::time);
     }
+    for _ in 0..LISTING_REPEATS {
+        listings.iter_mut().for_each(listing::Row::time);
+    }
+    println!("{}", machine());
+    if !rows.is_empty() {
+        functions(&rows);
+    }
+    if listings.is_empty() {
+        println!("\nthe listing: left out, by its name or because there is no target/bin/listing (./gatewren build)");
+    } else {
+        println!("\na million lines from a file, least of {LISTING_REPEATS} repeats, the program's start included");
+        println!("{:<32}{:>9}{:>17}{:>17}", "lines", "ns a line", "million a second", "bytes a line");
+        listings.iter().for_each(listing::Row::print);
+    }
+}
+
+fn functions(rows: &[Row]) {
     println!("ns a call, least of {REPEATS} interleaved repeats over {} inputs; ratio = ours / reference", inputs::COUNT);
     println!("(latency includes the chaining of a result to the next argument, some 2 ns on either side)\n");
     println!("{:<32}{:^30}{:^30}", "", "throughput", "latency");
@@ -32,4 +55,14 @@ fn main() {
         "leaf or entry, inputs", "ours", "reference", "ratio", "ours", "reference", "ratio"
     );
     rows.iter().for_each(Row::print);
+}
+
+/// The day, the processor's name and how many there are.
+fn machine() -> String {
+    let day = Command::new("date").args(["-u", "+%F"]).output().map(|it| String::from_utf8_lossy(&it.stdout).trim().to_string());
+    let info = std::fs::read_to_string("/proc/cpuinfo").unwrap_or_default();
+    let named = info.lines().find_map(|line| line.strip_prefix("model name")?.split_once(':'));
+    let processor = named.map_or("a processor without a name", |(_, name)| name.trim());
+    let count = std::thread::available_parallelism().map_or(1, |n| n.get());
+    format!("{}, {processor}, {count} processors", day.unwrap_or_default())
 }
