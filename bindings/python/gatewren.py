@@ -18,6 +18,9 @@ import enum
 import os
 import pathlib
 
+__all__ = ["Refusal", "Answer", "Value", "Refused", "rc", "rf", "rd", "rg", "rj"]
+__all__ += ["sqrt", "mul_add", "pow_neg_3_2", "atan", "ln", "ln_1p"]
+
 
 class Refusal(enum.Enum):
     """The numbers for no; docs/REFUSALS.md has the order in which an entry tests."""
