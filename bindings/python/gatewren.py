@@ -111,34 +111,36 @@ def _load():
 _LIBRARY = _load()
 
 
-def _entry(name, arity, text):
+def _symbol(name, arguments, result):
     symbol = getattr(_LIBRARY, f"gatewren_{name}")
-    symbol.argtypes = [ctypes.c_double] * arity + [ctypes.POINTER(ctypes.c_double), ctypes.POINTER(ctypes.c_uint32)]
-    symbol.restype = ctypes.c_uint32
+    symbol.argtypes, symbol.restype = arguments, result
+    return symbol
 
+
+def _function(name, arity, text, answer):
     def call(*arguments):
         if len(arguments) != arity:
             raise TypeError(f"{name} takes {arity} arguments, not {len(arguments)}")
-        value, rounds = ctypes.c_double(), ctypes.c_uint32()
-        number = symbol(*map(ctypes.c_double, arguments), ctypes.byref(value), ctypes.byref(rounds))
-        return Value(value.value, rounds.value) if number == 0 else Refused(number)
+        return answer(*map(ctypes.c_double, arguments))
 
     call.__name__, call.__qualname__, call.__doc__ = name, name, text
     return call
+
+
+def _entry(name, arity, text):
+    places = [ctypes.POINTER(ctypes.c_double), ctypes.POINTER(ctypes.c_uint32)]
+    symbol = _symbol(name, [ctypes.c_double] * arity + places, ctypes.c_uint32)
+
+    def answer(*arguments):
+        value, rounds = ctypes.c_double(), ctypes.c_uint32()
+        number = symbol(*arguments, ctypes.byref(value), ctypes.byref(rounds))
+        return Value(value.value, rounds.value) if number == 0 else Refused(number)
+
+    return _function(name, arity, text, answer)
 
 
 def _leaf(name, arity, text):
-    symbol = getattr(_LIBRARY, f"gatewren_{name}")
-    symbol.argtypes = [ctypes.c_double] * arity
-    symbol.restype = ctypes.c_double
-
-    def call(*arguments):
-        if len(arguments) != arity:
-            raise TypeError(f"{name} takes {arity} arguments, not {len(arguments)}")
-        return symbol(*map(ctypes.c_double, arguments))
-
-    call.__name__, call.__qualname__, call.__doc__ = name, name, text
-    return call
+    return _function(name, arity, text, _symbol(name, [ctypes.c_double] * arity, ctypes.c_double))
 
 
 rc = _entry("rc", 2, "RC(x, y); for y below zero its Cauchy principal value.")

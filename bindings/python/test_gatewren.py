@@ -77,6 +77,13 @@ class Examples(unittest.TestCase):
         self.assertTrue(math.isnan(gatewren.ln(1.5)))
         self.assertLess(abs(gatewren.ln_1p(-0.5) + math.log(2)), 1e-15)
 
+    def test_the_number_of_arguments(self):
+        for call in (rc, rf, rd, rg, rj, gatewren.sqrt, gatewren.mul_add):
+            with self.assertRaises(TypeError, msg=call.__name__):
+                call()
+            with self.assertRaises(TypeError, msg=call.__name__):
+                call(1, 1, 1, 1, 1)
+
     def test_what_the_comments_show(self):
         self.assertEqual(doctest.testmod(gatewren).failed, 0)
 
