@@ -1,0 +1,17 @@
+pub mod Near
+pub mod Cross
+pub mod Units
+pub mod Kind
+pub mod Last
+pub mod Within
+pub mod Two
+pub mod One
+pub mod Tests
+pub mod Leaf
+pub mod Root
+pub mod Power
+pub mod Plain
+pub mod Error
+pub mod Mean
+pub mod Lead
+pub mod Every
