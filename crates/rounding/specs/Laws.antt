@@ -48,17 +48,18 @@ last-next v (suc k) b h = last-next v k (cond (reached v (b + 2 ^ k)) (b + 2 ^ k
     go true e = let f : b + 2 ^ suc k ≡ b + 2 ^ k + 2 ^ k = omega (arith, pow-succ' 2 k) in rw f at h
     go false e = subst (λ (z : Bool). T (not z)) (sym e) tt
 
-abbrev found : Cut → ℕ
+-- the pattern of the answer
+abbrev pub found : Cut → ℕ
 found v = last v 63 0
 
-found-reached : (v : Cut) → T (reached v (found v))
+pub found-reached : (v : Cut) → T (reached v (found v))
 found-reached v = last-reached v 63 0 (unfold reached in tt)
 
-found-next : (v : Cut) → T (not (reached v (suc (found v))))
+pub found-next : (v : Cut) → T (not (reached v (suc (found v))))
 found-next v = last-next v 63 0 (unfold reached in tt)
 
 -- ---- what is reached, taken apart
-reached-suc : (v : Cut) (b : ℕ) → T (reached v (suc b)) → (b < infinity) × T (passed v b)
+pub reached-suc : (v : Cut) (b : ℕ) → T (reached v (suc b)) → (b < infinity) × T (passed v b)
 unfolding reached
 reached-suc v b t = (ltb→lt b infinity (and-l (ltb b infinity) (passed v b) t), and-r (ltb b infinity) (passed v b) t)
 
@@ -82,7 +83,7 @@ gt-passed v b e = subst (λ (o : Ordering). T (not (nearer o b))) (sym e) tt
 
 module _ (v : Cut) (num : Number v) where
   -- a middle that is lower than one that is not above v is below v
-  under : (m n : ℕ) → m < n → T (isLe (v n (2 ^ 1075))) → v m (2 ^ 1075) ≡ Ordering·lt
+  pub under : (m n : ℕ) → m < n → T (isLe (v n (2 ^ 1075))) → v m (2 ^ 1075) ≡ Ordering·lt
   under m n h t = num .below m (2 ^ 1075) n (2 ^ 1075) (pow-pos 1075) (pow-pos 1075) (mul-lt-mul-of-pos-right h (pow-pos 1075)) t
 
   before : (b : ℕ) → T (reached v (suc b)) → T (reached v b)
@@ -92,23 +93,26 @@ module _ (v : Cut) (num : Number v) where
       let h : b < infinity = omega (arith, r .0) in
       reach v b h (lt-passed v b (under (middle b (suc b)) (middle (suc b) (suc (suc b))) (omega (arith, value-lt b (suc (suc b)) (omega arith))) (nearer-le (v (middle (suc b) (suc (suc b))) (2 ^ 1075)) (suc b) (r .1))))
 
-  all-before : (j n : ℕ) → j ≤ n → T (reached v n) → T (reached v j)
+  pub all-before : (j n : ℕ) → j ≤ n → T (reached v n) → T (reached v j)
   all-before j zero h t = let e : j ≡ zero = omega arith in subst (λ (z : ℕ). T (reached v z)) (sym e) t
   all-before j (suc n) h t = elim (lt-or-le j (suc n)) [
     | inl l ↦ all-before j n (omega arith) (before n t)
     | inr l ↦ let e : j ≡ suc n = omega arith in subst (λ (z : ℕ). T (reached v z)) (sym e) t
   ]
 
-  not-lower : (m n : ℕ) → T (not (reached v (suc m))) → T (reached v n) → m < n → ⊥
+  pub not-lower : (m n : ℕ) → T (not (reached v (suc m))) → T (reached v n) → m < n → ⊥
   not-lower m n a b h = T-not (reached v (suc m)) a (all-before (suc m) n h b)
 
   -- THE LAW FOR PROOFS: the pattern that is reached while the next is not is the answer
-  pub rounded-at : (n : ℕ) → T (reached v n) → T (not (reached v (suc n))) → rounded v ≡ ofBits binary64 n
-  unfolding rounded
-  rounded-at n a b = ap (λ (z : ℕ). ofBits binary64 z) (elim (lt-or-le (found v) n) [
+  pub found-at : (n : ℕ) → T (reached v n) → T (not (reached v (suc n))) → found v ≡ n
+  found-at n a b = elim (lt-or-le (found v) n) [
     | inl l ↦ absurd (not-lower (found v) n (found-next v) a l)
     | inr l ↦ elim (lt-or-le n (found v)) [ inl g ↦ absurd (not-lower n (found v) b (found-reached v) g) | inr g ↦ le-antisymm g l ]
-  ])
+  ]
+
+  pub rounded-at : (n : ℕ) → T (reached v n) → T (not (reached v (suc n))) → rounded v ≡ ofBits binary64 n
+  unfolding rounded
+  rounded-at n a b = ap (λ (z : ℕ). ofBits binary64 z) (found-at n a b)
 
   -- (where v is at no middle: between the middles beside a pattern that is not 0)
   pub rounded-between : (b : ℕ) → b < infinity → v (middle b (suc b)) (2 ^ 1075) ≡ Ordering·lt → v (middle (suc b) (suc (suc b))) (2 ^ 1075) ≡ Ordering·gt → rounded v ≡ ofBits binary64 (suc b)

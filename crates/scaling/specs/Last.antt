@@ -3,6 +3,7 @@
 use mathlib.Core.Path.{_≡_, sym, ap, _∙_, subst}
 use mathlib.Core.Logic.{_⊎_, inl, inr}
 use Prim.Native.Nat.{ℕ, zero, suc, _+_, _-_, _*_, _%_, _^_, _≤_, _<_}
+use native.Mathlib.Nat.{lt-of-mul-lt-mul-right, mul-lt-mul-of-pos-right, lt-of-lt-of-le, mul-comm}
 use native.Mathlib.Nat.{le-trans, le-of-eq, lt-of-le-of-lt, not-le-of-lt, eq-zero-or-pos, zero-mul, one-mul, mul-one, mul-assoc}
 use native.Mathlib.Nat.{mul-le-mul-right, eq-of-mul-eq-mul-right, zero-lt-suc}
 use native.Mathlib.Omega.{arith}
@@ -14,6 +15,7 @@ use lib.Pow.{pow-add, pow-pos, pow-lt, shl-lt}
 use lib.Ieee.{Float, nan, inf, fin, Format, prec, emax, low, up, down, size, fits}
 use lib.Ieee.Digits.{size-lt, size-le, back}
 use lib.Ieee.Fits.{and-r, down-pos}
+use lib.Ieee.Scale.{overflow}
 use Rattle.algebra.specs.Ring.{con, _:*_, _≈_, _⊩_, _times_≼_, ring}
 use Rattle.scaling.specs.Near.{near, digits, near-exact, near-zero, near-whole, either}
 use Rattle.scaling.specs.Cross.{addN, addN-cross}
@@ -64,6 +66,25 @@ digits-of {f} {x = fin t (suc m) (negsuc k)} {n = n} a =
           (sym e));
       small = ltb→lt (suc m) (2 ^ prec f) (and-r (eqb (suc m % 2) 1) (ltb (suc m) (2 ^ prec f)) (o .0));
     }
+
+-- the largest float is below 2 ^ (emax + 1)
+pub is-under : {f : Format} {x : Float} {s : Bool} {n : ℕ} → Is f x s n → n < overflow f
+unfolding fits
+is-under {x = nan} a = absurd (a .val)
+is-under {x = inf t} a = absurd (a .val)
+is-under {f} {x = fin t zero e} {n = n} a =
+    let none : n ≡ 0 =
+    eq-of-mul-eq-mul-right (down e) (down-pos e) n 0
+    (sym (a .val .1) ∙ ring 3 (λ u l d. con 0 :* u :* l ≈ con 0 :* d) tt (up e) (2 ^ low f) (down e)) in
+    subst (λ z. z < overflow f) (sym none) (pow-pos (low f + suc (emax f)))
+is-under {f} {x = fin t (suc m) e} {n = n} a =
+    let q =
+    and₃ (eqb (suc m % 2) 1 && ltb (suc m) (2 ^ prec f)) (leb (down e) (2 ^ low f)) (ltb (suc m * up e) (2 ^ suc (emax f) * down e)) (a .fit) .2 in
+    let e' : 2 ^ suc (emax f) * 2 ^ low f ≡ overflow f = mul-comm (2 ^ suc (emax f)) (2 ^ low f) ∙ sym (pow-add 2 (low f) (suc (emax f))) in
+    lt-of-mul-lt-mul-right (down e)
+    (lt-of-le-of-lt (le-of-eq (sym (a .val .1)))
+    (lt-of-lt-of-le (mul-lt-mul-of-pos-right (ltb→lt (suc m * up e) (2 ^ suc (emax f) * down e) q) (pow-pos (low f)))
+    (le-of-eq (ring 4 (λ b d l o. (d times b :* l ≼ o) ∷ [] ⊩ b :* d :* l ≈ o :* d) tt (2 ^ suc (emax f)) (down e) (2 ^ low f) (overflow f) e'))))
 
 pub record Multiple (g n : ℕ) : Type 0 where
   pub c : ℕ

@@ -8,6 +8,7 @@ pub mod Two
 pub mod One
 pub mod Tests
 pub mod Leaf
+pub mod Rounded
 pub mod Root
 pub mod Power
 pub mod Plain
