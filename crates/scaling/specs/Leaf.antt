@@ -44,7 +44,7 @@ apart m n h = go (ltb n m) (ltb→lt n m)
     go true k = absurd (lt-irrefl n (let l = k tt in let r : n < n = omega arith in r))
     go false k = (refl, omega arith)
 
-gap-in : (f : Format) (A B : Kind) {s t : Bool} {m n : ℕ} → s ≡ false → t ≡ true → m < n
+pub gap-in : (f : Format) (A B : Kind) {s t : Bool} {m n : ℕ} → s ≡ false → t ≡ true → m < n
     → In (sumK f B (negK A)) (addS s n t m) (near f (addN s n t m) 1) → In (gapK f B A) (addS s n t m) (near f (addN s n t m) 1)
 unfolding gapK sumK
 gap-in f A B {s} {t} {m} {n} S N h i =
@@ -61,9 +61,9 @@ gap-in f A B {s} {t} {m} {n} S N h i =
       to = i .to;
     }
 
-pub gap-two : {f : Format} {k : ℕ} {A B : Kind} {x y x' y' : Float} (a : Two f k A x x') (b : Two f k B y y') → T (lt x y) → T (level? A B)
+unfoldable pub gap-two : {f : Format} {k : ℕ} {A B : Kind} {x y x' y' : Float} (a : Two f k A x x') (b : Two f k B y y') → T (lt x y) → T (level? A B)
     → T (gapOk f B A) → Two f k (gapK f B A) (sub f y x) (sub f y' x')
-unfolding sub gapK gapOk sumK sumOk neg-two
+unfolding sub gapK gapOk sumK sumOk neg-two summed
 gap-two {f} {k} {A} {B} a b t w ok =
     let c = neg-two a in
     let o = and-l (sumOk f B (negK A)) (not (A .any || B .any)) ok in
@@ -77,6 +77,28 @@ gap-two {f} {k} {A} {B} a b t w ok =
     (and-r (level? B (negK A)) (ltb (sumK f B (negK A) .hi) (overflow f)) o)
     (gap-in f A B S' N h (sum-in f (b .in-first) (c .in-first) (b .grain) (c .grain)))
     (gap-in f A B S' N h' (sum-in f (b .in-second) (c .in-second) (b .grain-second) (c .grain-second))) (inr refl)
+
+-- its units: the difference, rounded
+pub gap-units : {f : Format} {k : ℕ} {A B : Kind} {x y x' y' : Float} (a : Two f k A x x') (b : Two f k B y y') (t : T (lt x y)) (w : T (level? A B))
+    (ok : T (gapOk f B A))
+    → (a .m < b .m) × (a .n < b .n) × (gap-two a b t w ok .m ≡ near f (b .m - a .m) 1) × (gap-two a b t w ok .n ≡ near f (b .n - a .n) 1)
+unfolding gap-two gapOk
+gap-units {f} {k} {A} {B} a b t w ok =
+    let p = and-r (sumOk f B (negK A)) (not (A .any || B .any)) ok in
+    let S : a .s ≡ false = a .in-first .sign (nor-l (A .any) (B .any) p) in
+    let S' : b .s ≡ false = b .in-first .sign (nor-r (A .any) (B .any) p) in
+    let h = ltb→lt (a .m) (b .m) (subst T (lt-units (a .first) (b .first) ∙ ap₂ (λ s t. below s (a .m) t (b .m)) S S') t) in
+    let h' = ltb→lt (a .n) (b .n) (subst T (lt-two a b w ∙ lt-units (a .second) (b .second) ∙ ap₂ (λ s t. below s (a .n) t (b .n)) S S') t) in
+    let at : (m n : ℕ) → m < n → near f (addN (b .s) n (not (a .s)) m) 1 ≡ near f (n - m) 1 =
+    λ m n l. ap (λ z. near f z 1) (ap₂ (λ s t. addN s n (not t) m) S' S ∙ larger m n l) in
+    (h, h', at (a .m) (b .m) h, at (a .n) (b .n) h')
+  where
+    larger : (m n : ℕ) → m < n → addN false n true m ≡ n - m
+    larger m n h = go (ltb n m) (ltb→lt n m)
+      where
+        go : (b : Bool) → (T b → n < m) → cond b (m - n) (n - m) ≡ n - m
+        go true k = absurd (lt-irrefl n (let l = k tt in let r : n < n = omega arith in r))
+        go false k = refl
 
 -- ---- a function g that has, at a float of the kind A, a value of the kind B or no number
 pub record Value (f : Format) (B : Kind) (x : Float) : Type 0 where

@@ -16,3 +16,6 @@ pub mod Error
 pub mod Mean
 pub mod Lead
 pub mod Every
+pub mod Signs
+pub mod Pick
+pub mod Gap

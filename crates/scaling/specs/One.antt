@@ -132,7 +132,7 @@ abs-two a = record {
 }
 
 -- ---- the larger: a NaN is passed over, and of two equals the first is taken
-number : {f : Format} {x : Float} {s : Bool} {n : ℕ} → Is f x s n → isNan x ≡ false
+pub number : {f : Format} {x : Float} {s : Bool} {n : ℕ} → Is f x s n → isNan x ≡ false
 unfolding isNan
 number {x = nan} a = absurd (a .val)
 number {x = inf t} a = absurd (a .val)

@@ -128,7 +128,7 @@ module _ {f : Format} {k : ℕ} {A B : Kind} {x₀ y₀ x' y' : Float} (a : Two 
       ap (λ z. b .n * 2 ^ (k * z)) e' ∙ b .tie ∙ ap (λ z. b .m * 2 ^ (k * z)) (sym e)
 
   -- its grain: the last place of its bound, or what divides both
-  grained : (K : Kind) (s t r : Bool) (m n : ℕ) → In K r (near f (addN s m t n) 1) → Digits f (near f (addN s m t n) 1) → Multiple (A .g) m
+  pub grained : (K : Kind) (s t r : Bool) (m n : ℕ) → In K r (near f (addN s m t n) 1) → Digits f (near f (addN s m t n) 1) → Multiple (A .g) m
       → Multiple (B .g) n
       → (K .g ≡ last f (K .lo)) ⊎ (K .g ≡ min (A .g) (B .g)) → Multiple (K .g) (near f (addN s m t n) 1)
   grained K s t r m n i D M N (inl e) = subst (λ z. Multiple z (near f (addN s m t n) 1)) (sym e) (last-grain i D)
@@ -137,7 +137,7 @@ module _ {f : Format} {k : ℕ} {A B : Kind} {x₀ y₀ x' y' : Float} (a : Two 
       subst (λ z. Multiple z (near f (addN s m t n) 1)) (sym e)
       (sum-grain f s m t n p (coarser (A .g) p (least-l (A .g) (B .g)) M) (coarser (B .g) p (least-r (A .g) (B .g)) N))
 
-  pub summed : (K : Kind) → K .u ≡ A .u → K .d ≡ A .d → T (level? A B) → T (ltb (K .hi) (overflow f))
+  unfoldable pub summed : (K : Kind) → K .u ≡ A .u → K .d ≡ A .d → T (level? A B) → T (ltb (K .hi) (overflow f))
       → In K (addS (a .s) (a .m) (b .s) (b .m)) (near f (addN (a .s) (a .m) (b .s) (b .m)) 1)
       → In K (addS (a .s) (a .n) (b .s) (b .n)) (near f (addN (a .s) (a .n) (b .s) (b .n)) 1)
       → (K .g ≡ last f (K .lo)) ⊎ (K .g ≡ min (A .g) (B .g))
