@@ -15,13 +15,13 @@ use Rattle.scaling.specs.Near.{near, digits, near-mono, near-same, near-
 use Rattle.scaling.specs.Last.{Digits}
 
 -- ---- a float is not changed by rounding; a quarter and four times it are exact
-on-grid : {f : Format} {n : ℕ} → Digits f n → near f n 1 ≡ n
+pub on-grid : {f : Format} {n : ℕ} → Digits f n → near f n 1 ≡ n
 on-grid {f} {n} D = ap (λ z. near f z 1) (D .is ∙ sym (mul-one _)) ∙ near-exact f (D .M) (D .j) 1 (zero-lt-suc 0) (D .small) ∙ sym (D .is)
 
-shifted : {f : Format} {n : ℕ} (t : ℕ) → Digits f n → near f (n * 2 ^ t) 1 ≡ n * 2 ^ t
+pub shifted : {f : Format} {n : ℕ} (t : ℕ) → Digits f n → near f (n * 2 ^ t) 1 ≡ n * 2 ^ t
 shifted {f} {n} t D = near-whole f n t ∙ ap (λ z. z * 2 ^ t) (on-grid D)
 
-four-times : {f : Format} {n : ℕ} → Digits f n → near f (n * (4 * 2 ^ low f)) (2 ^ low f) ≡ n * 4
+pub four-times : {f : Format} {n : ℕ} → Digits f n → near f (n * (4 * 2 ^ low f)) (2 ^ low f) ≡ n * 4
 four-times {f} {n} D =
     near-same f (n * (4 * 2 ^ low f)) (2 ^ low f) (n * 2 ^ 2) 1 (pow-pos (low f)) (zero-lt-suc 0)
     (ring 2 (λ n l. n :* (con 4 :* l) :* con 1 ≈ n :* con 4 :* l) tt n (2 ^ low f)) ∙ shifted 2 D
@@ -39,7 +39,7 @@ low-digits M j p n e s h =
     more : (p j : ℕ) → j ≤ 2 → p + j ≤ p + 2
     more p j h = omega arith
 
-quarter : {f : Format} {n : ℕ} → Digits f n → 2 ^ (prec f + 2) ≤ n → near f (n * 2 ^ low f) (4 * 2 ^ low f) * 4 ≡ n
+pub quarter : {f : Format} {n : ℕ} → Digits f n → 2 ^ (prec f + 2) ≤ n → near f (n * 2 ^ low f) (4 * 2 ^ low f) * 4 ≡ n
 quarter {f} {n} D h =
     let l = 2 ^ low f in
     let i : ℕ = D .j - 2 in

@@ -23,7 +23,7 @@ use Rattle.carlson.specs.Constants.{zero}
 use Rattle.units.specs.Statement.{InRange, Times, TimesFour, least, most}
 use Rattle.units.specs.Kinds.{argumentK}
 
-no-units-of : {x : Float} {s : Bool} {n : ℕ} → Is binary64 x s n → T (eq x zero) → n ≡ 0
+pub no-units-of : {x : Float} {s : Bool} {n : ℕ} → Is binary64 x s n → T (eq x zero) → n ≡ 0
 no-units-of {x} {s} {n} X h = eqb→eq n 0 (and-l (eqb n 0) (Bool·beq s false || eqb n 0) (subst T (eq-units X (zero-is binary64)) h))
 
 -- ---- one argument
