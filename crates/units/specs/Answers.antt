@@ -21,7 +21,7 @@ use Rattle.carlson.specs.Answer.{settled, settledLate}
 use Rattle.carlson.specs.declared.answer.Found.{Found}
 use Rattle.carlson.specs.declared.answer.Answer.{Answer}
 use Rattle.carlson.specs.declared.answer.Answer.the-variants.{Value, Refused}
-use Rattle.units.specs.Statement.{Times, Alike, refused, values}
+use Rattle.units.specs.Statement.{Times, TimesFour, Alike, refused, values}
 use Rattle.units.specs.Runs.{Same, both, lost}
 
 -- ---- what an entry settles
@@ -80,6 +80,13 @@ times-back t = record { finite-first = t .finite-second; finite-second = t .fini
 pub alike-back : {u d : ℕ} {r s : Answer} → Alike u d r s → Alike d u s r
 alike-back refused = refused
 alike-back (values t) = values (times-back t)
+
+-- the arguments, each way round
+pub onward : {u : ℕ} {x y : Float} (k d : ℕ) → u ≡ k + d → TimesFour u d x y → TimesFour (k + d) d x y
+onward {u} {x} {y} k d e t = subst (λ i. TimesFour i d x y) e t
+
+pub backward : {d : ℕ} {x y : Float} (k u : ℕ) → d ≡ k + u → TimesFour u d x y → TimesFour (k + u) u y x
+backward {d} {x} {y} k u e t = subst (λ i. TimesFour i u y x) e (times-back t)
 
 pub either-way : (u d : ℕ) {X : Type 0} → ((k : ℕ) → u ≡ k + d → X) → ((k : ℕ) → d ≡ k + u → X) → X
 either-way u d f g =

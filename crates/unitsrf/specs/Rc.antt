@@ -8,7 +8,7 @@ use native.Mathlib.Nat.{lt-of-lt-of-le, lt-irrefl, mul-pos, zero-mul, zero-lt-su
 use native.Mathlib.Omega.{arith}
 use mathlib.Core.Bool.{Bool, true, false, not, _&&_, _||_, Bool·beq, cond}
 use lib.IntN.{ℤ}
-use lib.Dec.{T, ltb, ltb→lt, lt→ltb, lit<}
+use lib.Dec.{T, T-not, ltb, ltb→lt, lt→ltb, lit<}
 use lib.Ieee.{Float, nan, inf, fin, Format, binary64, low, up, down, add, sub, eq, lt, neg}
 use lib.Pow.{pow-pos}
 use lib.Ieee.Fits.{up-pos}
@@ -37,10 +37,11 @@ use Rattle.carlson.specs.declared.answer.Answer.{Answer}
 use Rattle.elliprc.specs.Rc.{rcCases, rcSteps, rcRescaled, rcUnchecked, rc}
 use Rattle.units.specs.Statement.{InRange, TimesFour, Alike}
 use Rattle.units.specs.Kinds.{argumentK, meanK}
-use Rattle.units.specs.Arguments.{no-units-of, argument}
+use Rattle.units.specs.Arguments.{no-units-of, argument, Argument, above}
+use Rattle.units.specs.Checks.{numbers2, finite2}
 use Rattle.units.specs.Limits.{Size, first-size, second-size, within2}
 use Rattle.units.specs.Runs.{Fair, fair, wider-fair}
-use Rattle.units.specs.Answers.{Pair, no, late-same, alike-of, alike-back, times-back, either-way}
+use Rattle.units.specs.Answers.{Pair, no, late-same, alike-of, alike-back, onward, backward, either-way}
 use Rattle.unitsrf.specs.Leaves.{Bounded, spread}
 use Rattle.unitsrf.specs.Cases.{wideK, divisorK, Carries, cases-fair}
 use Rattle.series.specs.Atan.{atan}
@@ -110,15 +111,9 @@ root-of-zero {x} {s} X = let r = form X in subst (λ z. root z ≡ z) (sym (r .i
         absurd (let p : 0 < suc m * up e * 2 ^ 1074 = mul-pos (mul-pos (zero-lt-suc m) (up-pos e)) (pow-pos 1074) in lt-irrefl 0
         (subst (λ z. 0 < z) (u ∙ zero-mul (down e)) p))
 
--- ---- past the checks: neither NaN nor infinity, and not rescaled
+-- ---- past the checks, and not rescaled
 abbrev late : Float → Float → Bool → Bool → Answer
 late x y a b = settledLate (closedAt (rcUnchecked x y)) a b 7
-
-numbers : {x y : Float} {s t : Bool} {m n : ℕ} → Is binary64 x s m → Is binary64 y t n → anyNan2 x y ≡ false
-numbers X Y = ap₂ _||_ (number X) (number Y)
-
-finite-both : {x y : Float} {s t : Bool} {m n : ℕ} → Is binary64 x s m → Is binary64 y t n → anyInfinite2 x y ≡ false
-finite-both X Y = ap₂ _||_ (bounded X) (bounded Y)
 
 pub unscaled : (x y : Float) → Size (absolute x) → Size (absolute y) → rcUnchecked x y ≡ rcSteps x y
 unfolding rcUnchecked
@@ -190,6 +185,17 @@ module _ (atan-b : Bounded atan) (ln-b : Bounded ln) (spread-b : Bounded spread)
       choose (Fair k rcK) (lt y constant.zero) (lt y' constant.zero) (lt-zero-two Y) (λ b. below-fair X t Y b z)
       (λ b. wider-fair (above-fair X t (above-two Y b z)) tt)
 
+  -- ---- RC as RF, RG and RJ call it, with y above zero
+  pub unchecked-fair : {x y x' y' : Float} → Argument k x x' → Argument k y y' → T (not (eq y constant.zero))
+      → Fair k resultK (rcUnchecked x y) (rcUnchecked x' y')
+  unfolding rcSteps
+  unchecked-fair {x} {y} {x'} {y'} X Y z =
+      subst₂ (Fair k resultK) (sym (unscaled x y (first-size (X .two)) (first-size (Y .two))))
+      (sym (unscaled x' y' (second-size (X .two)) (second-size (Y .two))))
+      (choose (Fair k resultK) (lt y constant.zero) (lt y' constant.zero) (lt-zero-two (Y .two))
+      (λ t. absurd (T-not (lt y constant.zero) (Y .plus) t))
+      (λ t. above-fair (X .two) (X .plus) (above Y z)))
+
   -- ---- the entry
   pub rc-pair : {x y x' y' : Float} → Two binary64 k argumentK x x' → Two binary64 k argumentK y y' → Pair k rcK (rc x y) (rc x' y')
   unfolding rc
@@ -198,10 +204,10 @@ module _ (atan-b : Bounded atan) (ln-b : Bounded ln) (spread-b : Bounded spread)
       (λ t.
       choose (Pair k rcK) (eq y constant.zero) (eq y' constant.zero) (zero-two Y) (λ z. no)
       (λ z.
-      subst₂ (λ a b. Pair k rcK (late x y a b) (late x' y' (anyNan2 x' y') (anyInfinite2 x' y'))) (sym (numbers (X .first) (Y .first)))
-      (sym (finite-both (X .first) (Y .first)))
-      (subst₂ (λ a b. Pair k rcK (late x y false false) (late x' y' a b)) (sym (numbers (X .second) (Y .second)))
-      (sym (finite-both (X .second) (Y .second)))
+      subst₂ (λ a b. Pair k rcK (late x y a b) (late x' y' (anyNan2 x' y') (anyInfinite2 x' y'))) (sym (numbers2 (X .first) (Y .first)))
+      (sym (finite2 (X .first) (Y .first)))
+      (subst₂ (λ a b. Pair k rcK (late x y false false) (late x' y' a b)) (sym (numbers2 (X .second) (Y .second)))
+      (sym (finite2 (X .second) (Y .second)))
       (late-same 7 (fair (subst₂ (Fair k rcK) (sym (unscaled x y (first-size X) (first-size Y)))
       (sym (unscaled x' y' (second-size X) (second-size Y))) (steps-fair X t Y z)))))))
 
@@ -217,13 +223,8 @@ module _ (atan-b : Bounded atan) (ln-b : Bounded ln) (spread-b : Bounded spread)
       → Alike d u (rc x y) (rc x' y')
   rc-scales u d x y x' y' X Y X' Y' s t =
       either-way u d
-      (λ k e.
-      subst (λ z. Alike d z (rc x y) (rc x' y')) (sym e)
-      (upward k d x y x' y' X Y X' Y' (subst (λ z. TimesFour z d x x') e s) (subst (λ z. TimesFour z d y y') e t)))
-      (λ k e.
-      subst (λ z. Alike z u (rc x y) (rc x' y')) (sym e)
-      (alike-back (upward k u x' y' x y X' Y' X Y (subst (λ z. TimesFour z u x' x) e (times-back s))
-      (subst (λ z. TimesFour z u y' y) e (times-back t)))))
+      (λ k e. subst (λ i. Alike d i (rc x y) (rc x' y')) (sym e) (upward k d x y x' y' X Y X' Y' (onward k d e s) (onward k d e t)))
+      (λ k e. subst (λ i. Alike i u (rc x y) (rc x' y')) (sym e) (alike-back (upward k u x' y' x y X' Y' X Y (backward k u e s) (backward k u e t))))
 
   -- and of the function: whatever two calls of `elliprc` answer, whose contract is r ≡ rc x y
   pub rc-called : (u d : ℕ) (x y x' y' : Float) (r r' : Answer) → r ≡ rc x y → r' ≡ rc x' y'
