@@ -19,3 +19,4 @@ pub mod Every
 pub mod Signs
 pub mod Pick
 pub mod Gap
+pub mod Fused

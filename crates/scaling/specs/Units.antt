@@ -71,7 +71,7 @@ round-units f s a c n d C D e h =
         (units-val f s (kept (prec f) (a * 2 ^ low f) c) (drop (prec f) (a * 2 ^ low f) c) k)
 
 -- ---- the operations, on x with m units and y with n
-sum-is : (f : Format) (s : Bool) (a : ℕ) (t : Bool) (b c : ℕ) → sum f s a t b c ≡ round f (addS s a t b) (addN s a t b) c
+pub sum-is : (f : Format) (s : Bool) (a : ℕ) (t : Bool) (b c : ℕ) → sum f s a t b c ≡ round f (addS s a t b) (addN s a t b) c
 unfolding sum
 sum-is f s a t b c = go (Bool·beq s t) (ltb a b)
   where
