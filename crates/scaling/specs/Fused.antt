@@ -3,20 +3,20 @@
 use mathlib.Core.Path.{_≡_, refl, sym, ap, ap₂, _∙_, subst}
 use mathlib.Core.Logic.{inl, inr}
 use Prim.Native.Nat.{ℕ, _+_, _-_, _*_, _^_, _≤_, _<_, min}
-use native.Mathlib.Nat.{le-trans, le-of-eq, mul-one, mul-pos, mul-add, mul-le-mul, mul-le-mul-right, add-le-add, add-mul, zero-lt-suc}
+use native.Mathlib.Nat.{le-trans, le-of-eq, mul-one, mul-pos, mul-le-mul, mul-le-mul-right, add-le-add, add-mul, zero-lt-suc}
 use native.Mathlib.Nat.{le-refl, eq-of-mul-eq-mul-right}
 use native.Mathlib.Omega.{arith}
 use mathlib.Core.Bool.{Bool, true, false, _&&_, Bool·beq, cond}
 use mathlib.Core.List.{[], _∷_}
 use lib.Dec.{T, ltb, leb, eqb, leb→le, eqb→eq}
 use lib.Pow.{pow-add, pow-pos}
-use lib.Ieee.{Float, binary64, unlike, round, sum}
+use lib.Ieee.{Float, binary64, unlike, round}
 use lib.Ieee.Fits.{and-l, and-r}
 use lib.Ieee.Scale.{overflow}
 use Rattle.algebra.specs.Ring.{_:*_, _≈_, _⊩_, _times_≼_, ring}
 use Rattle.fused.specs.Fused.{fused}
 use Rattle.fused.specs.Laws.{fused-sum}
-use Rattle.scaling.specs.Near.{near, near-mono, near-same, near-whole}
+use Rattle.scaling.specs.Near.{near, near-mono, near-whole}
 use Rattle.scaling.specs.Cross.{addN, addS, addN-cross, addS-cross}
 use Rattle.scaling.specs.Units.{Is, round-units, sum-is}
 use Rattle.scaling.specs.Kind.{Kind, In, and₃}

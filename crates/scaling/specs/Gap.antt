@@ -1,20 +1,19 @@
 -- Two floats that differ do so by a part in 2 ^ (prec + 1) of the larger at least: what lies between them is a multiple of the smaller's last
 -- place. So a quotient like (x - y) / x, which bounds alone would let be tiny, is never so; and a lower bound from elsewhere enters a kind.
-use mathlib.Core.Path.{_≡_, sym, ap, ap₂, _∙_, subst}
+use mathlib.Core.Path.{_≡_, sym, ap, ap₂, _∙_}
 use mathlib.Core.Logic.{inl, inr}
-use Prim.Native.Nat.{ℕ, suc, _+_, _-_, _*_, _/_, _^_, _≤_, _<_}
-use native.Mathlib.Nat.{le-trans, le-of-eq, le-of-lt, lt-of-lt-of-le, lt-of-le-of-lt, mul-one, one-mul, mul-le-mul-right, mul-le-mul-left}
+use Prim.Native.Nat.{ℕ, _+_, _-_, _*_, _^_, _≤_, _<_}
+use native.Mathlib.Nat.{le-trans, le-of-eq, le-of-lt, mul-one, one-mul, mul-le-mul-right, mul-le-mul-left}
 use native.Mathlib.Nat.{zero-lt-suc}
 use native.Mathlib.Omega.{arith}
-use mathlib.Core.Bool.{Bool}
 use mathlib.Core.List.{[], _∷_}
-use lib.Pow.{pow-add, pow-pos, pow-mono, pow-lt}
+use lib.Pow.{pow-add, pow-mono, pow-lt}
 use lib.Ieee.{Float, Format, prec, low, size}
-use lib.Ieee.Digits.{size-lt, size-reaches, size-le}
-use Rattle.algebra.specs.Ring.{con, _:+_, _:*_, _≈_, _⊩_, _times_≼_, below, ring}
+use lib.Ieee.Digits.{size-lt, size-reaches}
+use Rattle.algebra.specs.Ring.{con, _:*_, _≈_, _⊩_, _times_≼_, below, ring}
 use Rattle.scaling.specs.Near.{near, digits, near-mono, near-exact, either, size-above}
 use Rattle.scaling.specs.Cross.{sub-mul}
-use Rattle.scaling.specs.Kind.{Kind, In, last, near-le}
+use Rattle.scaling.specs.Kind.{Kind, last, near-le}
 use Rattle.scaling.specs.Last.{Digits, Multiple, multiple, coarser}
 use Rattle.scaling.specs.Two.{Two}
 

@@ -1,6 +1,6 @@
 -- A choice that is the same in both runs keeps the two runs side by side. So do the smaller and the larger of two floats of any signs, which are
 -- choices by a comparison.
-use mathlib.Core.Path.{_≡_, sym, ap₂, subst}
+use mathlib.Core.Path.{_≡_, sym, subst}
 use Prim.Native.Nat.{ℕ}
 use mathlib.Core.Bool.{Bool, true, false, not, cond}
 use lib.Dec.{T}

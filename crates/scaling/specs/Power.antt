@@ -4,7 +4,7 @@ use mathlib.Core.Path.{_≡_, refl, sym, ap, ap₂, _∙_, subst, subst₂}
 use mathlib.Core.Logic.{inr}
 use Prim.Native.Nat.{ℕ, zero, suc, _+_, _-_, _*_, _/_, _^_, _≤_, _<_, compare, Ordering·eq}
 use native.Mathlib.Nat.{le-refl, le-trans, le-of-eq, lt-of-lt-of-le, lt-of-le-of-lt, lt-irrefl, mul-zero, mul-one, mul-pos, mul-le-mul}
-use native.Mathlib.Nat.{mul-le-mul-left, mul-le-mul-right, eq-of-mul-eq-mul-right}
+use native.Mathlib.Nat.{mul-le-mul-left, eq-of-mul-eq-mul-right}
 use native.Mathlib.Omega.{arith}
 use mathlib.Core.Bool.{Bool, false, not, _&&_}
 use mathlib.Core.List.{[], _∷_}
@@ -15,7 +15,7 @@ use lib.Ieee.{Float, fin, binary64, up, down, size, ofBits}
 use lib.Ieee.Bits.{ofBits-fits}
 use lib.Ieee.Digits.{size-lt, size-reaches}
 use lib.Ieee.Fits.{and-l, and-r, down-pos}
-use Rattle.algebra.specs.Ring.{con, _:*_, _≈_, _⊩_, _times_≼_, ring, below}
+use Rattle.algebra.specs.Ring.{con, _:*_, _≈_, _⊩_, _times_≼_, ring}
 use Rattle.algebra.specs.Order.{eq-compare}
 use Rattle.rounding.specs.Cut.{Cut, value, infinity, rounded}
 use Rattle.rounding.specs.Value.{value-is}

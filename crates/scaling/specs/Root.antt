@@ -2,21 +2,19 @@
 -- through it as 2 ^ t, at a subnormal argument too, for a root is never subnormal.
 use mathlib.Core.Path.{_≡_, refl, sym, ap, ap₂, _∙_, subst, subst₂, fun-ext}
 use mathlib.Core.Logic.{inl, inr}
-use Prim.Native.Nat.{ℕ, zero, suc, _+_, _-_, _*_, _/_, _^_, _≤_, _<_, compare, Ordering, Ordering·eq}
+use Prim.Native.Nat.{ℕ, zero, suc, _+_, _-_, _*_, _/_, _^_, _≤_, _<_, compare, Ordering·eq}
 use native.Mathlib.Nat.{le-refl, le-trans, le-of-eq, le-of-lt, lt-of-le-of-lt, lt-of-lt-of-le, eq-zero-or-pos, eq-of-mul-eq-mul-right}
 use native.Mathlib.Nat.{mul-assoc, mul-pos, mul-le-mul-right, zero-mul, zero-lt-suc}
 use native.Mathlib.Omega.{arith}
-use mathlib.Core.Bool.{Bool, true, false, not, _&&_, cond}
+use mathlib.Core.Bool.{Bool, false, not, _&&_}
 use mathlib.Core.List.{[], _∷_}
 use lib.IntN.{ℤ}
 use lib.Dec.{T, isLe, ltb, leb, eqb, ltb→lt, leb→le, le→leb, eqb→eq}
 use lib.Pow.{pow-add, pow-mono, pow-pos, pow-lt}
-use lib.Ieee.{Float, fin, binary64, up, down, size, ofBits, fits}
+use lib.Ieee.{Float, fin, binary64, up, down, size, ofBits}
 use lib.Ieee.Bits.{ofBits-fits}
 use lib.Ieee.Digits.{size-lt, size-le, size-reaches}
-use lib.Ieee.Exact.{HasValue}
 use lib.Ieee.Fits.{and-l, and-r, down-pos}
-use lib.Ieee.Scale.{overflow}
 use Rattle.algebra.specs.Ring.{con, _:*_, _≈_, _⊩_, _times_≼_, ring, below}
 use Rattle.algebra.specs.Order.{lt-or-le, eq-compare, scaled-compare}
 use Rattle.rounding.specs.Cut.{Cut, value, infinity, rounded}

@@ -2,13 +2,13 @@
 -- power of two goes through it in the normal range. The root and the power -3/2, which are roundings of cuts, have their laws from here.
 use Prim.Native.Nat.{ℕ, zero, suc, _+_, _-_, _*_, _/_, _%_, _^_, _≤_, _<_, compare, Ordering, Ordering·lt, Ordering·eq, Ordering·gt}
 use mathlib.Core.Path.{_≡_, refl, sym, ap, ap₂, _∙_, subst}
-use mathlib.Core.Bool.{Bool, true, false, not}
+use mathlib.Core.Bool.{not}
 use mathlib.Core.Logic.{inl, inr}
-use native.Mathlib.Nat.{le-trans, le-of-eq, le-of-lt, lt-of-lt-of-le, lt-of-le-of-lt, lt-irrefl, mul-assoc, mul-le-mul-right}
-use native.Mathlib.Nat.{mul-lt-mul-of-pos-right, add-mul}
+use native.Mathlib.Nat.{le-trans, le-of-eq, le-of-lt, lt-of-lt-of-le, lt-of-le-of-lt, lt-irrefl, mul-assoc}
+use native.Mathlib.Nat.{add-mul}
 use native.Mathlib.Omega.{arith}
 use lib.Dec.{T, isLe, eqb, T-not, not-T, le→leb}
-use lib.Pow.{pow-add, pow-pos, pow-mono}
+use lib.Pow.{pow-add, pow-mono}
 use Rattle.algebra.specs.Order.{lt-or-le, Compared, compared, lt-compare}
 use Rattle.rounding.specs.Cut.{Cut, value, infinity, nearer, passed, reached}
 use Rattle.rounding.specs.Value.{value-high, value-at, value-up, value-lt}

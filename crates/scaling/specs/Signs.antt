@@ -4,15 +4,14 @@ use mathlib.Core.Path.{_≡_, refl, sym, ap, _∙_, subst}
 use Prim.Native.Nat.{ℕ, _+_, _*_, _^_, _<_}
 use native.Mathlib.Nat.{zero-mul}
 use native.Mathlib.Omega.{arith}
-use mathlib.Core.Bool.{Bool, true, false, not, _||_}
-use lib.Dec.{T, T-not, not-T, ltb, ltb→lt, lt→ltb}
-use lib.Arith.{lt-of-le-ne}
+use mathlib.Core.Bool.{Bool, true, false, not}
+use lib.Dec.{T, T-not, ltb, ltb→lt, lt→ltb}
 use lib.Pow.{pow-pos}
 use lib.Ieee.{Float, nan, inf, fin, Format, lt, eq, neg, below, ofBits}
 use Rattle.binary64.specs.Operators.{bits}
 use Rattle.scaling.specs.Cross.{below-cross}
 use Rattle.scaling.specs.Units.{Is, lt-units}
-use Rattle.scaling.specs.Kind.{Kind, negK}
+use Rattle.scaling.specs.Kind.{Kind}
 use Rattle.scaling.specs.One.{neg-two}
 use Rattle.scaling.specs.Tests.{zero, zero-is, no-units, solid-two, plus-sign-two}
 use Rattle.scaling.specs.Two.{Two}

@@ -1,16 +1,15 @@
 -- From the claim's premises to the rules: two arguments in range, the second the first times 4 ^ k, are of the kind `argumentK` in two runs.
 -- And what the checks on them say is the same in both runs.
-use mathlib.Core.Path.{_≡_, refl, sym, ap, _∙_, subst, subst₂}
+use mathlib.Core.Path.{_≡_, sym, ap, _∙_, subst}
 use mathlib.Core.Logic.{_⊎_, inl, inr}
 use Prim.Native.Nat.{ℕ, _+_, _*_, _^_, _≤_, _<_, zero-le}
-use native.Mathlib.Nat.{le-trans, mul-assoc, mul-one, mul-zero, eq-of-mul-eq-mul-right}
+use native.Mathlib.Nat.{mul-assoc, mul-one, mul-zero, eq-of-mul-eq-mul-right}
 use native.Mathlib.Omega.{arith}
 use mathlib.Core.Bool.{Bool, true, false, not, _&&_, _||_, Bool·beq, cond}
 use lib.Dec.{T, T-not, not-T, ltb, eqb, ltb→lt, lt→ltb, nltb→le, eqb→eq}
 use lib.Pow.{pow-add, pow-pos}
-use lib.Ieee.{Float, nan, inf, fin, binary64, lt, eq, le, below, fits, ofBits}
+use lib.Ieee.{Float, binary64, lt, eq, le, below}
 use lib.Ieee.Fits.{and-l}
-use lib.Ieee.Scale.{finite}
 use Rattle.scaling.specs.Units.{Is, lt-units, eq-units}
 use Rattle.scaling.specs.Kind.{In}
 use Rattle.scaling.specs.Last.{digits-of, last-grain}
@@ -21,7 +20,7 @@ use Rattle.scaling.specs.Signs.{above-two}
 use Rattle.scaling.specs.Plain.{units-of, times-units, le-units}
 use Rattle.binary64.specs.Leaves.{absolute, minimum}
 use Rattle.carlson.specs.Constants.{zero}
-use Rattle.units.specs.Statement.{InRange, Times, TimesFour, least, most}
+use Rattle.units.specs.Statement.{InRange, TimesFour, least, most}
 use Rattle.units.specs.Kinds.{argumentK, meanK}
 
 pub no-units-of : {x : Float} {s : Bool} {n : ℕ} → Is binary64 x s n → T (eq x zero) → n ≡ 0

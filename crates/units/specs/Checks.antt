@@ -1,18 +1,17 @@
 -- The checks that entries of three arguments make first (document 01, "Numbers for no"), in two runs: no argument in range is a NaN or an infinity,
 -- and
 -- the tests for a sign and for zeros say the same in both runs. What they leave open is told of each argument.
-use mathlib.Core.Path.{_≡_, ap₂, _∙_}
+use mathlib.Core.Path.{_≡_, ap₂}
 use Prim.Native.Nat.{ℕ}
 use mathlib.Core.Bool.{Bool, true, false, not, _&&_, _||_}
 use lib.Dec.{T}
-use lib.Ieee.{Float, binary64, lt, eq}
+use lib.Ieee.{Float, binary64}
 use Rattle.scaling.specs.Units.{Is}
 use Rattle.scaling.specs.Two.{Two}
 use Rattle.scaling.specs.One.{number}
 use Rattle.scaling.specs.Tests.{zero-two}
 use Rattle.scaling.specs.Signs.{bounded, lt-zero-two}
 use Rattle.scaling.specs.Pick.{smaller-two}
-use Rattle.carlson.specs.Constants.{zero}
 use Rattle.carlson.specs.Checks.{anyNan2, anyNan3, anyInfinite2, anyInfinite3, below3, zerosOf3}
 use Rattle.units.specs.Kinds.{argumentK}
 use Rattle.units.specs.Arguments.{Argument, neither-below}

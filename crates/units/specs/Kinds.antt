@@ -1,5 +1,5 @@
 -- The kinds of an entry's arguments, in units of 2 ^ -1074.
-use Prim.Native.Nat.{ℕ, _^_}
+use Prim.Native.Nat.{_^_}
 use mathlib.Core.Bool.{true, false}
 use lib.Ieee.{binary64}
 use Rattle.scaling.specs.Kind.{Kind, last}

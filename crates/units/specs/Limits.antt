@@ -1,6 +1,6 @@
 -- No argument in range is rescaled (document 01, Rescaling): the largest size is zero, or lies from 2 ^ -64 to 2 ^ 64, far inside the limits.
 -- For one run; it is the same in the other.
-use mathlib.Core.Path.{_≡_, refl, ap, ap₂, _∙_, subst}
+use mathlib.Core.Path.{_≡_, refl, ap₂, _∙_}
 use mathlib.Core.Logic.{_⊎_, inl, inr}
 use Prim.Native.Nat.{ℕ, _^_, _≤_, max}
 use native.Mathlib.Nat.{le-of-eq, le-trans, le-max-left, le-max-right}
@@ -8,9 +8,8 @@ use native.Mathlib.Omega.{arith}
 use mathlib.Core.Bool.{Bool, true, false, _&&_, _||_, true≢false}
 use borrow.Author.Tests.{le-ltb}
 use lib.Dec.{lit≤}
-use lib.Ieee.{Float, binary64, lt, ofBits}
+use lib.Ieee.{Float, binary64, lt}
 use lib.Ieee.Scale.{finite}
-use Rattle.algebra.specs.Order.{lt-or-le}
 use Rattle.binary64.specs.Leaves.{absolute, maximum}
 use Rattle.scaling.specs.Units.{Is, lt-units}
 use Rattle.scaling.specs.Kind.{In}

@@ -1,6 +1,6 @@
 -- Two runs of an entry's steps: what they find is the same with the counts equal, or neither is a number. And a capped loop in two runs, for every
 -- loop of the five entries: of a relation between the states that a pass keeps.
-use mathlib.Core.Path.{_≡_, refl, sym, subst, subst₂}
+use mathlib.Core.Path.{_≡_, sym, subst, subst₂}
 use mathlib.Core.Logic.{_⊎_, inl, inr}
 use Prim.Native.Nat.{ℕ, zero, suc, _<_, _≤_}
 use native.Mathlib.Nat.{le-of-lt}
