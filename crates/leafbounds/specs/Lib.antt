@@ -1,0 +1,5 @@
+pub mod Bounded
+pub mod Word
+pub mod Arc
+pub mod Logarithm
+pub mod Spread
