@@ -3,18 +3,18 @@
 -- Of atan and the logarithms only bounds are used.
 use mathlib.Core.Path.{_≡_, refl, sym, ap, ap₂, _∙_, subst}
 use mathlib.Core.Logic.{_⊎_, inl, inr}
-use Prim.Native.Nat.{ℕ, _-_, _*_, _^_, _≤_, _<_}
+use Prim.Native.Nat.{ℕ, _-_, _*_, _^_, _≤_}
 use native.Mathlib.Nat.{le-refl, le-of-lt, lt-of-lt-of-le}
-use mathlib.Core.Bool.{Bool, true, false, not, cond}
+use mathlib.Core.Bool.{true, false, not}
 use lib.Dec.{T, T-not, eqb, lt→ltb, nltb→le, lit<}
 use lib.Arith.{lt-of-le-ne}
-use lib.Ieee.{Float, nan, inf, fin, binary64, low, mul, div, eq, lt, neg, below, level}
+use lib.Ieee.{Float, nan, inf, fin, binary64, low, mul, div, eq, lt, below, level}
 use lib.Ieee.Fits.{eq→eqb, and-i}
-use Rattle.binary64.specs.Operators.{_⊕_, _⊖_, _⊗_, _⊘_}
+use Rattle.binary64.specs.Operators.{_⊖_, _⊗_, _⊘_}
 use Rattle.root.specs.Root.{root}
 use Rattle.series.specs.Atan.{atan}
 use Rattle.series.specs.Ln.{ln}
-use Rattle.series.specs.Ln1p.{ln-1p}
+use Rattle.leafbounds.specs.Spread.{spread}
 use Rattle.scaling.specs.Near.{near}
 use Rattle.scaling.specs.Units.{lt-units, eq-units}
 use Rattle.scaling.specs.Kind.{Kind, last, floor-le, mulK, mulOk, divK, divOk, plusK, plusOk, within}
@@ -26,10 +26,10 @@ use Rattle.scaling.specs.Leaf.{gapK, gapOk, gap-two, gap-units, leaf-two}
 use Rattle.scaling.specs.Root.{rootK, rootOk, root-two}
 use Rattle.scaling.specs.Gap.{raiseK, raise-two, ratio-least}
 use Rattle.scaling.specs.Pick.{choose}
-use Rattle.carlson.specs.Constants.{zero, one, two, half, half-pi}
+use Rattle.carlson.specs.Constants.{zero, two, half, half-pi}
 use Rattle.elliprc.specs.Rc.{atZero, atEqual, byAtan, byLn1p, byLn, rcCases}
 use Rattle.units.specs.Runs.{Fair}
-use Rattle.unitsrf.specs.Leaves.{Bounded, bounded-leaf, atan-fits, ln-fits, spread-fits, spread, ratioK, leafK}
+use Rattle.unitsrf.specs.Leaves.{atan-leaf, ln-leaf, spread-leaf, ratioK, leafK}
 
 -- ---- kinds
 -- an argument above zero, or the sum of two
@@ -131,39 +131,38 @@ module _ {k : ℕ} where
     unfolding atEqual
     at-equal X = inr (C .alone pre (root-wide X))
 
-    module _ (atan-b : Bounded atan) (ln-b : Bounded ln) (spread-b : Bounded spread) where
-      by-atan : {x y x' y' : Float} → Two binary64 k wideK x x' → Two binary64 k wideK y y' → T (lt x y) → Fair k R (byAtan p x y) (byAtan p' x' y')
-      unfolding byAtan gapOk
-      by-atan X Y t =
-          let g = gap-units X Y t tt tt in
-          over-fair (leaf-two atan (bounded-leaf atan atan-fits atan-b) refl refl refl (ratio-root X Y X t (le-of-lt (g .0)) (le-of-lt (g .1))))
-          (divides (gap-root X Y t))
+    by-atan : {x y x' y' : Float} → Two binary64 k wideK x x' → Two binary64 k wideK y y' → T (lt x y) → Fair k R (byAtan p x y) (byAtan p' x' y')
+    unfolding byAtan gapOk
+    by-atan X Y t =
+        let g = gap-units X Y t tt tt in
+        over-fair (leaf-two atan atan-leaf refl refl refl (ratio-root X Y X t (le-of-lt (g .0)) (le-of-lt (g .1))))
+        (divides (gap-root X Y t))
 
-      by-ln-1p : {x y x' y' : Float} → Two binary64 k wideK x x' → Two binary64 k wideK y y' → T (lt y x)
-          → Fair k R (byLn1p p x y) (byLn1p p' x' y')
-      unfolding byLn1p mulK mulOk litOk within
-      by-ln-1p X Y t =
-          over-fair (leaf-two spread (bounded-leaf spread spread-fits spread-b) refl refl refl (ratio-root Y X X t (le-refl _) (le-refl _)))
-          (widen-two (mul-two (lit-two two tt) (gap-root Y X t) tt) tt)
+    by-ln-1p : {x y x' y' : Float} → Two binary64 k wideK x x' → Two binary64 k wideK y y' → T (lt y x)
+        → Fair k R (byLn1p p x y) (byLn1p p' x' y')
+    unfolding byLn1p mulK mulOk litOk within
+    by-ln-1p X Y t =
+        over-fair (leaf-two spread spread-leaf refl refl refl (ratio-root Y X X t (le-refl _) (le-refl _)))
+        (widen-two (mul-two (lit-two two tt) (gap-root Y X t) tt) tt)
 
-      by-ln : {x y x' y' : Float} → Two binary64 k wideK x x' → Two binary64 k wideK y y' → T (lt y x) → Fair k R (byLn p x y) (byLn p' x' y')
-      unfolding byLn divK divOk plusK plusOk rootK rootOk within
-      by-ln X Y t =
-          over-fair
-          (leaf-two ln (bounded-leaf ln ln-fits ln-b) refl refl refl
-          (widen-two (div-two (plus-two (root-two X tt) (gap-root Y X t) tt) (root-two Y tt) tt) tt))
-          (divides (gap-root Y X t))
+    by-ln : {x y x' y' : Float} → Two binary64 k wideK x x' → Two binary64 k wideK y y' → T (lt y x) → Fair k R (byLn p x y) (byLn p' x' y')
+    unfolding byLn divK divOk plusK plusOk rootK rootOk within
+    by-ln X Y t =
+        over-fair
+        (leaf-two ln ln-leaf refl refl refl
+        (widen-two (div-two (plus-two (root-two X tt) (gap-root Y X t) tt) (root-two Y tt) tt) tt))
+        (divides (gap-root Y X t))
 
-      pub cases-fair : {x y x' y' : Float} → eq x zero ≡ eq x' zero → (T (not (eq x zero)) → Two binary64 k wideK x x') → Two binary64 k wideK y y'
-          → Fair k R (rcCases p x y) (rcCases p' x' y')
-      unfolding rcCases litOk divK divOk within
-      cases-fair {x} {y} {x'} {y'} e X Y =
-          choose (Fair k R) (eq x zero) (eq x' zero) e (λ z. at-zero Y)
-          (λ z.
-          let X⁺ = X z in
-          choose (Fair k R) (eq x y) (eq x' y') (eq-two X⁺ Y tt) (λ q. at-equal X⁺)
-          (λ q.
-          choose (Fair k R) (lt x y) (lt x' y') (lt-two X⁺ Y tt) (λ t. by-atan X⁺ Y t)
-          (λ t.
-          choose (Fair k R) (lt half (y ⊘ x)) (lt half (y' ⊘ x')) (lt-two (lit-two half tt) (widen-two {B = freeK} (div-two Y X⁺ tt) tt) tt)
-          (λ h. by-ln-1p X⁺ Y (flip X⁺ Y q t)) (λ h. by-ln X⁺ Y (flip X⁺ Y q t)))))
+    pub cases-fair : {x y x' y' : Float} → eq x zero ≡ eq x' zero → (T (not (eq x zero)) → Two binary64 k wideK x x') → Two binary64 k wideK y y'
+        → Fair k R (rcCases p x y) (rcCases p' x' y')
+    unfolding rcCases litOk divK divOk within
+    cases-fair {x} {y} {x'} {y'} e X Y =
+        choose (Fair k R) (eq x zero) (eq x' zero) e (λ z. at-zero Y)
+        (λ z.
+        let X⁺ = X z in
+        choose (Fair k R) (eq x y) (eq x' y') (eq-two X⁺ Y tt) (λ q. at-equal X⁺)
+        (λ q.
+        choose (Fair k R) (lt x y) (lt x' y') (lt-two X⁺ Y tt) (λ t. by-atan X⁺ Y t)
+        (λ t.
+        choose (Fair k R) (lt half (y ⊘ x)) (lt half (y' ⊘ x')) (lt-two (lit-two half tt) (widen-two {B = freeK} (div-two Y X⁺ tt) tt) tt)
+        (λ h. by-ln-1p X⁺ Y (flip X⁺ Y q t)) (λ h. by-ln X⁺ Y (flip X⁺ Y q t)))))

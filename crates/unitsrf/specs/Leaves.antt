@@ -1,17 +1,17 @@
--- Bounds of atan, ln and of the spread ln(1 + a) - ln(1 - a), as far as demand 3 needs them: at a number from 2 ^ -90 to 2 ^ 71 the value is a NaN or
--- lies from 2 ^ -104 to 2 ^ 16. Such a bound as a leaf's rule in two runs.
-use mathlib.Core.Path.{_≡_, subst}
-use mathlib.Core.Logic.{_⊎_, inl, inr}
+-- The bounds of atan, ln and of the spread ln(1 + a) - ln(1 - a), as rules for two runs: at a number from 2 ^ -90 to 2 ^ 71, the same in both, the
+-- value
+-- is a NaN in both or the same number from 2 ^ -104 to 2 ^ 16.
+use mathlib.Core.Path.{subst}
+use mathlib.Core.Logic.{inl, inr}
 use Prim.Native.Nat.{ℕ, _+_, _-_, _*_, _/_, _^_}
-use mathlib.Core.Bool.{Bool, false, cond}
+use mathlib.Core.Bool.{false}
 use lib.Dec.{T, ltb, leb, eqb}
-use lib.Ieee.{Float, nan, inf, binary64, le, neg, fits, ofBits, toBits, round, size}
+use lib.Ieee.{Float, nan, inf, binary64, neg, fits, ofBits, toBits, round, size}
 use lib.Ieee.Fits.{cond-fits, round-fits, nan-fits, inf-fits, sub-fits}
-use Rattle.binary64.specs.Operators.{_⊖_, bits}
 use Rattle.scaling.specs.Units.{Is}
 use Rattle.scaling.specs.Kind.{Kind, last}
 use Rattle.scaling.specs.One.{litOk, lit-is}
-use Rattle.scaling.specs.Leaf.{Leaf, Value}
+use Rattle.scaling.specs.Leaf.{Leaf}
 use Rattle.scaling.specs.Plain.{units-le, is-between}
 use Rattle.rounding.specs.Cut.{infinity}
 use Rattle.enclosure.specs.Rules.{atan-answer, half-pi, steep-answer, ln-answer}
@@ -19,26 +19,10 @@ use Rattle.series.specs.Pattern.{negative, size-bits, field, digits}
 use Rattle.series.specs.Atan.{tiny, one, far, below-one, at-one, above-one, at-infinity, atan}
 use Rattle.series.specs.Ln.{two, ln-from-two, ln}
 use Rattle.series.specs.Ln1p.{ln-1p}
-
--- the numbers 2 ^ -90, 2 ^ 71, 2 ^ -104 and 2 ^ 16
-abbrev pub first : Float
-first = bits 0x3A50_0000_0000_0000
-
-abbrev pub final : Float
-final = bits 0x4460_0000_0000_0000
-
-abbrev pub lowest : Float
-lowest = bits 0x3970_0000_0000_0000
-
-abbrev pub highest : Float
-highest = bits 0x40F0_0000_0000_0000
-
-abbrev pub Bounded : (Float → Float) → Type 0
-Bounded g = (x : Float) → T (fits binary64 x) → T (le first x) → T (le x final) → (g x ≡ nan) ⊎ (T (le lowest (g x)) × T (le (g x) highest))
-
--- ln(1 + a) - ln(1 - a)
-abbrev pub spread : Float → Float
-spread a = ln-1p a ⊖ ln-1p (neg a)
+use Rattle.leafbounds.specs.Bounded.{first, final, lowest, highest, Bounded}
+use Rattle.leafbounds.specs.Arc.{atan-bounds}
+use Rattle.leafbounds.specs.Logarithm.{ln-bounds}
+use Rattle.leafbounds.specs.Spread.{spread, spread-bounds}
 
 -- ---- the kinds of what a leaf is taken of, and of what it gives
 abbrev pub ratioK : Kind
@@ -47,7 +31,7 @@ ratioK = record { any = false; zer = false; lo = 2 ^ 984; hi = 2 ^ 1145; g = las
 abbrev pub leafK : Kind
 leafK = record { any = false; zer = false; lo = 2 ^ 970; hi = 2 ^ 1090; g = last binary64 (2 ^ 970); u = 0; d = 0 }
 
-pub bounded-leaf : (g : Float → Float) → ((x : Float) → T (fits binary64 x) → T (fits binary64 (g x))) → Bounded g → Leaf binary64 g ratioK leafK
+bounded-leaf : (g : Float → Float) → ((x : Float) → T (fits binary64 x) → T (fits binary64 (g x))) → Bounded g → Leaf binary64 g ratioK leafK
 unfolding litOk ofBits
 bounded-leaf g fit b x v =
     let X = subst (λ s. Is binary64 x s (v .n)) (v .within .sign tt) (v .is) in
@@ -61,7 +45,7 @@ bounded-leaf g fit b x v =
     ]
 
 -- ---- what the leaves give fits
-pub atan-fits : (x : Float) → T (fits binary64 x) → T (fits binary64 (atan x))
+atan-fits : (x : Float) → T (fits binary64 x) → T (fits binary64 (atan x))
 unfolding atan
 atan-fits x h =
     let b = toBits binary64 x in
@@ -75,7 +59,7 @@ atan-fits x h =
     (cond-fits binary64 (ltb a far) (above-one s a) _ (r (steep-answer (2 ^ 114 / digits a / 2 ^ (field a - 1023))) (2 ^ 62))
     (cond-fits binary64 (leb a infinity) (at-infinity s) nan (r half-pi (2 ^ 62)) (nan-fits binary64)))))
 
-pub ln-fits : (x : Float) → T (fits binary64 x) → T (fits binary64 (ln x))
+ln-fits : (x : Float) → T (fits binary64 x) → T (fits binary64 (ln x))
 unfolding ln
 ln-fits x h =
     let b = toBits binary64 x in
@@ -85,5 +69,15 @@ ln-fits x h =
     (round-fits binary64 false (ln-answer (size e) e (digits b)) (2 ^ (63 - size e)))
     (cond-fits binary64 (eqb b infinity) (inf false) nan (inf-fits binary64 false) (nan-fits binary64)))
 
-pub spread-fits : (x : Float) → T (fits binary64 x) → T (fits binary64 (spread x))
+spread-fits : (x : Float) → T (fits binary64 x) → T (fits binary64 (spread x))
 spread-fits x h = sub-fits binary64 (ln-1p x) (ln-1p (neg x))
+
+-- ---- the rules
+pub atan-leaf : Leaf binary64 atan ratioK leafK
+atan-leaf = bounded-leaf atan atan-fits atan-bounds
+
+pub ln-leaf : Leaf binary64 ln ratioK leafK
+ln-leaf = bounded-leaf ln ln-fits ln-bounds
+
+pub spread-leaf : Leaf binary64 spread ratioK leafK
+spread-leaf = bounded-leaf spread spread-fits spread-bounds

@@ -1,10 +1,10 @@
 -- RF's arithmetic-geometric mean in two runs. At the cap it answers with the means it has.
 use mathlib.Core.Path.{_≡_, ap, subst}
 use Prim.Native.Nat.{ℕ, suc, _^_}
-use mathlib.Core.Bool.{Bool, true, false, not}
+use mathlib.Core.Bool.{false, not}
 use lib.Dec.{lit≤}
 use lib.Ieee.{Float, binary64}
-use Rattle.binary64.specs.Operators.{_⊕_, _⊗_, _⊘_, bits}
+use Rattle.binary64.specs.Operators.{bits}
 use Rattle.root.specs.Root.{root}
 use Rattle.scaling.specs.Kind.{Kind, last, mulK, mulOk, divK, divOk, plusK, plusOk, sumK, sumOk, within}
 use Rattle.scaling.specs.Two.{Two, mul-two, div-two, plus-two}

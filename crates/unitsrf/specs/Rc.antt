@@ -1,38 +1,36 @@
 -- Units drop out of RC: every argument in range before and after all are multiplied by 4 ^ k, both calls refuse alike, or the second value is the
 -- first
 -- times 2 ^ -k. y may be negative.
-use mathlib.Core.Path.{_≡_, refl, sym, ap, ap₂, _∙_, subst, subst₂}
-use mathlib.Core.Logic.{_⊎_, inl, inr}
-use Prim.Native.Nat.{ℕ, zero, suc, _+_, _-_, _*_, _^_, _≤_, _<_}
+use mathlib.Core.Path.{_≡_, refl, sym, ap, _∙_, subst, subst₂}
+use Prim.Native.Nat.{ℕ, zero, suc, _+_, _-_, _*_, _^_, _<_}
 use native.Mathlib.Nat.{lt-of-lt-of-le, lt-irrefl, mul-pos, zero-mul, zero-lt-suc}
 use native.Mathlib.Omega.{arith}
-use mathlib.Core.Bool.{Bool, true, false, not, _&&_, _||_, Bool·beq, cond}
+use mathlib.Core.Bool.{Bool, true, false, not, _&&_, Bool·beq, cond}
 use lib.IntN.{ℤ}
-use lib.Dec.{T, T-not, ltb, ltb→lt, lt→ltb, lit<}
-use lib.Ieee.{Float, nan, inf, fin, Format, binary64, low, up, down, add, sub, eq, lt, neg}
+use lib.Dec.{T, T-not, ltb, lt→ltb, lit<}
+use lib.Ieee.{Float, fin, binary64, low, up, down, add, sub, eq, lt, neg}
 use lib.Pow.{pow-pos}
 use lib.Ieee.Fits.{up-pos}
 use lib.Ieee.Scale.{overflow}
-use Rattle.algebra.specs.Ring.{con, _:*_, _≈_, ring}
 use Rattle.binary64.specs.Leaves.{absolute}
-use Rattle.binary64.specs.Operators.{_⊕_, _⊖_, _⊗_, _⊘_}
+use Rattle.binary64.specs.Operators.{_⊖_, _⊘_}
 use Rattle.root.specs.Root.{root}
 use Rattle.scaling.specs.Near.{near, near-zero}
-use Rattle.scaling.specs.Cross.{addN, addS}
+use Rattle.scaling.specs.Cross.{addN}
 use Rattle.scaling.specs.Units.{Is, form, unique, add-units, neg-units}
 use Rattle.scaling.specs.Kind.{Kind, last, floor-le, mulK, mulOk, divK, divOk, plusK, plusOk, within}
 use Rattle.scaling.specs.Last.{digits-of, is-under}
 use Rattle.scaling.specs.Two.{Two, mul-two, div-two, plus-two}
-use Rattle.scaling.specs.One.{lit-two, litOk, widen-two, number}
+use Rattle.scaling.specs.One.{lit-two, litOk, widen-two}
 use Rattle.scaling.specs.Tests.{zero-two, no-units}
 use Rattle.scaling.specs.Lead.{on-grid}
 use Rattle.scaling.specs.Root.{rootK, rootOk, root-two}
-use Rattle.scaling.specs.Signs.{bounded, lt-zero-two, minus, above-two, opposite-two}
+use Rattle.scaling.specs.Signs.{lt-zero-two, minus, above-two, opposite-two}
 use Rattle.scaling.specs.Pick.{choose}
 use Rattle.carlson.specs.Constants as constant
 use Rattle.carlson.specs.Answer.{closedAt, settledLate}
 use Rattle.carlson.specs.Checks.{anyNan2, anyInfinite2}
-use Rattle.carlson.specs.Rescaling.{beyondLimits, scaleOf2, survive2}
+use Rattle.carlson.specs.Rescaling.{scaleOf2, survive2}
 use Rattle.carlson.specs.declared.answer.Answer.{Answer}
 use Rattle.elliprc.specs.Rc.{rcCases, rcSteps, rcRescaled, rcUnchecked, rc}
 use Rattle.units.specs.Statement.{InRange, TimesFour, Alike}
@@ -42,10 +40,7 @@ use Rattle.units.specs.Checks.{numbers2, finite2}
 use Rattle.units.specs.Limits.{Size, first-size, second-size, within2}
 use Rattle.units.specs.Runs.{Fair, fair, wider-fair}
 use Rattle.units.specs.Answers.{Pair, no, late-same, alike-of, alike-back, onward, backward, either-way}
-use Rattle.unitsrf.specs.Leaves.{Bounded, spread}
-use Rattle.unitsrf.specs.Cases.{wideK, divisorK, Carries, cases-fair}
-use Rattle.series.specs.Atan.{atan}
-use Rattle.series.specs.Ln.{ln}
+use Rattle.unitsrf.specs.Cases.{wideK, Carries, cases-fair}
 
 -- ---- the kinds of the prefix and of the result
 abbrev oneK : Kind
@@ -119,13 +114,13 @@ pub unscaled : (x y : Float) → Size (absolute x) → Size (absolute y) → rcU
 unfolding rcUnchecked
 unscaled x y a b = let s = scaleOf2 x y in ap (λ t. cond t (cond (survive2 x y s) (rcRescaled x y s) (rcSteps x y)) (rcSteps x y)) (within2 x y a b)
 
-module _ (atan-b : Bounded atan) (ln-b : Bounded ln) (spread-b : Bounded spread) {k : ℕ} where
+module _ {k : ℕ} where
   -- ---- y above zero
   pub above-fair : {x y x' y' : Float} → Two binary64 k argumentK x x' → T (not (lt x constant.zero)) → Two binary64 k meanK y y'
       → Fair k resultK (rcCases constant.one x y) (rcCases constant.one x' y')
   unfolding litOk within
   above-fair X t Y =
-      cases-fair (carries-one k) (widen-two (lit-two constant.one tt) tt) atan-b ln-b spread-b (zero-two X) (λ z. widen-two (above-two X t z) tt)
+      cases-fair (carries-one k) (widen-two (lit-two constant.one tt) tt) (zero-two X) (λ z. widen-two (above-two X t z) tt)
       (widen-two Y tt)
 
   -- ---- y below zero, x above: the prefix is a root that the runs share
@@ -134,7 +129,7 @@ module _ (atan-b : Bounded atan) (ln-b : Bounded ln) (spread-b : Bounded spread)
   unfolding sub plusK plusOk divK divOk rootK rootOk within
   proper-fair {x} {x'} y y' X N =
       let S : Two binary64 k wideK (x ⊖ y) (x' ⊖ y') = widen-two (plus-two X N tt) tt in
-      cases-fair (carries-prefix k) (widen-two (root-two (div-two X S tt) tt) tt) atan-b ln-b spread-b (zero-two S) (λ z. S) (widen-two N tt)
+      cases-fair (carries-prefix k) (widen-two (root-two (div-two X S tt) tt) tt) (zero-two S) (λ z. S) (widen-two N tt)
 
   -- ---- y below zero, x zero: the prefix is zero, and the arguments are one
   empty-fair : {x y x' y' : Float} (X : Two binary64 k argumentK x x') (Y : Two binary64 k argumentK y y') → X .m ≡ 0 → X .n ≡ 0
@@ -158,7 +153,7 @@ module _ (atan-b : Bounded atan) (ln-b : Bounded ln) (spread-b : Bounded spread)
       let W : Two binary64 k wideK (neg y) (neg y') = widen-two N tt in
       subst₂ (λ a b. Fair k rcK (rcCases (root (x ⊘ a)) a (neg y)) (rcCases (root (x' ⊘ b)) b (neg y'))) (sym e) (sym e')
       (subst₂ (λ a b. Fair k rcK (rcCases a (neg y) (neg y)) (rcCases b (neg y') (neg y'))) (sym r) (sym r')
-      (cases-fair (carries-nothing k) Q atan-b ln-b spread-b (zero-two W) (λ i. W) W))
+      (cases-fair (carries-nothing k) Q (zero-two W) (λ i. W) W))
 
   below-fair : {x y x' y' : Float} → Two binary64 k argumentK x x' → T (not (lt x constant.zero)) → Two binary64 k argumentK y y'
       → T (lt y constant.zero) → T (not (eq y constant.zero))
@@ -211,22 +206,21 @@ module _ (atan-b : Bounded atan) (ln-b : Bounded ln) (spread-b : Bounded spread)
       (late-same 7 (fair (subst₂ (Fair k rcK) (sym (unscaled x y (first-size X) (first-size Y)))
       (sym (unscaled x' y' (second-size X) (second-size Y))) (steps-fair X t Y z)))))))
 
-module _ (atan-b : Bounded atan) (ln-b : Bounded ln) (spread-b : Bounded spread) where
-  upward : (k d : ℕ) (x y x' y' : Float) → InRange x → InRange y → InRange x' → InRange y' → TimesFour (k + d) d x x' → TimesFour (k + d) d y y'
-      → Alike d (k + d) (rc x y) (rc x' y')
-  upward k d x y x' y' X Y X' Y' s t =
-      alike-of d (k + d) d (let r : d ≡ k * 0 + d = omega arith in r) (let r : k + d ≡ k * 1 + d = omega arith in r)
-      (rc-pair atan-b ln-b spread-b (argument k d X X' s) (argument k d Y Y' t))
+upward : (k d : ℕ) (x y x' y' : Float) → InRange x → InRange y → InRange x' → InRange y' → TimesFour (k + d) d x x' → TimesFour (k + d) d y y'
+    → Alike d (k + d) (rc x y) (rc x' y')
+upward k d x y x' y' X Y X' Y' s t =
+    alike-of d (k + d) d (let r : d ≡ k * 0 + d = omega arith in r) (let r : k + d ≡ k * 1 + d = omega arith in r)
+    (rc-pair (argument k d X X' s) (argument k d Y Y' t))
 
-  -- THE CLAIM FOR RC: its weight is 2 ^ -k
-  pub rc-scales : (u d : ℕ) (x y x' y' : Float) → InRange x → InRange y → InRange x' → InRange y' → TimesFour u d x x' → TimesFour u d y y'
-      → Alike d u (rc x y) (rc x' y')
-  rc-scales u d x y x' y' X Y X' Y' s t =
-      either-way u d
-      (λ k e. subst (λ i. Alike d i (rc x y) (rc x' y')) (sym e) (upward k d x y x' y' X Y X' Y' (onward k d e s) (onward k d e t)))
-      (λ k e. subst (λ i. Alike i u (rc x y) (rc x' y')) (sym e) (alike-back (upward k u x' y' x y X' Y' X Y (backward k u e s) (backward k u e t))))
+-- THE CLAIM FOR RC: its weight is 2 ^ -k
+pub rc-scales : (u d : ℕ) (x y x' y' : Float) → InRange x → InRange y → InRange x' → InRange y' → TimesFour u d x x' → TimesFour u d y y'
+    → Alike d u (rc x y) (rc x' y')
+rc-scales u d x y x' y' X Y X' Y' s t =
+    either-way u d
+    (λ k e. subst (λ i. Alike d i (rc x y) (rc x' y')) (sym e) (upward k d x y x' y' X Y X' Y' (onward k d e s) (onward k d e t)))
+    (λ k e. subst (λ i. Alike i u (rc x y) (rc x' y')) (sym e) (alike-back (upward k u x' y' x y X' Y' X Y (backward k u e s) (backward k u e t))))
 
-  -- and of the function: whatever two calls of `elliprc` answer, whose contract is r ≡ rc x y
-  pub rc-called : (u d : ℕ) (x y x' y' : Float) (r r' : Answer) → r ≡ rc x y → r' ≡ rc x' y'
-      → InRange x → InRange y → InRange x' → InRange y' → TimesFour u d x x' → TimesFour u d y y' → Alike d u r r'
-  rc-called u d x y x' y' r r' e e' X Y X' Y' s t = subst₂ (Alike d u) (sym e) (sym e') (rc-scales u d x y x' y' X Y X' Y' s t)
+-- and of the function: whatever two calls of `elliprc` answer, whose contract is r ≡ rc x y
+pub rc-called : (u d : ℕ) (x y x' y' : Float) (r r' : Answer) → r ≡ rc x y → r' ≡ rc x' y'
+    → InRange x → InRange y → InRange x' → InRange y' → TimesFour u d x x' → TimesFour u d y y' → Alike d u r r'
+rc-called u d x y x' y' r r' e e' X Y X' Y' s t = subst₂ (Alike d u) (sym e) (sym e') (rc-scales u d x y x' y' X Y X' Y' s t)

@@ -1,17 +1,17 @@
 -- RF's duplication in two runs, the second with x, y and z multiplied by 4 ^ k: the same number of passes, and the second result is the first
 -- divided by
 -- 2 ^ k. What a pass keeps: all means from 2 ^ -64 to 2 ^ 64, and the bound q times the power of four ahead of the first differences.
-use mathlib.Core.Path.{_≡_, refl, sym, ap, _∙_, subst}
-use Prim.Native.Nat.{ℕ, zero, suc, _+_, _-_, _*_, _^_, _≤_, _<_, max}
+use mathlib.Core.Path.{_≡_, refl, ap, _∙_, subst}
+use Prim.Native.Nat.{ℕ, suc, _+_, _-_, _*_, _^_, _≤_, _<_, max}
 use native.Mathlib.Nat.{le-trans, le-of-lt, lt-of-lt-of-le, mul-le-mul-left, mul-le-mul-right, le-max-left, le-max-right}
 use native.Mathlib.Omega.{arith}
-use mathlib.Core.Bool.{Bool, true, false, _&&_}
+use mathlib.Core.Bool.{Bool, false, _&&_}
 use lib.Dec.{T, ltb→lt, lit≤, lit<}
 use lib.Pow.{pow-mono}
 use lib.Ieee.{Float, binary64, low, lt, below}
 use lib.Ieee.Fits.{and-l, and-r}
 use Rattle.binary64.specs.Leaves.{absolute}
-use Rattle.binary64.specs.Operators.{_⊖_, _⊗_, _⊘_, bits}
+use Rattle.binary64.specs.Operators.{_⊖_, bits}
 use Rattle.scaling.specs.Units.{lt-units}
 use Rattle.scaling.specs.Last.{digits-of}
 use Rattle.scaling.specs.Kind.{Kind, last, floor-le, mulK, mulOk, divK, divOk, sumK, sumOk, within, negK, sameK}
@@ -21,7 +21,6 @@ use Rattle.scaling.specs.Root.{rootK, rootOk, root-two}
 use Rattle.scaling.specs.Lead.{Ahead, ahead-start, ahead-step, ahead-end}
 use Rattle.scaling.specs.Every.{all, every}
 use Rattle.carlson.specs.Constants.{one, four}
-use Rattle.carlson.specs.declared.answer.Found.{Found}
 use Rattle.elliprf.specs.declared.duplicate.Round.{Round}
 use Rattle.elliprf.specs.Duplicate.{meanOf, rfStart, rfBegin, rfStep, rfClose, rfCorrection, rfSeries, rfFound, rfSpent, rfDuplication}
 use Rattle.units.specs.Kinds.{meanK}

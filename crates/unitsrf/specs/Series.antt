@@ -1,6 +1,6 @@
 -- RF's steps in two runs: its mean, lambda, the quarter of a sum, and the series, which lies between a half and two because it is taken at small
 -- corrections only. Each proof has the shape of the step.
-use Prim.Native.Nat.{ℕ, _+_, _-_, _*_, _^_}
+use Prim.Native.Nat.{ℕ, _*_, _^_}
 use mathlib.Core.Bool.{true, false}
 use lib.Ieee.{Float, binary64}
 use Rattle.binary64.specs.Operators.{_⊕_, _⊘_, bits}
