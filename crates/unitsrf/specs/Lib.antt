@@ -5,3 +5,4 @@ pub mod Series
 pub mod Rounds
 pub mod Means
 pub mod Rf
+pub mod Examples
