@@ -1,5 +1,6 @@
--- Demand 3 of document 01: units drop out exactly. Definitions only: what is claimed of two calls of an entry, the second with every argument
--- multiplied by 4 ^ u / 4 ^ d. As u and d are any natural numbers, their difference is a whole number k of either sign.
+-- Demand 3, units drop out exactly, stated of demand 2's definitions as document 01 has it ("How tight the contracts are"). Definitions only:
+-- what is claimed of two calls of an entry, the second with every argument multiplied by 4 ^ u / 4 ^ d. As u and d are any natural numbers,
+-- their difference is a whole number k of either sign.
 use Prim.Native.Nat.{ℕ, _*_, _^_}
 use mathlib.Core.Path.{_≡_}
 use mathlib.Core.Logic.{_⊎_}
@@ -21,7 +22,7 @@ least = bits 0x3BF0_0000_0000_0000
 abbrev pub most : Float
 most = bits 0x43F0_0000_0000_0000
 
--- "zero or of size from 2^-64 to 2^64": a zero of either sign, or a number of either sign
+-- an argument in range: a zero of either sign, or a number of either sign whose size lies from 2 ^ -64 to 2 ^ 64
 pub record InRange (x : Float) : Type 0 where
   pub fit : T (fits binary64 x)
   pub size : T (eq x zero) ⊎ (T (le least (absolute x)) × T (le (absolute x) most))
@@ -34,7 +35,7 @@ pub record Times (u d : ℕ) (x y : Float) : Type 0 where
   pub signs : sign x ≡ sign y
   pub sizes : num y * 2 ^ d * den x ≡ num x * 2 ^ u * den y
 
--- "multiplied by 4^k": x times 4 ^ u / 4 ^ d
+-- y is x times 4 ^ u / 4 ^ d
 abbrev pub TimesFour : ℕ → ℕ → Float → Float → Type 0
 TimesFour u d x y = Times (2 * u) (2 * d) x y
 

@@ -1,1 +1,1 @@
-// Laws only, no function: units drop out of RC and RF (demand 3 of document 01). `Rc` and `Rf` end with the claims.
+// Laws only, no function: units drop out of RC and RF (demand 3). `Rc` and `Rf` end with the claims.
