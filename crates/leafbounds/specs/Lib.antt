@@ -1,5 +1,3 @@
-pub mod Bounded
-pub mod Word
-pub mod Arc
-pub mod Logarithm
-pub mod Spread
+pub mod Pattern
+pub mod Rounded
+pub mod Leaves

@@ -1,1 +1,1 @@
-// Laws only, no function: rough bounds of atan, ln and ln(1 + a) - ln(1 - a), by powers of two, from the whole-number rules they are defined by.
+// Laws only, no function: how large atan, ln and ln_1p can be at the arguments that RC and RJ ask for.

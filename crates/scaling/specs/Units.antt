@@ -37,10 +37,10 @@ form {x = inf t} a = absurd (a .val)
 form {x = fin t m e} a = record { m = m; e = e; is = ap (λ (b : Bool). fin b m e) (a .val .0); units = a .val .1 }
 
 -- ---- it determines x: by the bit pattern, which is made of the sign and the units
-bits : Format → Bool → ℕ → ℕ
+unfoldable pub bits : Format → Bool → ℕ → ℕ
 bits f s n = cond s (top f) 0 + (size n - prec f) * hid f + n / 2 ^ (size n - prec f)
 
-is-bits : (f : Format) (x : Float) (s : Bool) (n : ℕ) → Is f x s n → toBits f x ≡ bits f s n
+pub is-bits : (f : Format) (x : Float) (s : Bool) (n : ℕ) → Is f x s n → toBits f x ≡ bits f s n
 unfolding bits toBits
 is-bits f x s n a =
     let r = form a in
