@@ -20,3 +20,5 @@ pub mod Signs
 pub mod Pick
 pub mod Gap
 pub mod Fused
+pub mod Nothing
+pub mod Signed

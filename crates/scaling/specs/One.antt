@@ -100,7 +100,7 @@ neg-two a = record {
   tie = a .tie;
 }
 
-pub sub-two : {f : Format} {k : ℕ} {A B : Kind} {x y x' y' : Float} → Two f k A x y → Two f k B x' y' → T (sumOk f A (negK B))
+unfoldable pub sub-two : {f : Format} {k : ℕ} {A B : Kind} {x y x' y' : Float} → Two f k A x y → Two f k B x' y' → T (sumOk f A (negK B))
     → Two f k (sumK f A (negK B)) (sub f x x') (sub f y y')
 unfolding sub
 sub-two a b ok = sum-two a (neg-two b) ok

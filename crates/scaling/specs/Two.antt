@@ -167,20 +167,20 @@ module _ {f : Format} {k : ℕ} {A B : Kind} {x₀ y₀ x' y' : Float} (a : Two 
             ∙ ap (λ z. near f (addN (a .s) (a .m) (b .s) (b .m)) 1 * 2 ^ (k * z)) (sym U);
       }
 
-  pub plus-two : T (plusOk f A B) → Two f k (plusK f A B) (add f x₀ x') (add f y₀ y')
+  unfoldable pub plus-two : T (plusOk f A B) → Two f k (plusK f A B) (add f x₀ x') (add f y₀ y')
   unfolding plusK plusOk
   plus-two ok =
       let o = and₃ (level? A B) (ltb (plusK f A B .hi) (overflow f)) (not (A .any || B .any)) ok in
       summed (plusK f A B) refl refl (o .0) (o .1) (plus-in f (a .in-first) (b .in-first) ok) (plus-in f (a .in-second) (b .in-second) ok) (inl refl)
 
-  pub nudge-two : T (nudgeOk f A B) → Two f k (nudgeK f A B) (add f x₀ x') (add f y₀ y')
+  unfoldable pub nudge-two : T (nudgeOk f A B) → Two f k (nudgeK f A B) (add f x₀ x') (add f y₀ y')
   unfolding nudgeK nudgeOk
   nudge-two ok =
       let o = and₃ (level? A B) (ltb (nudgeK f A B .hi) (overflow f)) (not (A .any) && ltb (B .hi) (floor A)) ok in
       summed (nudgeK f A B) refl refl (o .0) (o .1) (nudge-in f (a .in-first) (b .in-first) ok) (nudge-in f (a .in-second) (b .in-second) ok)
       (inl refl)
 
-  pub sum-two : T (sumOk f A B) → Two f k (sumK f A B) (add f x₀ x') (add f y₀ y')
+  unfoldable pub sum-two : T (sumOk f A B) → Two f k (sumK f A B) (add f x₀ x') (add f y₀ y')
   unfolding sumK sumOk
   sum-two ok =
       summed (sumK f A B) refl refl (and-l (level? A B) (ltb (sumK f A B .hi) (overflow f)) ok)
