@@ -1,0 +1,3 @@
+pub mod Lead
+pub mod Mean
+pub mod Gaps
