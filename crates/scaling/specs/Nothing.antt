@@ -1,17 +1,20 @@
 -- A zero of either sign, the same in both runs: a product with it is one, and in a sum it changes nothing.
 use mathlib.Core.Path.{_≡_, refl, sym, ap, _∙_, subst, subst₂}
-use Prim.Native.Nat.{ℕ, zero, suc, _+_, _-_, _*_, _^_, _<_}
-use native.Mathlib.Nat.{zero-add, zero-mul, zero-lt-suc, lt-of-lt-of-le, lt-irrefl, mul-zero}
+use mathlib.Core.Logic.{inl}
+use Prim.Native.Nat.{ℕ, zero, suc, _+_, _-_, _*_, _^_, _<_, zero-le}
+use native.Mathlib.Nat.{zero-add, zero-mul, zero-lt-suc, lt-of-lt-of-le, lt-irrefl, mul-zero, mul-pos}
 use native.Mathlib.Omega.{arith}
 use mathlib.Core.Bool.{Bool, true, false, not, _&&_, cond}
 use lib.Dec.{T, ltb, ltb→lt, lt→ltb}
 use lib.Pow.{pow-pos}
-use lib.Ieee.{Float, Format, low, unlike, add, mul}
-use lib.Ieee.Fits.{and-l, and-r}
+use lib.IntN.{ℤ}
+use lib.Ieee.{Float, fin, Format, binary64, low, up, down, unlike, add, mul}
+use lib.Ieee.Fits.{up-pos}
 use lib.Ieee.Scale.{overflow}
 use Rattle.scaling.specs.Near.{near, near-zero}
 use Rattle.scaling.specs.Cross.{addN, addS}
-use Rattle.scaling.specs.Units.{Is, mul-units, add-units}
+use Rattle.root.specs.Root.{root}
+use Rattle.scaling.specs.Units.{Is, form, mul-units, add-units}
 use Rattle.scaling.specs.Kind.{Kind, In, floor, floor-le}
 use Rattle.scaling.specs.Last.{digits-of}
 use Rattle.scaling.specs.Lead.{on-grid}
@@ -149,3 +152,36 @@ module _ {f : Format} (o : 0 < overflow f) {x y : Float} (z : Nothing f x y) whe
         none n {v} {u} R U =
             let e : near f (n * 0) (2 ^ low f) ≡ 0 = ap (λ (i : ℕ). near f i (2 ^ low f)) (mul-zero n) ∙ near-zero f (2 ^ low f) (pow-pos (low f)) in
             subst (Is f (mul f u v) (unlike false (z .s))) e (mul-units U R (subst (λ (i : ℕ). i < overflow f) (sym e) o))
+
+-- ---- its root, and a zero as a float of any weight
+root-itself : {x : Float} {s : Bool} → Is binary64 x s 0 → root x ≡ x
+root-itself {x} {s} a = let r = form a in go (r .m) (r .e) (r .is) (r .units)
+  where
+    kept : (e : ℤ) → root (fin s zero e) ≡ fin s zero e
+    kept e = unfold root in refl
+
+    go : (m : ℕ) (e : ℤ) → x ≡ fin s m e → m * up e * 2 ^ low binary64 ≡ 0 * down e → root x ≡ x
+    go zero e i u = ap root i ∙ kept e ∙ sym i
+    go (suc m) e i u =
+        absurd (lt-irrefl 0 (subst (λ (n : ℕ). 0 < n) (u ∙ zero-mul (down e)) (mul-pos (mul-pos (zero-lt-suc m) (up-pos e)) (pow-pos (low binary64)))))
+
+pub root-nothing : {x y : Float} → Nothing binary64 x y → Nothing binary64 (root x) (root y)
+root-nothing {x} {y} z = record {
+  s = z .s;
+  first = subst (λ (v : Float). Is binary64 v (z .s) 0) (sym (root-itself (z .first))) (z .first);
+  second = subst (λ (v : Float). Is binary64 v (z .s) 0) (sym (root-itself (z .second))) (z .second);
+}
+
+unfoldable pub nothing-two : {f : Format} {k : ℕ} {x y : Float} (K : Kind) (z : Nothing f x y) → z .s ≡ false → T (K .zer) → Two f k K x y
+nothing-two {f} {k} K z e t = record {
+  s = z .s;
+  m = 0;
+  n = 0;
+  first = z .first;
+  second = z .second;
+  in-first = record { sign = λ i. e; from = inl (t, refl); to = zero-le };
+  in-second = record { sign = λ i. e; from = inl (t, refl); to = zero-le };
+  grain = record { c = 0; is = sym (zero-mul (2 ^ K .g)) };
+  grain-second = record { c = 0; is = sym (zero-mul (2 ^ K .g)) };
+  tie = zero-mul (2 ^ (k * K .d)) ∙ sym (zero-mul (2 ^ (k * K .u)));
+}

@@ -16,7 +16,7 @@ use Rattle.scaling.specs.Two.{Two, lt-two}
 abbrev pub above : Bool → ℕ → ℕ
 above s n = cond s 0 n
 
-passed : (s t : Bool) (m n : ℕ) → T (below s m t n) → above s m ≤ above t n
+pub passed : (s t : Bool) (m n : ℕ) → T (below s m t n) → above s m ≤ above t n
 passed false false m n h = le-of-lt (ltb→lt m n h)
 passed false true m n h = absurd h
 passed true t m n h = zero-le
