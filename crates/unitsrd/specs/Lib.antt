@@ -4,3 +4,4 @@ pub mod Gaps
 pub mod Step
 pub mod Start
 pub mod Series
+pub mod Loop
