@@ -31,7 +31,7 @@ unfolding sumOk
 gapOk f B A = sumOk f B (negK A) && not (A .any || B .any)
 
 -- a whole number of units above zero is not rounded to zero
-some : (f : Format) (c : ℕ) → 0 < c → 0 < near f c 1
+pub some : (f : Format) (c : ℕ) → 0 < c → 0 < near f c 1
 some f c h =
     lt-of-lt-of-le (zero-lt-suc 0)
     (le-trans (le-of-eq (sym (near-exact f 1 0 1 (zero-lt-suc 0) (pow-lt (digits f))))) (near-le f 1 (zero-lt-suc 0) h))

@@ -22,3 +22,5 @@ pub mod Gap
 pub mod Fused
 pub mod Nothing
 pub mod Signed
+pub mod Distinct
+pub mod Least

@@ -5,3 +5,4 @@ pub mod Checks
 pub mod Limits
 pub mod Runs
 pub mod Answers
+pub mod Ran

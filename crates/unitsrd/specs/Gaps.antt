@@ -1,25 +1,24 @@
 -- The first differences a - x, a - y, a - z of RD in two runs, and the largest of them with its sign. Assumes nothing.
-use mathlib.Core.Path.{_≡_, refl, sym, ap, ap₂, _∙_, subst}
+use mathlib.Core.Path.{_≡_, sym, ap, subst}
 use Prim.Native.Nat.{ℕ, suc, _+_, _-_, _*_, _^_, _≤_, _<_, zero-le}
 use native.Mathlib.Nat.{le-trans, le-of-eq, mul-le-mul-left}
 use native.Mathlib.Omega.{arith}
 use mathlib.Core.Bool.{Bool, true, false, not, _&&_, cond}
 use lib.Dec.{T, ltb, ltb→lt, nltb→le, lit<}
 use lib.Pow.{pow-pos}
-use lib.Ieee.{Float, binary64, neg, sub}
-use Rattle.binary64.specs.Leaves.{maximum}
+use lib.Ieee.{Float, binary64, sub}
 use Rattle.binary64.specs.Operators.{_⊖_}
 use Rattle.scaling.specs.Near.{near}
 use Rattle.scaling.specs.Cross.{addN, addS, addS-cross}
 use Rattle.scaling.specs.Mean.{above-mean}
 use Rattle.scaling.specs.Units.{neg-units}
-use Rattle.scaling.specs.Kind.{Kind, sumK, sumOk, negK, within}
+use Rattle.scaling.specs.Kind.{sumK, sumOk, within}
 use Rattle.scaling.specs.Two.{Two, sum-two, summed}
 use Rattle.scaling.specs.One.{widen-two, neg-two, sub-two}
 use Rattle.scaling.specs.Nothing.{Nothing, skip-last, skip-last-units}
-use Rattle.scaling.specs.Signed.{above, Larger, larger-two}
+use Rattle.scaling.specs.Signed.{above}
 use Rattle.unitsrd.specs.Lead.{low-side, high-side}
-use Rattle.unitsrd.specs.Mean.{off, whole-not-less, whole-not-more, argK, meanK, gapK, Arg, none, some, units, units'}
+use Rattle.unitsrd.specs.Mean.{off, whole-not-less, whole-not-more, meanK, gapK, Arg, none, some, units, units'}
 
 -- ---- one difference: of A and X units it has the sign s and m units, which are off by little
 pub record Fact (A X : ℕ) (s : Bool) (m : ℕ) : Type 0 where

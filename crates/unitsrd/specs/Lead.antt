@@ -1,20 +1,19 @@
 -- Why RD's series is taken only at small arguments, though its bound q is of signed differences. All numbers are units: l is the units of 1.
 -- M is the largest difference a - x, a - y, a - z above zero, as rounded; q is 64 times that at least, so the differences above zero are small where
 -- the loop ends. One below zero is no more than the others' weight in the mean, up to the roundings: G ≤ 6 M + a / 2 ^ 40. Assumes nothing.
-use mathlib.Core.Path.{_≡_, refl, sym, ap, _∙_}
+use mathlib.Core.Path.{_≡_, sym, ap, _∙_}
 use mathlib.Core.Logic.{inl, inr}
 use mathlib.Core.List.{[], _∷_}
-use Prim.Native.Nat.{ℕ, suc, _+_, _-_, _*_, _^_, _≤_, _<_}
-use native.Mathlib.Nat.{le-trans, le-of-eq, le-of-lt, lt-of-lt-of-le, lt-of-le-of-lt, mul-one, mul-assoc, mul-pos, mul-lt-mul-of-pos-right}
+use Prim.Native.Nat.{ℕ, _+_, _-_, _*_, _^_, _≤_, _<_}
+use native.Mathlib.Nat.{le-trans, le-of-eq, le-of-lt, lt-of-lt-of-le, lt-of-le-of-lt, mul-assoc, mul-lt-mul-of-pos-right}
 use native.Mathlib.Nat.{not-le-of-lt, zero-lt-suc, mul-le-mul-right, le-of-mul-le-mul-left}
 use native.Mathlib.Omega.{arith}
 use lib.Pow.{pow-add, pow-pos, pow-mono, pow-lt}
 use lib.Ieee.{Format, prec, low}
 use lib.Ieee.Digits.{back}
 use Rattle.algebra.specs.Ring.{con, _:+_, _:*_, _≈_, _⊩_, _times_≼_, Order, by-below}
-use Rattle.scaling.specs.Near.{near, digits, near-mono, near-same, near-exact, either}
+use Rattle.scaling.specs.Near.{near, digits, near-mono, near-exact, either}
 use Rattle.scaling.specs.Last.{Digits}
-use Rattle.scaling.specs.Lead.{on-grid}
 
 -- ---- a difference below zero: p is x - a, b is a - y and c is a - z where these are above zero
 below-mean : Order 6 (λ g p b c a m.

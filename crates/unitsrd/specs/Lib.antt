@@ -5,3 +5,6 @@ pub mod Step
 pub mod Start
 pub mod Series
 pub mod Loop
+pub mod Means
+pub mod Steps
+pub mod Rd

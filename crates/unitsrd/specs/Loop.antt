@@ -1,20 +1,18 @@
 -- RD's duplication whole, in two runs: as many passes, and the second value is the first divided by 2 ^ 3k. Assumes nothing.
-use mathlib.Core.Path.{_≡_, refl, sym, subst}
+use mathlib.Core.Path.{_≡_, subst}
 use Prim.Native.Nat.{ℕ, suc, _+_, _*_, _^_, _≤_, _<_}
 use native.Mathlib.Nat.{le-trans, le-refl, mul-le-mul-right}
 use native.Mathlib.Omega.{arith}
-use mathlib.Core.Bool.{Bool, true, false, _||_}
-use lib.Dec.{T, lit≤}
+use mathlib.Core.Bool.{Bool, _||_}
+use lib.Dec.{T}
 use lib.Ieee.{Float, binary64, low}
-use Rattle.carlson.specs.Answer.{countedAt}
 use Rattle.carlson.specs.Loop.{capped}
-use Rattle.carlson.specs.declared.answer.Found.{Found}
-use Rattle.elliprd.specs.Duplicate.{rdMean, rdBegin, rdStep, rdClose, rdFound, rdSpent, rdSeries, rdDuplication}
+use Rattle.elliprd.specs.Duplicate.{rdMean, rdBegin, rdStep, rdClose, rdFound, rdSpent, rdDuplication}
 use Rattle.elliprd.specs.declared.duplicate.Round.{Round}
 use Rattle.scaling.specs.Two.{Two}
 use Rattle.scaling.specs.Signed.{above}
 use Rattle.units.specs.Runs.{Same, counted, spent-both, loop-two}
-use Rattle.unitsrd.specs.Mean.{argK, Arg, some, some?, units, units'}
+use Rattle.unitsrd.specs.Mean.{argK, Arg, some?, units, units'}
 use Rattle.unitsrd.specs.Gaps.{bounded, turned}
 use Rattle.unitsrd.specs.Step.{Inv, step-inv}
 use Rattle.unitsrd.specs.Start.{m, gx, gy, gz, xy, xyz, largest, largest', started}

@@ -1,27 +1,26 @@
 -- RD's first mean a = (x + y + 3z) / 5 and the differences a - x, a - y, a - z in two runs, and how far their roundings can be off.
 -- x or y may be a zero of either sign. Assumes nothing.
-use mathlib.Core.Path.{_≡_, refl, sym, ap, ap₂, _∙_, subst}
+use mathlib.Core.Path.{_≡_, sym, ap, ap₂, _∙_}
 use mathlib.Core.Logic.{inl, inr}
-use Prim.Native.Nat.{ℕ, suc, _+_, _-_, _*_, _^_, _≤_, _<_, zero-le}
-use native.Mathlib.Nat.{le-trans, le-of-eq, mul-one, mul-zero, zero-lt-suc, mul-pos, mul-le-mul-left}
+use Prim.Native.Nat.{ℕ, suc, _+_, _*_, _^_, _≤_, _<_}
+use native.Mathlib.Nat.{le-trans, le-of-eq, mul-one, zero-lt-suc, mul-pos}
 use native.Mathlib.Omega.{arith}
-use mathlib.Core.Bool.{Bool, true, false, not, _&&_, _||_, cond}
-use lib.Dec.{T, ltb, ltb→lt, nltb→le, lit≤, lit<}
+use mathlib.Core.Bool.{Bool, true, false, _||_}
+use lib.Dec.{T, lit≤, lit<}
 use lib.Pow.{pow-pos, pow-mono}
-use lib.Ieee.{Float, Format, binary64, prec, low, sub, ofBits}
-use Rattle.binary64.specs.Operators.{_⊕_, _⊖_, _⊗_, _⊘_, bits}
+use lib.Ieee.{Float, binary64, low, ofBits}
+use Rattle.binary64.specs.Operators.{_⊕_, bits}
 use Rattle.carlson.specs.Constants.{three}
 use Rattle.elliprd.specs.Duplicate.{rdMean}
-use Rattle.algebra.specs.Ring.{con, _:+_, _:*_, _≈_, _⊩_, _times_≼_, ring}
+use Rattle.algebra.specs.Ring.{con, _:*_, _≈_, ring}
 use Rattle.scaling.specs.Near.{near, near-same, near-exact, either}
-use Rattle.scaling.specs.Cross.{addN, addS}
-use Rattle.scaling.specs.Mean.{mean-not-less, above-mean}
+use Rattle.scaling.specs.Cross.{addN}
+use Rattle.scaling.specs.Mean.{mean-not-less}
 use Rattle.scaling.specs.Error.{near-not-less, near-not-more}
-use Rattle.scaling.specs.Kind.{Kind, last, floor-le, mulK, mulOk, divK, divOk, plusK, plusOk, sumK, sumOk, negK, within}
-use Rattle.scaling.specs.Two.{Two, mul-two, div-two, plus-two, sum-two, summed}
-use Rattle.scaling.specs.One.{lit-two, litOk, widen-two, neg-two, sub-two}
+use Rattle.scaling.specs.Kind.{Kind, last, floor-le, mulK, mulOk, divK, divOk, plusK, plusOk, within}
+use Rattle.scaling.specs.Two.{Two, mul-two, div-two, plus-two, summed}
+use Rattle.scaling.specs.One.{lit-two, litOk, widen-two}
 use Rattle.scaling.specs.Nothing.{Nothing, skip-first, skip-last, skip-first-units, skip-last-units}
-use Rattle.scaling.specs.Signed.{above}
 
 -- ---- how far a whole number is off when it is rounded: 2 ^ -52 of it
 abbrev pub off : ℕ

@@ -1,18 +1,16 @@
 -- RD's series in two runs: its corrections are the same in both and at most an eighth, so its factor lies between a half and two, and the value is
 -- divided by 2 ^ 3k. Assumes nothing.
-use mathlib.Core.Path.{_≡_, refl, sym, ap, _∙_, subst}
-use Prim.Native.Nat.{ℕ, suc, _+_, _-_, _*_, _^_, _≤_, _<_}
-use native.Mathlib.Nat.{le-trans, lt-of-lt-of-le, mul-le-mul-right}
+use mathlib.Core.Path.{_≡_, refl, _∙_, subst}
+use Prim.Native.Nat.{ℕ, _+_, _*_, _^_, _≤_, _<_}
+use native.Mathlib.Nat.{le-trans, lt-of-lt-of-le}
 use mathlib.Core.Bool.{Bool, true, false}
 use lib.Dec.{T, lit≤, lit<}
 use lib.Pow.{pow-mono}
-use lib.Ieee.{Float, binary64, neg, sub, lt, low, ofBits}
-use Rattle.binary64.specs.Operators.{_⊕_, _⊖_, _⊗_, _⊘_, bits}
-use Rattle.power.specs.Power.{power}
+use lib.Ieee.{Float, binary64, sub, lt, low, ofBits}
+use Rattle.binary64.specs.Operators.{_⊖_, bits}
 use Rattle.carlson.specs.Constants.{one, three}
 use Rattle.carlson.specs.Common.{thirdKind}
 use Rattle.elliprd.specs.Duplicate.{rdCorrection, rdFactor, rdSeries}
-use Rattle.scaling.specs.Near.{near}
 use Rattle.scaling.specs.Units.{lt-units}
 use Rattle.scaling.specs.Kind.{Kind, last, floor-le, mulK, mulOk, divK, divOk, plusK, plusOk, sumK, sumOk, nudgeK, nudgeOk, negK, within}
 use Rattle.scaling.specs.Last.{digits-of}

@@ -1,18 +1,18 @@
 -- RD's duplication in two runs up to the end of its first pass, where x or y may be a zero of either sign. Assumes nothing.
-use mathlib.Core.Path.{_≡_, refl, sym, ap, _∙_, subst}
-use Prim.Native.Nat.{ℕ, suc, _+_, _*_, _^_, _≤_, _<_, zero-le}
+use mathlib.Core.Path.{_≡_, refl, sym}
+use Prim.Native.Nat.{ℕ, _*_, _^_, _≤_, zero-le}
 use native.Mathlib.Nat.{le-refl, le-trans, le-of-eq, mul-le-mul-right, zero-lt-suc}
 use native.Mathlib.Omega.{arith}
 use mathlib.Core.Bool.{Bool, true, false, _||_}
 use mathlib.Core.List.{[], _∷_}
 use lib.Dec.{T, lit≤, lit<}
 use lib.Pow.{pow-pos}
-use lib.Ieee.{Float, Format, binary64, low, ofBits, unlike}
-use Rattle.algebra.specs.Ring.{con, _:+_, _:*_, _≈_, _⊩_, _times_≼_, Order, by-below}
+use lib.Ieee.{Float, binary64, low, ofBits, unlike}
+use Rattle.algebra.specs.Ring.{con, _:*_, _≈_, _⊩_, _times_≼_, Order, by-below}
 use Rattle.binary64.specs.Leaves.{maximum}
 use Rattle.binary64.specs.Operators.{_⊕_, _⊖_, _⊗_, _⊘_, bits}
 use Rattle.root.specs.Root.{root}
-use Rattle.carlson.specs.Constants.{zero, one, four}
+use Rattle.carlson.specs.Constants.{one, four}
 use Rattle.carlson.specs.Common.{lambdaOf}
 use Rattle.elliprd.specs.Duplicate.{rdMean, rdStart, rdBegin, rdMoved, rdStep}
 use Rattle.scaling.specs.Near.{near, near-mono}
@@ -25,9 +25,9 @@ use Rattle.scaling.specs.Root.{rootK, rootOk, root-two}
 use Rattle.scaling.specs.Nothing.{Nothing, no-product-first, no-product-last, no-sum, skip-first, skip-last, root-nothing, nothing-two}
 use Rattle.scaling.specs.Signed.{above, Larger, larger-two}
 use Rattle.scaling.specs.Lead.{shifted}
-use Rattle.unitsrd.specs.Mean.{argK, meanK, gapK, Arg, none, some, some?, units, units', Mean, mean}
+use Rattle.unitsrd.specs.Mean.{argK, meanK, Arg, none, some, some?, Mean, mean}
 use Rattle.unitsrd.specs.Gaps.{Gap, gap}
-use Rattle.unitsrd.specs.Step.{lambdaK, boundK, fourthK, sumsK, rootsK, Kept, Inv, quarter-two, roots-two, lambda-two, moved}
+use Rattle.unitsrd.specs.Step.{lambdaK, sumsK, Kept, Inv, quarter-two, roots-two, lambda-two, moved}
 
 -- ---- the first bound: C and D are the units of its two constants, 107.6 and 1.2
 abbrev l : ℕ

@@ -1,15 +1,15 @@
 -- One pass of RD's duplication in two runs: the kinds of its floats, and what it keeps. Assumes nothing.
-use mathlib.Core.Path.{_≡_, refl, sym, ap, ap₂, _∙_, subst}
-use Prim.Native.Nat.{ℕ, suc, _+_, _-_, _*_, _^_, _≤_, _<_, zero-le}
-use native.Mathlib.Nat.{le-trans, le-of-eq, mul-zero, zero-mul, zero-lt-suc, mul-pos, mul-le-mul-right, le-add-right}
+use mathlib.Core.Path.{_≡_, refl, sym, ap, ap₂, _∙_}
+use Prim.Native.Nat.{ℕ, suc, _+_, _-_, _*_, _^_, _≤_, _<_}
+use native.Mathlib.Nat.{le-trans, le-of-eq, zero-mul, zero-lt-suc, mul-pos, mul-le-mul-right, le-add-right}
 use native.Mathlib.Omega.{arith}
 use mathlib.Core.Logic.{_⊎_, inl, inr}
-use mathlib.Core.Bool.{Bool, true, false, not, _&&_, cond}
-use lib.Dec.{T, leb, leb→le, lit≤, lit<}
+use mathlib.Core.Bool.{Bool, true, false, _&&_}
+use lib.Dec.{T, leb, leb→le, lit≤}
 use lib.Pow.{pow-mono, pow-pos}
 use lib.Ieee.{Float, binary64, low, ofBits, unlike}
 use lib.Ieee.Fits.{and-l, and-r}
-use Rattle.binary64.specs.Operators.{_⊕_, _⊖_, _⊗_, _⊘_, bits}
+use Rattle.binary64.specs.Operators.{_⊕_, _⊗_, _⊘_}
 use Rattle.root.specs.Root.{root}
 use Rattle.carlson.specs.Constants.{four}
 use Rattle.carlson.specs.Common.{lambdaOf}
@@ -20,7 +20,7 @@ use Rattle.scaling.specs.Cross.{addN}
 use Rattle.scaling.specs.Kind.{Kind, In, last, floor-le, near-le, mulK, mulOk, divK, divOk, plusK, plusOk, within, sameK}
 use Rattle.scaling.specs.Last.{Digits, digits-of}
 use Rattle.scaling.specs.Two.{Two, mul-two, div-two, plus-two, summed}
-use Rattle.scaling.specs.One.{lit-two, litOk, litN, widen-two}
+use Rattle.scaling.specs.One.{lit-two, litOk, widen-two}
 use Rattle.scaling.specs.Root.{rootK, rootOk, root-two}
 use Rattle.scaling.specs.Signed.{above}
 use Rattle.scaling.specs.Lead.{on-grid, quarter}
