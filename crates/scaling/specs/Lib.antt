@@ -24,3 +24,5 @@ pub mod Nothing
 pub mod Signed
 pub mod Distinct
 pub mod Least
+pub mod Half
+pub mod Maybe

@@ -97,6 +97,9 @@ module _ {f : Format} (o : 0 < overflow f) {x y : Float} (z : Nothing f x y) whe
   pub no-product-first : {k : ℕ} {K : Kind} {w w' : Float} → Two f k K w w' → Nothing f (mul f x w) (mul f y w')
   no-product-first a = record { s = unlike (z .s) (a .s); first = no-product f (z .first) (a .first) o; second = no-product f (z .second) (a .second) o }
 
+  pub no-products : {x' y' : Float} → Nothing f x' y' → Nothing f (mul f x x') (mul f y y')
+  no-products w = record { s = unlike (z .s) (w .s); first = no-product f (z .first) (w .first) o; second = no-product f (z .second) (w .second) o }
+
   pub no-sum : {x' y' : Float} → Nothing f x' y' → Nothing f (add f x x') (add f y y')
   no-sum w = record { s = addS (z .s) 0 (w .s) 0; first = two-zeros f (z .first) (w .first) o; second = two-zeros f (z .second) (w .second) o }
 
