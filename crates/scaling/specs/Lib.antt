@@ -26,3 +26,6 @@ pub mod Distinct
 pub mod Least
 pub mod Half
 pub mod Maybe
+pub mod Swap
+pub mod Still
+pub mod Nan

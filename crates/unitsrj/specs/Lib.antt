@@ -1,1 +1,3 @@
 pub mod Bound
+pub mod Polynomial
+pub mod Helper
