@@ -52,13 +52,13 @@ abbrev sizeK : Kind
 sizeK = record { any = false; zer = false; lo = 2 ^ 1067; hi = 2 ^ 1090; g = last binary64 (2 ^ 1067); u = 0; d = 0 }
 
 -- ---- the leaves
-atan-leaf : Leaf binary64 atan ratioK leafK
+pub atan-leaf : Leaf binary64 atan ratioK leafK
 atan-leaf = bounded-leaf atan atan-fits atan-bounded
 
 ln-leaf : Leaf binary64 ln ratioK leafK
 ln-leaf = bounded-leaf ln ln-fits ln-bounded
 
-spread-leaf : Leaf binary64 spread ratioK leafK
+pub spread-leaf : Leaf binary64 spread ratioK leafK
 spread-leaf = bounded-leaf spread spread-fits spread-bounded
 
 -- what a leaf gives, over a divisor

@@ -1,3 +1,4 @@
 pub mod Bound
 pub mod Polynomial
 pub mod Helper
+pub mod Middle
