@@ -14,7 +14,6 @@ use Rattle.binary64.specs.Operators.{_⊖_, _⊗_, _⊘_}
 use Rattle.root.specs.Root.{root}
 use Rattle.series.specs.Atan.{atan}
 use Rattle.series.specs.Ln.{ln}
-use Rattle.leafbounds.specs.Spread.{spread}
 use Rattle.scaling.specs.Near.{near}
 use Rattle.scaling.specs.Units.{lt-units, eq-units}
 use Rattle.scaling.specs.Kind.{Kind, last, floor-le, mulK, mulOk, divK, divOk, plusK, plusOk, within}
@@ -29,7 +28,7 @@ use Rattle.scaling.specs.Pick.{choose}
 use Rattle.carlson.specs.Constants.{zero, two, half, half-pi}
 use Rattle.elliprc.specs.Rc.{atZero, atEqual, byAtan, byLn1p, byLn, rcCases}
 use Rattle.units.specs.Runs.{Fair}
-use Rattle.unitsrf.specs.Leaves.{atan-leaf, ln-leaf, spread-leaf, ratioK, leafK}
+use Rattle.unitsrf.specs.Leaves.{spread, atan-leaf, ln-leaf, spread-leaf, ratioK, leafK}
 
 -- ---- kinds
 -- an argument above zero, or the sum of two

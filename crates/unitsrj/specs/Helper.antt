@@ -35,8 +35,7 @@ use Rattle.scaling.specs.Plain.{le-units, units-le}
 use Rattle.algebra.specs.Order.{lt-or-le}
 use Rattle.units.specs.Runs.{Fair}
 use Rattle.units.specs.Arguments.{Argument, no-units-of}
-use Rattle.unitsrf.specs.Leaves.{ratioK, leafK, spread, bounded-leaf, atan-fits, ln-fits, spread-fits}
-use Rattle.unitsrf.specs.Bounds.{atan-bounded, ln-bounded, spread-bounded}
+use Rattle.unitsrf.specs.Leaves.{ratioK, leafK, spread, atan-leaf, ln-leaf, spread-leaf}
 use Rattle.unitsrf.specs.Rc.{resultK, unchecked-fair}
 use Rattle.unitsrj.specs.Polynomial.{tinyK, horner-two}
 
@@ -50,16 +49,6 @@ termK = record { any = false; zer = false; lo = 2 ^ 884; hi = 2 ^ 1230; g = last
 -- a size from 1/128 to 2 ^ 16
 abbrev sizeK : Kind
 sizeK = record { any = false; zer = false; lo = 2 ^ 1067; hi = 2 ^ 1090; g = last binary64 (2 ^ 1067); u = 0; d = 0 }
-
--- ---- the leaves
-pub atan-leaf : Leaf binary64 atan ratioK leafK
-atan-leaf = bounded-leaf atan atan-fits atan-bounded
-
-ln-leaf : Leaf binary64 ln ratioK leafK
-ln-leaf = bounded-leaf ln ln-fits ln-bounded
-
-pub spread-leaf : Leaf binary64 spread ratioK leafK
-spread-leaf = bounded-leaf spread spread-fits spread-bounded
 
 -- what a leaf gives, over a divisor
 abbrev divisorK : Kind
@@ -119,7 +108,7 @@ rcFlatK = record { any = false; zer = false; lo = 2 ^ 900; hi = 2 ^ 1200; g = la
 
 pub rc-flat : {k : ℕ} {x y : Float} → Two binary64 k plainK x x → Two binary64 k plainK y y → Fair k rcFlatK (rcUnchecked x y) (rcUnchecked x y)
 rc-flat {k} X Y =
-    elim (unchecked-fair atan-bounded ln-bounded spread-bounded (argument X) (argument Y) (not-zero (plain Y) (some Y))) [
+    elim (unchecked-fair (argument X) (argument Y) (not-zero (plain Y) (some Y))) [
       | inl e ↦ inl e
       | inr v ↦ inr (flat-two k v)
     ]

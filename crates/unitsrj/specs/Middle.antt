@@ -32,8 +32,8 @@ use Rattle.scaling.specs.Still.{recast-two}
 use Rattle.leafbounds.specs.Leaves.{ln-between}
 use Rattle.units.specs.Limits.{Size, within-limits}
 use Rattle.units.specs.Runs.{Fair}
-use Rattle.unitsrf.specs.Leaves.{ratioK, leafK, spread}
-use Rattle.unitsrj.specs.Helper.{termK, atan-leaf, spread-leaf}
+use Rattle.unitsrf.specs.Leaves.{ratioK, leafK, spread, leaf-value, atan-leaf, spread-leaf}
+use Rattle.unitsrj.specs.Helper.{termK}
 
 -- ---- kinds
 abbrev pub middleK : Kind
@@ -51,11 +51,7 @@ ln-far x v =
     let X = subst (λ s. Is binary64 x s (v .n)) (v .within .sign tt) (v .is) in
     elim (ln-between X (le-trans (pow-mono {i = 984} {j = 1000} (lit≤ tt)) (floor-le (v .within))) (le-trans (v .within .to) (pow-mono {i = 1300} {j = 1600} (lit≤ tt)))) [
       | inl e ↦ inl e
-      | inr w ↦ inr (record { s = false; n = w .n; is = w .is; within = record {
-        sign = λ t. refl;
-        from = inr (le-trans (pow-mono {i = 970} {j = 971} (lit≤ tt)) (w .from));
-        to = le-trans (w .to) (pow-mono {i = 1089} {j = 1090} (lit≤ tt));
-      } })
+      | inr w ↦ inr (leaf-value (lit≤ tt) w)
     ]
 
 -- a difference of 1 and b, and its root
