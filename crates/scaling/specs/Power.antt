@@ -11,21 +11,20 @@ use mathlib.Core.List.{[], _∷_}
 use lib.IntN.{ℤ}
 use lib.Dec.{T, isLe, ltb, leb, eqb, ltb→lt, leb→le, le→leb, eqb→eq}
 use lib.Pow.{pow-add, pow-mono, pow-pos, pow-lt}
-use lib.Ieee.{Float, fin, binary64, up, down, size, ofBits}
-use lib.Ieee.Bits.{ofBits-fits}
+use lib.Ieee.{Float, fin, binary64, up, down, size}
 use lib.Ieee.Digits.{size-lt, size-reaches}
 use lib.Ieee.Fits.{and-l, and-r, down-pos}
 use Rattle.algebra.specs.Ring.{con, _:*_, _≈_, _⊩_, _times_≼_, ring}
 use Rattle.algebra.specs.Order.{eq-compare}
-use Rattle.rounding.specs.Cut.{Cut, value, infinity, rounded}
-use Rattle.rounding.specs.Value.{value-is}
+use Rattle.rounding.specs.Cut.{value, infinity, rounded}
 use Rattle.rounding.specs.Laws.{Number, found}
 use Rattle.power.specs.Power.{cube, powerOf, power}
 use Rattle.power.specs.Laws.{power-number, same-power}
 use Rattle.scaling.specs.Units.{Is, form}
 use Rattle.scaling.specs.Kind.{Kind, In, floor, solid, and₃, last}
 use Rattle.scaling.specs.Last.{digits-of, last-grain}
-use Rattle.scaling.specs.Rounded.{unitsOf, value-power, value-below, value-infinity, compare-weaker, units-mono, units-exact, units-scale}
+use Rattle.scaling.specs.Rounded.{unitsOf, rounded-is, value-power, value-below, value-infinity, compare-weaker, units-mono}
+use Rattle.scaling.specs.Rounded.{units-exact, units-scale}
 use Rattle.scaling.specs.Two.{Two}
 use Rattle.scaling.specs.Root.{positive-size}
 
@@ -127,12 +126,6 @@ power-value {x} {n} X N top = let r = form X in subst (λ z. Is binary64 (power 
     rounds : (m : ℕ) (e : ℤ) → power (fin false (suc m) e) ≡ rounded (powerOf (suc m * up e) (down e))
     rounds m e = unfold power in refl
 
-    pattern : (v : Cut) → rounded v ≡ ofBits binary64 (found v)
-    pattern v = unfold rounded in refl
-
-    worth : (v : Cut) → found v < infinity → Is binary64 (ofBits binary64 (found v)) false (unitsOf v)
-    worth v h = unfold unitsOf in record { fit = ofBits-fits binary64 (found v); val = value-is (found v) h }
-
     opened : (n : ℕ) → unitsOf (powerOf n (2 ^ 1074)) ≡ powerUnits n
     opened n = unfold powerUnits in refl
 
@@ -144,8 +137,8 @@ power-value {x} {n} X N top = let r = form X in subst (λ z. Is binary64 (power 
     go (suc m) e u =
         let v = powerOf n (2 ^ 1074) in
         subst₂ (λ x i. Is binary64 x false i)
-        (sym (rounds m e ∙ ap rounded (same-power (suc m * up e) (down e) n (2 ^ 1074) (down-pos e) (pow-pos 1074) u) ∙ pattern v))
-        (opened n) (worth v (power-found n top))
+        (sym (rounds m e ∙ ap rounded (same-power (suc m * up e) (down e) n (2 ^ 1074) (down-pos e) (pow-pos 1074) u)))
+        (opened n) (rounded-is v (power-found n top))
 
 -- ---- the kind of a power: between the powers of powers of four
 -- the powers of four around a number

@@ -11,14 +11,13 @@ use mathlib.Core.List.{[], _∷_}
 use lib.IntN.{ℤ}
 use lib.Dec.{T, isLe, ltb, leb, eqb, ltb→lt, leb→le, le→leb, eqb→eq}
 use lib.Pow.{pow-add, pow-mono, pow-pos, pow-lt}
-use lib.Ieee.{Float, fin, binary64, up, down, size, ofBits}
-use lib.Ieee.Bits.{ofBits-fits}
+use lib.Ieee.{Float, fin, binary64, up, down, size}
 use lib.Ieee.Digits.{size-lt, size-le, size-reaches}
 use lib.Ieee.Fits.{and-l, and-r, down-pos}
 use Rattle.algebra.specs.Ring.{con, _:*_, _≈_, _⊩_, _times_≼_, ring, below}
 use Rattle.algebra.specs.Order.{lt-or-le, eq-compare, scaled-compare}
-use Rattle.rounding.specs.Cut.{Cut, value, infinity, rounded}
-use Rattle.rounding.specs.Value.{value-small, value-is}
+use Rattle.rounding.specs.Cut.{value, infinity, rounded}
+use Rattle.rounding.specs.Value.{value-small}
 use Rattle.rounding.specs.Laws.{Number, found}
 use Rattle.root.specs.Root.{rootOf, root}
 use Rattle.root.specs.Laws.{root-number}
@@ -26,7 +25,8 @@ use Rattle.scaling.specs.Near.{size-above}
 use Rattle.scaling.specs.Units.{Is, form}
 use Rattle.scaling.specs.Kind.{Kind, In, and₃, last}
 use Rattle.scaling.specs.Last.{pow-le, is-under, digits-of, last-grain}
-use Rattle.scaling.specs.Rounded.{unitsOf, value-power, value-below, value-infinity, compare-weaker, units-mono, units-exact, units-scale}
+use Rattle.scaling.specs.Rounded.{unitsOf, rounded-is, value-power, value-below, value-infinity, compare-weaker, units-mono}
+use Rattle.scaling.specs.Rounded.{units-exact, units-scale}
 use Rattle.scaling.specs.Two.{Two}
 
 -- ---- the root of n units, in units
@@ -136,8 +136,8 @@ root-scale n t h =
 -- ---- the root of a float
 pub root-value : {x : Float} {n : ℕ} → Is binary64 x false n → Is binary64 (root x) false (rootUnits n)
 root-value {x} {n} X =
-    let r =
-    form X in subst (λ z. Is binary64 (root z) false (rootUnits n)) (sym (r .is))
+    let r = form X in
+    subst (λ z. Is binary64 (root z) false (rootUnits n)) (sym (r .is))
     (go (r .m) (r .e) (r .units) (subst (λ z. Is binary64 z false n) (r .is) X))
   where
     keeps : (e : ℤ) → root (fin false 0 e) ≡ fin false 0 e
@@ -145,12 +145,6 @@ root-value {x} {n} X =
 
     rounds : (m : ℕ) (e : ℤ) → root (fin false (suc m) e) ≡ rounded (rootOf (suc m * up e) (down e))
     rounds m e = unfold root in refl
-
-    pattern : (v : Cut) → rounded v ≡ ofBits binary64 (found v)
-    pattern v = unfold rounded in refl
-
-    worth : (v : Cut) → found v < infinity → Is binary64 (ofBits binary64 (found v)) false (unitsOf v)
-    worth v h = unfold unitsOf in record { fit = ofBits-fits binary64 (found v); val = value-is (found v) h }
 
     opened : (n : ℕ) → unitsOf (rootOf n (2 ^ 1074)) ≡ rootUnits n
     opened n = unfold rootUnits in refl
@@ -164,9 +158,9 @@ root-value {x} {n} X =
     go (suc m) e u X' =
         let h : n ≤ 2 ^ 2098 = le-of-lt (is-under X') in
         subst₂ (λ x i. Is binary64 x false i)
-        (sym (rounds m e ∙ ap rounded (same-root (suc m * up e) (down e) n (2 ^ 1074) (down-pos e) (pow-pos 1074) u) ∙ pattern (rootOf n (2 ^ 1074))))
+        (sym (rounds m e ∙ ap rounded (same-root (suc m * up e) (down e) n (2 ^ 1074) (down-pos e) (pow-pos 1074) u)))
         (opened n)
-        (worth (rootOf n (2 ^ 1074)) (root-found n h))
+        (rounded-is (rootOf n (2 ^ 1074)) (root-found n h))
 
 -- ---- the kind of a root: between the roots of powers of four
 unfoldable pub rootK : Kind → Kind

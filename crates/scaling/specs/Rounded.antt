@@ -2,22 +2,33 @@
 -- power of two goes through it in the normal range. The root and the power -3/2, which are roundings of cuts, have their laws from here.
 use Prim.Native.Nat.{ℕ, zero, suc, _+_, _-_, _*_, _/_, _%_, _^_, _≤_, _<_, compare, Ordering, Ordering·lt, Ordering·eq, Ordering·gt}
 use mathlib.Core.Path.{_≡_, refl, sym, ap, ap₂, _∙_, subst}
-use mathlib.Core.Bool.{not}
+use mathlib.Core.Bool.{false, not}
 use mathlib.Core.Logic.{inl, inr}
 use native.Mathlib.Nat.{le-trans, le-of-eq, le-of-lt, lt-of-lt-of-le, lt-of-le-of-lt, lt-irrefl, mul-assoc}
 use native.Mathlib.Nat.{add-mul}
 use native.Mathlib.Omega.{arith}
 use lib.Dec.{T, isLe, eqb, T-not, not-T, le→leb}
 use lib.Pow.{pow-add, pow-mono}
+use lib.Ieee.{binary64, ofBits}
+use lib.Ieee.Bits.{ofBits-fits}
 use Rattle.algebra.specs.Order.{lt-or-le, Compared, compared, lt-compare}
-use Rattle.rounding.specs.Cut.{Cut, value, infinity, nearer, passed, reached}
-use Rattle.rounding.specs.Value.{value-high, value-at, value-up, value-lt}
+use Rattle.rounding.specs.Cut.{Cut, value, infinity, nearer, passed, reached, rounded}
+use Rattle.rounding.specs.Value.{value-high, value-at, value-up, value-lt, value-is}
 use Rattle.rounding.specs.Laws.{Number, middle, found, found-reached, found-next, found-at, not-lower, all-before, under, reach}
 use Rattle.rounding.specs.Laws.{reached-suc, unreached, lt-passed}
+use Rattle.scaling.specs.Units.{Is}
 
 -- v rounded once, in units
 unfoldable pub unitsOf : Cut → ℕ
 unitsOf v = value (found v)
+
+-- the f64 of a pattern has the pattern's units, and so v rounded has `unitsOf`
+pub pattern-is : (a : ℕ) → a < infinity → Is binary64 (ofBits binary64 a) false (value a)
+pattern-is a h = record { fit = ofBits-fits binary64 a; val = value-is a h }
+
+pub rounded-is : (v : Cut) → found v < infinity → Is binary64 (rounded v) false (unitsOf v)
+unfolding rounded unitsOf
+rounded-is v h = pattern-is (found v) h
 
 pub value-le : (j n : ℕ) → j ≤ n → value j ≤ value n
 value-le j n h =
