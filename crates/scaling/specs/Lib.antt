@@ -29,3 +29,4 @@ pub mod Maybe
 pub mod Swap
 pub mod Still
 pub mod Nan
+pub mod Same

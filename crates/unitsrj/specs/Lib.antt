@@ -2,3 +2,4 @@ pub mod Bound
 pub mod Polynomial
 pub mod Helper
 pub mod Middle
+pub mod Pass
