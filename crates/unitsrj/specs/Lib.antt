@@ -3,3 +3,4 @@ pub mod Polynomial
 pub mod Helper
 pub mod Middle
 pub mod Pass
+pub mod Ratio
