@@ -238,3 +238,29 @@ module _ {k : ℕ} {p p' x x' y y' z z' : Float} (P : Two binary64 k meanK p p')
           → Inner (roots-two P .n) (units' (roots-maybe X)) (units' (roots-maybe Y)) (units' (roots-maybe Z)) (P .n) (units' N) → Summed
       made (none z) t i j = absurd t
       made (some c) t i j = record { two = c; laws = i; laws' = j }
+
+  pub middle-two : Two binary64 k middleK (two ⊗ root p ⊗ (p ⊕ root x ⊗ (root y ⊕ root z) ⊕ root y ⊗ root z) ⊘ denominatorOf P X Y Z)
+      (two ⊗ root p' ⊗ (p' ⊕ root x' ⊗ (root y' ⊕ root z') ⊕ root y' ⊗ root z') ⊘ denominatorOf' P X Y Z)
+  unfolding mulK mulOk divK divOk within litOk ofBits clipK mul-two div-two widen-two lit-two
+  middle-two =
+      let r = roots-two P in
+      let N = summed-two in
+      let i = N .laws in
+      let j = N .laws' in
+      let dn = d P X Y Z in
+      let q = roots-square P in
+      let v = widen-two {B = doubleK} (mul-two (lit-two two tt) r tt) tt in
+      let top = widen-two {B = topK} (mul-two v (N .two) tt) tt in
+      widen-two
+      (clip-two (2 ^ 1086) (div-two top (dn .two) tt)
+      (clipped-middle (top .m) (dn .two .m) (lt-of-lt-of-le (lit< tt) (floor-le (dn .two .in-first)))
+      (middle-bound (r .m) (units (roots-maybe X)) (units (roots-maybe Y)) (units (roots-maybe Z)) (P .m) (i .y) (i .m) (i .a) (i .n) (N .two .m) (v .m) (top .m)
+      (a P X Y Z .two .m) (b P X Y Z .two .m) (c P X Y Z .two .m) (dn .two .m) l l-pos (i .y-law) (i .m-law) (i .a-law) (i .n-law) (i .N-law)
+      (twice-law (r .m) (floor-le (r .in-first))) (top-law (v .m) (N .two .m) (floor-le (v .in-first)) (floor-le (N .two .in-first))) (q .0)
+      (a P X Y Z .sums) (b P X Y Z .sums) (c P X Y Z .sums) (dn .three)))
+      (clipped-middle (top .n) (dn .two .n) (lt-of-lt-of-le (lit< tt) (floor-le (dn .two .in-second)))
+      (middle-bound (r .n) (units' (roots-maybe X)) (units' (roots-maybe Y)) (units' (roots-maybe Z)) (P .n) (j .y) (j .m) (j .a) (j .n) (N .two .n) (v .n) (top .n)
+      (a P X Y Z .two .n) (b P X Y Z .two .n) (c P X Y Z .two .n) (dn .two .n) l l-pos (j .y-law) (j .m-law) (j .a-law) (j .n-law) (j .N-law)
+      (twice-law (r .n) (floor-le (r .in-second))) (top-law (v .n) (N .two .n) (floor-le (v .in-second)) (floor-le (N .two .in-second))) (q .1)
+      (a P X Y Z .sums') (b P X Y Z .sums') (c P X Y Z .sums') (dn .three'))))
+      tt
