@@ -107,7 +107,7 @@ abbrev l : ℕ
 l = 2 ^ low binary64
 
 -- a quarter, of a zero or of what has digits to spare
-fourth : (n : ℕ) → Digits binary64 n → (n ≡ 0) ⊎ (2 ^ 55 ≤ n) → near binary64 (n * l) (4 * l) * 4 ≡ n
+pub fourth : (n : ℕ) → Digits binary64 n → (n ≡ 0) ⊎ (2 ^ 55 ≤ n) → near binary64 (n * l) (4 * l) * 4 ≡ n
 fourth n D (inl e) =
     ap (λ (i : ℕ). near binary64 (i * l) (4 * l) * 4) e
     ∙ ap (λ (i : ℕ). i * 4) (ap (λ (i : ℕ). near binary64 i (4 * l)) (zero-mul l) ∙ near-zero binary64 (4 * l) (mul-pos (zero-lt-suc 3) (pow-pos (low binary64))))
@@ -119,7 +119,7 @@ fourth-above true n D h = refl
 fourth-above false n D h = fourth n D h
 
 -- a mean falls to a quarter at most
-mean-fourth : (A L : ℕ) (s t : Bool) → s ≡ false → t ≡ false → Digits binary64 A → 2 ^ 55 ≤ A
+pub mean-fourth : (A L : ℕ) (s t : Bool) → s ≡ false → t ≡ false → Digits binary64 A → 2 ^ 55 ≤ A
     → A ≤ near binary64 (near binary64 (addN s A t L) 1 * l) (4 * l) * 4
 mean-fourth A L s t e g D h =
     le-trans (le-of-eq (sym (quarter D h)))
@@ -134,7 +134,7 @@ mean-fourth A L s t e g D h =
         le-trans (le-of-eq (sym (on-grid D)))
         (le-trans (near-le binary64 1 (zero-lt-suc 0) (le-add-right A L)) (le-of-eq (ap₂ (λ (s t : Bool). near binary64 (addN s A t L) 1) (sym e) (sym g))))
 
-few-or-many : {K : Kind} {s : Bool} {m : ℕ} → In K s m → T (leb (2 ^ 55) (K .lo)) → (m ≡ 0) ⊎ (2 ^ 55 ≤ m)
+pub few-or-many : {K : Kind} {s : Bool} {m : ℕ} → In K s m → T (leb (2 ^ 55) (K .lo)) → (m ≡ 0) ⊎ (2 ^ 55 ≤ m)
 few-or-many {K} i t = elim (i .from) [ inl p ↦ inl (p .1) | inr h ↦ inr (le-trans (leb→le (2 ^ 55) (K .lo) t) h) ]
 
 spareOk : ℕ → Bool
@@ -144,7 +144,7 @@ spares : (j : ℕ) → j < 51 → T (spareOk j)
 unfolding all spareOk
 spares = every 51 spareOk tt
 
-pub quarter-two : {k : ℕ} {x x' v v' : Float} → Two binary64 k meanK x x' → Two binary64 k lambdaK v v' → Two binary64 k meanK ((x ⊕ v) ⊘ four) ((x' ⊕ v') ⊘ four)
+unfoldable pub quarter-two : {k : ℕ} {x x' v v' : Float} → Two binary64 k meanK x x' → Two binary64 k lambdaK v v' → Two binary64 k meanK ((x ⊕ v) ⊘ four) ((x' ⊕ v') ⊘ four)
 unfolding divK divOk plusK plusOk within litOk ofBits
 quarter-two x v = widen-two (div-two (plus-two x v tt) (lit-two four tt) tt) tt
 

@@ -4,3 +4,4 @@ pub mod Helper
 pub mod Middle
 pub mod Pass
 pub mod Ratio
+pub mod Step

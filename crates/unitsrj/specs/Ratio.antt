@@ -86,7 +86,7 @@ clipped D q pos h =
     quotient : Order 3 (λ D q l. (l times D ≼ con (2 ^ 16) :* q) ∷ [] ⊩ D :* l :* con 1 ≈ con (2 ^ 16) :* l :* q)
     quotient = by-below tt
 
-taken : {A : Type 0} (b : Bool) (u v : A) → T b → cond b u v ≡ u
+pub taken : {A : Type 0} (b : Bool) (u v : A) → T b → cond b u v ≡ u
 taken true u v t = refl
 taken false u v t = absurd t
 
@@ -124,7 +124,7 @@ module _ {k : ℕ} {p p' x x' y y' z z' : Float} (P : Two binary64 k meanK p p')
   )
 
   -- the square is normal
-  normal : T (le (bits 0x0010_0000_0000_0000) (denominatorOf ⊗ denominatorOf)) × T (le (bits 0x0010_0000_0000_0000) (denominatorOf' ⊗ denominatorOf'))
+  pub normal : T (le (bits 0x0010_0000_0000_0000) (denominatorOf ⊗ denominatorOf)) × T (le (bits 0x0010_0000_0000_0000) (denominatorOf' ⊗ denominatorOf'))
   unfolding litOk ofBits
   normal =
       let S : square-two .s ≡ false = square-two .in-first .sign tt in
