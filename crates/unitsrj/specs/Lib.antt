@@ -5,3 +5,4 @@ pub mod Middle
 pub mod Pass
 pub mod Ratio
 pub mod Step
+pub mod Start

@@ -21,7 +21,7 @@ use Rattle.elliprj.specs.Duplicate.{rjDenominator, rjRatio, rjMiddle, rjTerm, r
 use Rattle.elliprj.specs.declared.duplicate.Round.{Round}
 use Rattle.elliprj.specs.declared.duplicate.Roots.{Roots}
 use Rattle.scaling.specs.Near.{near, near-same, near-zero}
-use Rattle.scaling.specs.Kind.{Kind, In, last, floor-le, mulK, mulOk, divK, divOk, plusK, plusOk, within, sameK}
+use Rattle.scaling.specs.Kind.{Kind, In, and₃, last, floor-le, mulK, mulOk, divK, divOk, plusK, plusOk, within, sameK}
 use Rattle.scaling.specs.Last.{Digits, digits-of}
 use Rattle.scaling.specs.Two.{Two, mul-two, div-two, plus-two, summed}
 use Rattle.scaling.specs.Tests.{same-float}
@@ -29,11 +29,11 @@ use Rattle.scaling.specs.One.{lit-two, litOk, widen-two}
 use Rattle.scaling.specs.Every.{all, every}
 use Rattle.scaling.specs.Pick.{choose}
 use Rattle.scaling.specs.Nan.{mul-nan, nan-mul, add-nan, nan-add}
-use Rattle.scaling.specs.Maybe.{Maybe, none, some, units, units'}
+use Rattle.scaling.specs.Maybe.{Maybe, none, some, some?, units, units', force}
 use Rattle.units.specs.Runs.{Fair}
 use Rattle.unitsrd.specs.Lead.{part}
 use Rattle.unitsrd.specs.Mean.{meanK}
-use Rattle.unitsrd.specs.Step.{lambdaK, quarter-two, mean-fourth, few-or-many}
+use Rattle.unitsrd.specs.Step.{lambdaK, quarter-two, mean-fourth, roots-two, lambda-two}
 use Rattle.unitsrj.specs.Helper.{ratioOfK, termK, rc1p-fair}
 use Rattle.unitsrj.specs.Middle.{middleK, middle-fair}
 use Rattle.unitsrj.specs.Pass.{l, l-pos}
@@ -260,3 +260,24 @@ module _ {k j : ℕ} {s s' : Round} (h : j < 100) (i : Inv k (suc j) s s') (L : 
         (pair-falls (i .p .n) (units' (i .x)) (P .two .n) (X .two .n) (P .more') (X .more')) (pair-falls (i .p .n) (units' (i .y)) (P .two .n) (Y .two .n) (P .more') (Y .more'))
         (pair-falls (i .p .n) (units' (i .z)) (P .two .n) (Z .two .n) (P .more') (Z .more')) (i .small');
   }
+
+  pub pass-some : T (some? (pass .x) && some? (pass .y) && some? (pass .z))
+  unfolding pass
+  pass-some = tt
+
+-- ---- from the second pass on no argument is a zero
+pub record Whole (k j : ℕ) (s s' : Round) : Type 0 where
+  pub inv : Inv k j s s'
+  pub all-some : T (some? (inv .x) && some? (inv .y) && some? (inv .z))
+
+next-maybe : {k : ℕ} {x x' v v' : Float} (a : Maybe binary64 k meanK x x') → T (some? a) → Two binary64 k lambdaK v v' → Next k (units a) (units' a) ((x ⊕ v) ⊘ four) ((x' ⊕ v') ⊘ four)
+next-maybe (none z) t L = absurd t
+next-maybe (some a) t L = next a L
+
+pub step-whole : {k j : ℕ} {s s' : Round} → j < 100 → Whole k (suc j) s s' → Whole k j (rjStep s) (rjStep s')
+step-whole h w =
+    let i = w .inv in
+    let t = and₃ (some? (i .x)) (some? (i .y)) (some? (i .z)) (w .all-some) in
+    let L = lambda-two (roots-two (force (i .x) (t .0))) (roots-two (force (i .y) (t .1))) (roots-two (force (i .z) (t .2))) in
+    record { inv = pass h i L (next-maybe (i .x) (t .0) L) (next-maybe (i .y) (t .1) L) (next-maybe (i .z) (t .2) L);
+      all-some = pass-some h i L (next-maybe (i .x) (t .0) L) (next-maybe (i .y) (t .1) L) (next-maybe (i .z) (t .2) L) }
