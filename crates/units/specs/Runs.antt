@@ -44,21 +44,28 @@ pub wider-fair : {k : ℕ} {K L : Kind} {v w : Float} → Fair k K v w → T (wi
 wider-fair (inl p) ok = inl p
 wider-fair (inr a) ok = inr (widen-two a ok)
 
--- ---- the capped loop. `I j` holds between the states of the two runs where j passes are left.
-module _ {S A : Type 0} (step : S → S) (stop : S → Bool) (found spent found' spent' : S → ℕ → A) (R : A → A → Type 0)
+-- ---- the capped loop, whose step and test may hold what each run began with. `I j` holds between the states of the two runs where j passes are left.
+module _ {S A : Type 0} (step step' : S → S) (stop stop' : S → Bool) (found spent found' spent' : S → ℕ → A) (R : A → A → Type 0)
     (I : ℕ → S → S → Type 0) (cap : ℕ)
-    (pass : (j : ℕ) (s t : S) → j < cap → I (suc j) s t → I j (step s) (step t))
-    (test : (j : ℕ) (s t : S) → j < cap → I j s t → stop s ≡ stop t)
+    (pass : (j : ℕ) (s t : S) → j < cap → I (suc j) s t → I j (step s) (step' t))
+    (test : (j : ℕ) (s t : S) → j < cap → I j s t → stop s ≡ stop' t)
     (ends : (j : ℕ) (s t : S) (n : ℕ) → j ≤ cap → I j s t → T (stop s) → R (found s n) (found' t n))
     (runs-out : (s t : S) (n : ℕ) → I 0 s t → R (spent s n) (spent' t n)) where
-  pub loop-two : (j : ℕ) (b : Bool) (s t : S) (n : ℕ) → j ≤ cap → (T b → T (stop s)) → I j s t
-      → R (capped step stop found spent j b s n) (capped step stop found' spent' j b t n)
+  pub loops-two : (j : ℕ) (b : Bool) (s t : S) (n : ℕ) → j ≤ cap → (T b → T (stop s)) → I j s t
+      → R (capped step stop found spent j b s n) (capped step' stop' found' spent' j b t n)
   unfolding capped
-  loop-two zero true s t n h p i = ends zero s t n h i (p tt)
-  loop-two zero false s t n h p i = runs-out s t n i
-  loop-two (suc j) true s t n h p i = ends (suc j) s t n h i (p tt)
-  loop-two (suc j) false s t n h p i =
+  loops-two zero true s t n h p i = ends zero s t n h i (p tt)
+  loops-two zero false s t n h p i = runs-out s t n i
+  loops-two (suc j) true s t n h p i = ends (suc j) s t n h i (p tt)
+  loops-two (suc j) false s t n h p i =
       let i' = pass j s t h i in
-      subst (λ b. R (capped step stop found spent j (stop (step s)) (step s) (suc n)) (capped step stop found' spent' j b (step t) (suc n)))
-      (test j (step s) (step t) h i')
-      (loop-two j (stop (step s)) (step s) (step t) (suc n) (le-of-lt h) (λ q. q) i')
+      subst (λ b. R (capped step stop found spent j (stop (step s)) (step s) (suc n)) (capped step' stop' found' spent' j b (step' t) (suc n)))
+      (test j (step s) (step' t) h i')
+      (loops-two j (stop (step s)) (step s) (step' t) (suc n) (le-of-lt h) (λ q. q) i')
+
+-- of one step and one test
+pub loop-two : {S A : Type 0} (step : S → S) (stop : S → Bool) (found spent found' spent' : S → ℕ → A) (R : A → A → Type 0) (I : ℕ → S → S → Type 0) (cap : ℕ)
+    → ((j : ℕ) (s t : S) → j < cap → I (suc j) s t → I j (step s) (step t)) → ((j : ℕ) (s t : S) → j < cap → I j s t → stop s ≡ stop t)
+    → ((j : ℕ) (s t : S) (n : ℕ) → j ≤ cap → I j s t → T (stop s) → R (found s n) (found' t n)) → ((s t : S) (n : ℕ) → I 0 s t → R (spent s n) (spent' t n))
+    → (j : ℕ) (b : Bool) (s t : S) (n : ℕ) → j ≤ cap → (T b → T (stop s)) → I j s t → R (capped step stop found spent j b s n) (capped step stop found' spent' j b t n)
+loop-two step stop = loops-two step step stop stop

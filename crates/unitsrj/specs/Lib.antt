@@ -6,3 +6,5 @@ pub mod Pass
 pub mod Ratio
 pub mod Step
 pub mod Start
+pub mod Series
+pub mod Loop
