@@ -118,8 +118,7 @@ module _ {f : Format} {k : ℕ} {A B : Kind} {x x' y y' : Float} (o : 0 < overfl
   add-law (some a) (some b) s t p q r =
       let c = and₃ (level? A B) (ltb (plusK f A B .hi) (overflow f)) (not (A .any || B .any)) t in
       let S : a .s ≡ false = a .in-first .sign (nor-l (A .any) (B .any) (c .2)) in
-      let R : b .s ≡ false = b .in-first .sign (nor-r (A .any) (B .any) (c .2)) in
-      (
+      let R : b .s ≡ false = b .in-first .sign (nor-r (A .any) (B .any) (c .2)) in (
         sum-law f (a .m) (b .m) (a .s) (b .s) S R (digits-of (a .first)) (digits-of (b .first)),
         sum-law f (a .n) (b .n) (a .s) (b .s) S R (digits-of (a .second)) (digits-of (b .second)),
       )
@@ -146,8 +145,7 @@ module _ {f : Format} {k : ℕ} {A B : Kind} {x x' y y' : Float} (o : 0 < overfl
   mul-law (none z) (some b) s t n = (no-product-law _ 0 (b .m) 0 refl (zero-mul (b .m)), no-product-law _ 0 (b .n) 0 refl (zero-mul (b .n)))
   mul-law (some a) (none z) s t n = (no-product-law _ (a .m) 0 0 refl (mul-zero (a .m)), no-product-law _ (a .n) 0 0 refl (mul-zero (a .n)))
   mul-law (some a) (some b) s t n =
-      let h = leb→le (2 ^ (prec f - 1) * 2 ^ low f) (floor A * floor B) n in
-      (
+      let h = leb→le (2 ^ (prec f - 1) * 2 ^ low f) (floor A * floor B) n in (
         product-law f (a .m) (b .m) (le-trans h (mul-le-mul (floor-le (a .in-first)) (floor-le (b .in-first)))),
         product-law f (a .n) (b .n) (le-trans h (mul-le-mul (floor-le (a .in-second)) (floor-le (b .in-second)))),
       )

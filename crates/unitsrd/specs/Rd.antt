@@ -55,6 +55,13 @@ module _ {k : ℕ} {x x' y y' z z' : Float} (X : Two binary64 k argumentK x x') 
       (sym (unscaled x y z (within3 x y z (first-size X) (first-size Y) (first-size Z))))
       (sym (unscaled x' y' z' (within3 x' y' z' (second-size X) (second-size Y) (second-size Z)))) (settle r))
 
+  -- RD as RJ calls it, with z above zero
+  pub unchecked-ran : T (not (lt x zero)) → T (not (lt y zero)) → T (not (eq x zero && eq y zero)) → T (not (lt z zero)) → T (not (eq z zero))
+      → Ran k agmK (rdUnchecked x y z) (rdUnchecked x' y' z')
+  unchecked-ran hx hy nz hz n =
+      subst₂ (Ran k agmK) (sym (unscaled x y z (within3 x y z (first-size X) (first-size Y) (first-size Z))))
+      (sym (unscaled x' y' z' (within3 x' y' z' (second-size X) (second-size Y) (second-size Z)))) (steps-two (above-two Z hz n) X Y hx hy nz)
+
   pub rd-pair : Pair k agmK (rd x y z) (rd x' y' z')
   unfolding rd le
   rd-pair =

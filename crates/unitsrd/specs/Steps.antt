@@ -50,6 +50,10 @@ some-at a h false p q = refl
 pub arg-of : {k : ℕ} {x x' : Float} → Two binary64 k argumentK x x' → T (not (lt x zero)) → Arg k x x'
 arg-of {x = x} a h = arg-at a h (eq x zero) (λ t. t) (λ t. t)
 
+pub arg-some : {k : ℕ} {x x' : Float} (a : Two binary64 k argumentK x x') (h : T (not (lt x zero))) → some? (arg-of a h) ≡ not (eq x zero)
+unfolding arg-of
+arg-some {x = x} a h = some-at a h (eq x zero) (λ t. t) (λ t. t)
+
 pub some-of : {k : ℕ} {x x' y y' : Float} (a : Two binary64 k argumentK x x') (h : T (not (lt x zero))) (b : Two binary64 k argumentK y y') (g : T (not (lt y zero)))
     → T (not (eq x zero && eq y zero)) → T (some? (arg-of a h) || some? (arg-of b g))
 unfolding arg-of
@@ -92,7 +96,7 @@ both-zero s t m n h e =
     at false = tt
 
 -- an equal of a zero is one
-equal-zero : {x y : Float} {s t : Bool} {m n : ℕ} → Is binary64 x s m → Is binary64 y t n → T (eq x y) → T (eq x zero) → T (eq y zero)
+pub equal-zero : {x y : Float} {s t : Bool} {m n : ℕ} → Is binary64 x s m → Is binary64 y t n → T (eq x y) → T (eq x zero) → T (eq y zero)
 equal-zero {x} {y} {s} {t} {m} {n} X Y e z = subst T (sym (eq-units Y (zero-is binary64))) (both-zero s t m n (subst T (eq-units X Y) e) (no-units X z))
 
 module _ {k : ℕ} {z z' : Float} (Z : Two binary64 k argK z z') where

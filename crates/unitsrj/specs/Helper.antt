@@ -2,16 +2,15 @@
 -- RJ asks for it outside -3/2 < y < -1/2 only. Assumes nothing.
 use mathlib.Core.Path.{_≡_, refl, sym, ap, _∙_, subst}
 use mathlib.Core.Logic.{_⊎_, inl, inr}
-use Prim.Native.Nat.{ℕ, _+_, _*_, _^_, _≤_, _<_}
+use Prim.Native.Nat.{ℕ, _*_, _^_, _≤_, _<_}
 use lib.Pow.{pow-mono}
-use native.Mathlib.Nat.{not-le-of-lt, lt-of-le-of-lt, lt-of-lt-of-le, le-trans, le-of-lt, le-of-eq, le-antisymm}
+use native.Mathlib.Nat.{not-le-of-lt, lt-of-le-of-lt, lt-of-lt-of-le, le-trans, le-of-lt}
 use native.Mathlib.Omega.{arith}
-use mathlib.Core.Bool.{Bool, true, false, not, _||_, cond}
-use lib.Dec.{T, T-not, not-T, ltb, eqb, ltb→lt, lt→ltb, nltb→le, lit≤, lit<}
-use lib.Ieee.{Float, nan, binary64, neg, sub, add, mul, div, lt, le, eq, below, level, ofBits}
-use lib.Ieee.Fits.{and-i, eq→eqb}
+use mathlib.Core.Bool.{Bool, true, false, not}
+use lib.Dec.{T, T-not, not-T, ltb, ltb→lt, lt→ltb, nltb→le, lit≤, lit<}
+use lib.Ieee.{Float, nan, binary64, neg, sub, div, lt, le, eq, below, ofBits}
 use Rattle.binary64.specs.Leaves.{absolute}
-use Rattle.binary64.specs.Operators.{_⊕_, _⊖_, _⊗_, _⊘_, bits}
+use Rattle.binary64.specs.Operators.{_⊕_, _⊗_, _⊘_, bits}
 use Rattle.root.specs.Root.{root}
 use Rattle.series.specs.Atan.{atan}
 use Rattle.series.specs.Ln.{ln}
@@ -20,12 +19,11 @@ use Rattle.elliprc.specs.Rc.{rcUnchecked}
 use Rattle.polynomial.specs.Polynomial.{horner}
 use Rattle.elliprj.specs.Helper.{byAtan1p, byLogs1p, byRc1p, byLn1p, rc1p}
 use Rattle.scaling.specs.Kind.{Kind, last, floor-le, mulK, mulOk, divK, divOk, plusK, plusOk, nudgeK, nudgeOk, within}
-use Rattle.scaling.specs.Units.{Is, lt-units, eq-units}
+use Rattle.scaling.specs.Units.{Is, lt-units}
 use Rattle.scaling.specs.Two.{Two, mul-two, div-two, plus-two, nudge-two}
-use Rattle.scaling.specs.Tests.{zero-is, plus-sign-two}
+use Rattle.scaling.specs.Tests.{zero-is}
 use Rattle.scaling.specs.One.{lit-two, litOk, lit-is, widen-two, clip-two, clipK, neg-two, abs-units}
-use Rattle.scaling.specs.Gap.{raiseK, raise-two}
-use Rattle.scaling.specs.Leaf.{Leaf, leaf-two}
+use Rattle.scaling.specs.Leaf.{leaf-two}
 use Rattle.scaling.specs.Root.{rootK, rootOk, root-two}
 use Rattle.scaling.specs.Still.{flat-two, still-two, recast-two}
 use Rattle.scaling.specs.Nan.{mul-nan}
@@ -36,7 +34,7 @@ use Rattle.algebra.specs.Order.{lt-or-le}
 use Rattle.units.specs.Runs.{Fair}
 use Rattle.units.specs.Arguments.{Argument, no-units-of}
 use Rattle.unitsrf.specs.Leaves.{ratioK, leafK, spread, atan-leaf, ln-leaf, spread-leaf}
-use Rattle.unitsrf.specs.Rc.{resultK, unchecked-fair}
+use Rattle.unitsrf.specs.Rc.{unchecked-fair}
 use Rattle.unitsrj.specs.Polynomial.{tinyK, horner-two}
 
 -- ---- kinds: y, and what comes of it

@@ -8,3 +8,5 @@ pub mod Step
 pub mod Start
 pub mod Series
 pub mod Loop
+pub mod Positive
+pub mod Rj

@@ -1,15 +1,15 @@
 -- RJ's duplication whole, in two runs: as many passes, and the second value is the first divided by 2 ^ 3k, or neither is a number. Assumes nothing.
-use mathlib.Core.Path.{_≡_, refl, sym, subst, subst₂}
+use mathlib.Core.Path.{_≡_, sym, subst, subst₂}
 use mathlib.Core.Logic.{inl, inr}
 use Prim.Native.Nat.{ℕ, suc, _≤_, _<_}
 use native.Mathlib.Nat.{le-refl}
 use native.Mathlib.Omega.{arith}
 use mathlib.Core.Bool.{Bool}
 use lib.Dec.{T, lit<}
-use lib.Ieee.{Float, nan, binary64}
+use lib.Ieee.{Float, binary64}
 use Rattle.carlson.specs.Answer.{countedAt}
 use Rattle.carlson.specs.Loop.{capped}
-use Rattle.elliprj.specs.Duplicate.{rjMean, rjStart, rjBegin, rjStep, rjClose, rjFound, rjSpent, rjSeries, rjDuplication}
+use Rattle.elliprj.specs.Duplicate.{rjMean, rjStart, rjBegin, rjStep, rjClose, rjFound, rjSpent, rjDuplication}
 use Rattle.elliprj.specs.declared.duplicate.Round.{Round}
 use Rattle.scaling.specs.Kind.{Kind}
 use Rattle.scaling.specs.Two.{Two}

@@ -4,27 +4,26 @@ use mathlib.Core.Logic.{_⊎_, inl, inr}
 use Prim.Native.Nat.{ℕ, _^_, _≤_, _<_, max}
 use native.Mathlib.Nat.{le-trans, le-of-lt, le-max-left}
 use native.Mathlib.Omega.{arith}
-use mathlib.Core.Bool.{Bool, true, false, not, _||_, cond}
-use lib.Dec.{T, T-not, not-T, ltb, eqb, ltb→lt, lt→ltb, nltb→le, lit≤, lit<}
+use mathlib.Core.Bool.{Bool, true, false, not, cond}
+use lib.Dec.{T, T-not, eqb, ltb→lt, lt→ltb, nltb→le, lit≤}
 use lib.Pow.{pow-mono}
-use lib.Ieee.{Float, nan, binary64, neg, sub, mul, div, lt, le, eq, below, level, ofBits}
+use lib.Ieee.{Float, nan, binary64, sub, lt, eq, level, ofBits}
 use lib.Arith.{lt-of-le-ne}
 use lib.Ieee.Fits.{and-i, eq→eqb}
-use Rattle.binary64.specs.Leaves.{absolute, maximum}
-use Rattle.binary64.specs.Operators.{_⊕_, _⊖_, _⊗_, _⊘_, bits}
+use Rattle.binary64.specs.Operators.{_⊖_, _⊗_, _⊘_}
 use Rattle.root.specs.Root.{root}
 use Rattle.series.specs.Atan.{atan}
 use Rattle.series.specs.Ln.{ln}
 use Rattle.carlson.specs.Constants.{zero, one, two, half}
-use Rattle.carlson.specs.Rescaling.{scaleOf2, beyondLimits, survive2}
+use Rattle.carlson.specs.Rescaling.{scaleOf2, survive2}
 use Rattle.elliprc.specs.Rc.{atEqual, byAtan, byLn1p, byLn, rcCases, rcSteps, rcRescaled, rcUnchecked}
 use Rattle.algebra.specs.Order.{lt-or-le}
-use Rattle.scaling.specs.Kind.{Kind, In, last, floor-le, mulK, mulOk, divK, divOk, plusK, plusOk, sumK, sumOk, nudgeK, nudgeOk, within}
+use Rattle.scaling.specs.Kind.{Kind, last, floor-le, mulK, mulOk, divK, divOk, plusK, plusOk, nudgeK, nudgeOk, within}
 use Rattle.scaling.specs.Units.{Is, lt-units, eq-units}
 use Rattle.scaling.specs.Two.{Two, mul-two, div-two, plus-two, nudge-two}
 use Rattle.scaling.specs.Tests.{zero-is}
 use Rattle.scaling.specs.One.{lit-two, litOk, lit-is, widen-two, neg-two, abs-units, maximum-units}
-use Rattle.scaling.specs.Leaf.{Leaf, Value, leaf-two, gapK, gapOk, gap-two}
+use Rattle.scaling.specs.Leaf.{Leaf, leaf-two, gapK, gapOk, gap-two}
 use Rattle.scaling.specs.Pick.{choose}
 use Rattle.scaling.specs.Nan.{mul-nan, nan-div}
 use Rattle.scaling.specs.Root.{rootK, rootOk, root-two}

@@ -1,25 +1,22 @@
 -- One pass of RJ in two runs: the roots, their sums and the denominator, and the two quantities without dimension that RC is asked at. At most one of
 -- x, y, z is a zero, in the first pass. Assumes nothing.
-use mathlib.Core.Path.{_≡_, refl, sym, ap, _∙_, subst, subst₂}
+use mathlib.Core.Path.{_≡_, refl, sym, ap, subst}
 use Prim.Native.Nat.{ℕ, _+_, _*_, _^_, _≤_, _<_, zero-le}
-use native.Mathlib.Nat.{le-trans, le-of-eq, lt-of-lt-of-le, lt-of-le-of-lt, mul-le-mul, zero-mul}
+use native.Mathlib.Nat.{le-trans, le-of-eq, lt-of-lt-of-le, lt-of-le-of-lt, zero-mul}
 use native.Mathlib.Omega.{arith}
-use mathlib.Core.Bool.{Bool, true, false, not, _&&_, _||_, cond}
-use lib.Dec.{T, lit≤, lit<}
-use lib.Pow.{pow-pos, pow-mono}
-use lib.Ieee.{Float, binary64, low, ofBits}
-use Rattle.binary64.specs.Operators.{_⊕_, _⊖_, _⊗_, _⊘_, bits}
+use mathlib.Core.Bool.{Bool, false}
+use lib.Dec.{T, lit<}
+use lib.Pow.{pow-pos}
+use lib.Ieee.{Float, binary64, low}
+use Rattle.binary64.specs.Operators.{_⊕_}
 use Rattle.root.specs.Root.{root}
-use Rattle.scaling.specs.Near.{near}
 use Rattle.scaling.specs.Units.{Is}
 use Rattle.scaling.specs.Same.{same-units}
-use Rattle.scaling.specs.Half.{half-less, half-more}
-use Rattle.scaling.specs.Kind.{Kind, last, floor-le, mulK, mulOk, plusK, plusOk, within}
-use Rattle.scaling.specs.Two.{Two, mul-two}
-use Rattle.scaling.specs.One.{widen-two}
-use Rattle.scaling.specs.Root.{rootUnits, root-value, rootK, rootOk, root-two}
+use Rattle.scaling.specs.Kind.{Kind, last, floor-le, plusK, plusOk, within}
+use Rattle.scaling.specs.Two.{Two}
+use Rattle.scaling.specs.Root.{rootUnits, root-value}
 use Rattle.scaling.specs.Nothing.{root-nothing}
-use Rattle.scaling.specs.Maybe.{Maybe, none, some, some?, units, units', force, solid?, add-maybe, add-some, add-law, Sum}
+use Rattle.scaling.specs.Maybe.{Maybe, none, some, some?, units, units', solid?, add-maybe, add-some, add-law, Sum}
 use Rattle.unitsrd.specs.Mean.{meanK}
 use Rattle.unitsrd.specs.Step.{rootsK, roots-two}
 use Rattle.unitsrj.specs.Bound.{root-square, pair-square}
@@ -34,12 +31,11 @@ l-pos = pow-pos (low binary64)
 pub roots-square : {k : ℕ} {x x' : Float} (a : Two binary64 k meanK x x') → (a .m * l ≤ 4 * (roots-two a .m * roots-two a .m)) × (a .n * l ≤ 4 * (roots-two a .n * roots-two a .n))
 roots-square {x = x} {x' = x'} a =
     let S : a .s ≡ false = a .in-first .sign tt in
-    let r = roots-two a in
-    (
+    let r = roots-two a in (
       square (a .m) (r .m) (floor-le (a .in-first)) (a .in-first .to)
-        (same-units (r .first) (root-value (subst (λ (s : Bool). Is binary64 x s (a .m)) S (a .first)))),
+          (same-units (r .first) (root-value (subst (λ (s : Bool). Is binary64 x s (a .m)) S (a .first)))),
       square (a .n) (r .n) (floor-le (a .in-second)) (a .in-second .to)
-        (same-units (r .second) (root-value (subst (λ (s : Bool). Is binary64 x' s (a .n)) S (a .second)))),
+          (same-units (r .second) (root-value (subst (λ (s : Bool). Is binary64 x' s (a .n)) S (a .second)))),
     )
   where
     square : (n r : ℕ) → 2 ^ 1008 ≤ n → n ≤ 2 ^ 1138 → r ≡ rootUnits n → n * l ≤ 4 * (r * r)

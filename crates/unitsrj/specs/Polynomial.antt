@@ -1,9 +1,7 @@
 -- The polynomial of RC(1, 1 + y) for sizes of y up to 1/64, in two runs: between a half and two. Assumes nothing.
-use mathlib.Core.Path.{_≡_}
 use Prim.Native.Nat.{ℕ, _^_}
 use mathlib.Core.Bool.{true, false}
-use lib.Ieee.{Float, binary64, ofInt, ofBits, div, add, mul}
-use Rattle.binary64.specs.Operators.{_⊕_, _⊗_}
+use lib.Ieee.{Float, binary64, ofInt, div}
 use Rattle.polynomial.specs.Polynomial.{coefficient, down, horner}
 use Rattle.scaling.specs.Kind.{Kind, last, mulK, mulOk, sumK, sumOk, nudgeK, nudgeOk, within}
 use Rattle.scaling.specs.Two.{Two, mul-two, sum-two}

@@ -1,22 +1,18 @@
 -- The denominator of RJ's pass in two runs, the ratio of the differences' product to its square, and the middle: neither has a dimension, so both are
 -- the same float in both runs, and both are bounded. Assumes nothing.
-use mathlib.Core.Path.{_≡_, refl, sym, ap, _∙_, subst}
+use mathlib.Core.Path.{_≡_, refl, sym, _∙_, subst}
 use Prim.Native.Nat.{ℕ, _+_, _*_, _^_, _≤_, _<_}
 use native.Mathlib.Nat.{le-trans, le-of-eq, lt-of-lt-of-le, le-refl, mul-comm, mul-le-mul, le-of-mul-le-mul-left, one-mul, zero-lt-suc}
-use native.Mathlib.Omega.{arith}
-use mathlib.Core.Bool.{Bool, true, false, not, _&&_, _||_, cond}
+use mathlib.Core.Bool.{Bool, true, false, _||_, cond}
 use mathlib.Core.List.{[], _∷_}
 use lib.Dec.{T, lit≤, lit<}
-use lib.Pow.{pow-pos, pow-lt}
-use lib.Ieee.{Float, binary64, low, le, ofBits}
+use lib.Pow.{pow-lt}
+use lib.Ieee.{Float, binary64, le, ofBits}
 use lib.Ieee.Scale.{overflow}
-use Rattle.algebra.specs.Ring.{con, _:+_, _:*_, _≈_, _⊩_, _times_≼_, Law, Order, by-ring, by-below}
-use Rattle.binary64.specs.Operators.{_⊕_, _⊖_, _⊗_, _⊘_, bits}
+use Rattle.algebra.specs.Ring.{con, _:*_, _≈_, _⊩_, _times_≼_, Law, Order, by-ring, by-below}
+use Rattle.binary64.specs.Operators.{_⊕_, _⊗_, _⊘_, bits}
 use Rattle.root.specs.Root.{root}
 use Rattle.carlson.specs.Constants.{two}
-use Rattle.elliprj.specs.Duplicate.{rjDenominator, shareOf, rjRatio, rjMiddle}
-use Rattle.elliprj.specs.declared.duplicate.Round.{Round}
-use Rattle.elliprj.specs.declared.duplicate.Roots.{Roots}
 use Rattle.scaling.specs.Near.{near, digits, near-mono, near-exact}
 use Rattle.scaling.specs.Units.{Is}
 use Rattle.scaling.specs.Half.{half-less, half-more}
@@ -24,13 +20,13 @@ use Rattle.scaling.specs.Kind.{Kind, last, floor-le, mulK, mulOk, divK, divOk, 
 use Rattle.scaling.specs.Two.{Two, mul-two, div-two}
 use Rattle.scaling.specs.One.{lit-two, litOk, lit-is, widen-two, clip-two, clipK}
 use Rattle.scaling.specs.Plain.{units-le}
-use Rattle.scaling.specs.Maybe.{Maybe, none, some, some?, units, units', force, solid?, normal?, mul-maybe, mul-some, mul-law, add-maybe, add-some, add-law, Sum, Product}
+use Rattle.scaling.specs.Maybe.{Maybe, none, some, some?, units, units', solid?, normal?, mul-maybe, mul-law, add-maybe, add-some, add-law}
 use Rattle.unitsrd.specs.Mean.{meanK}
-use Rattle.unitsrd.specs.Step.{rootsK, roots-two}
+use Rattle.unitsrd.specs.Step.{roots-two}
 use Rattle.unitsrj.specs.Bound.{of-three, ratio-bound, middle-bound}
 use Rattle.unitsrj.specs.Helper.{ratioOfK}
 use Rattle.unitsrj.specs.Middle.{middleK}
-use Rattle.unitsrj.specs.Pass.{l, l-pos, roots-square, roots-maybe, roots-some, pairK, Pair, pair}
+use Rattle.unitsrj.specs.Pass.{l, l-pos, roots-square, roots-maybe, pairK, Pair, pair}
 
 -- ---- kinds
 abbrev twoPairsK : Kind
@@ -127,12 +123,11 @@ module _ {k : ℕ} {p p' x x' y y' z z' : Float} (P : Two binary64 k meanK p p')
   pub normal : T (le (bits 0x0010_0000_0000_0000) (denominatorOf ⊗ denominatorOf)) × T (le (bits 0x0010_0000_0000_0000) (denominatorOf' ⊗ denominatorOf'))
   unfolding litOk ofBits
   normal =
-      let S : square-two .s ≡ false = square-two .in-first .sign tt in
-      (
+      let S : square-two .s ≡ false = square-two .in-first .sign tt in (
         units-le (lit-is binary64 (bits 0x0010_0000_0000_0000) tt) (subst (λ (s : Bool). Is binary64 (denominatorOf ⊗ denominatorOf) s (square-two .m)) S (square-two .first))
-          (le-trans (lit≤ tt) (floor-le (square-two .in-first))),
+            (le-trans (lit≤ tt) (floor-le (square-two .in-first))),
         units-le (lit-is binary64 (bits 0x0010_0000_0000_0000) tt) (subst (λ (s : Bool). Is binary64 (denominatorOf' ⊗ denominatorOf') s (square-two .n)) S (square-two .second))
-          (le-trans (lit≤ tt) (floor-le (square-two .in-second))),
+            (le-trans (lit≤ tt) (floor-le (square-two .in-second))),
       )
 
   module _ {v v' : Float} (D : Two binary64 k deltaK v v') (small : D .m * (l * l) ≤ 4 * ((P .m + units X) * (P .m + units Y) * (P .m + units Z)))

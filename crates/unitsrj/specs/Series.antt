@@ -1,37 +1,36 @@
 -- RJ's bound and series in two runs: where the loop ends the corrections are at most 1/32, the series' factor lies between a half and two, and the value
 -- is divided by 2 ^ 3k. Assumes nothing.
-use mathlib.Core.Path.{_≡_, refl, sym, ap, ap₂, _∙_, subst}
+use mathlib.Core.Path.{_≡_, sym, ap, ap₂, _∙_, subst}
 use mathlib.Core.Logic.{_⊎_, inl, inr}
 use mathlib.Core.List.{[], _∷_}
-use Prim.Native.Nat.{ℕ, _+_, _*_, _^_, _≤_, _<_, zero-le}
-use native.Mathlib.Nat.{le-trans, le-of-eq, le-of-lt, lt-of-lt-of-le, mul-le-mul, mul-le-mul-right, one-mul, zero-mul, mul-zero, zero-lt-suc, le-of-mul-le-mul-left}
+use Prim.Native.Nat.{ℕ, _*_, _^_, _≤_, _<_, zero-le}
+use native.Mathlib.Nat.{le-trans, le-of-eq, le-of-lt, lt-of-lt-of-le, mul-le-mul, mul-le-mul-right, one-mul, mul-zero, zero-lt-suc, le-of-mul-le-mul-left}
 use native.Mathlib.Omega.{arith}
 use mathlib.Core.Bool.{Bool, true, false, cond}
 use lib.Dec.{T, lit≤, lit<, ltb→lt}
-use lib.Pow.{pow-pos, pow-mono, pow-lt}
-use lib.Ieee.{Float, nan, binary64, neg, lt, low, below, ofBits}
-use Rattle.algebra.specs.Ring.{con, _:+_, _:*_, _≈_, _⊩_, _times_≼_, Order, by-below}
-use Rattle.binary64.specs.Leaves.{absolute, maximum}
-use Rattle.binary64.specs.Operators.{_⊕_, _⊖_, _⊗_, _⊘_, bits}
-use Rattle.power.specs.Power.{power}
+use lib.Pow.{pow-mono, pow-lt}
+use lib.Ieee.{Float, nan, binary64, lt, below, ofBits}
+use Rattle.algebra.specs.Ring.{con, _:*_, _≈_, _⊩_, _times_≼_, Order, by-below}
+use Rattle.binary64.specs.Leaves.{absolute}
+use Rattle.binary64.specs.Operators.{_⊕_, _⊖_, _⊗_, bits}
 use Rattle.carlson.specs.Constants.{two, three, four}
 use Rattle.elliprj.specs.Duplicate.{rjStart, rjCorrection, rjFactor, rjSeries}
 use Rattle.elliprj.specs.declared.duplicate.Round.{Round}
-use Rattle.scaling.specs.Near.{near, digits, near-mono, near-exact, near-zero}
+use Rattle.scaling.specs.Near.{near, digits, near-mono, near-exact}
 use Rattle.scaling.specs.Units.{lt-units}
 use Rattle.scaling.specs.Half.{half-less}
-use Rattle.scaling.specs.Kind.{Kind, In, last, floor-le, mulK, mulOk, divK, divOk, plusK, plusOk, sumK, sumOk, within, absK}
+use Rattle.scaling.specs.Kind.{Kind, In, last, floor-le, mulK, mulOk, divK, divOk, plusK, plusOk, sumK, sumOk, within}
 use Rattle.scaling.specs.Last.{Digits, digits-of}
 use Rattle.scaling.specs.Two.{Two, mul-two, div-two, plus-two, sum-two, lt-two}
 use Rattle.scaling.specs.One.{lit-two, litOk, litN, widen-two, clip-two, clipK, abs-two, neg-two, sub-two}
 use Rattle.scaling.specs.Power.{powerK, powerOk, power-two}
-use Rattle.scaling.specs.Signed.{Larger, larger-two}
+use Rattle.scaling.specs.Signed.{larger-two}
 use Rattle.scaling.specs.Lead.{shifted}
 use Rattle.scaling.specs.Nan.{mul-nan, add-nan}
 use Rattle.units.specs.Runs.{Fair}
 use Rattle.unitsrd.specs.Lead.{part}
 use Rattle.unitsrd.specs.Mean.{meanK, gapK}
-use Rattle.unitsrd.specs.Series.{smallK, factorK, third-two}
+use Rattle.unitsrd.specs.Series.{factorK, third-two}
 use Rattle.unitsrj.specs.Pass.{l, l-pos}
 use Rattle.unitsrj.specs.Step.{fourthK, anyFourthK, sumsK, any-fourth, any-sums}
 
@@ -125,14 +124,13 @@ module _ {k : ℕ} (j : ℕ) (h : j < 101) {a a' w w' q q' : Float} (A : Two bin
       let F = fallen j h W Q in
       let S : A .s ≡ false = A .in-first .sign tt in
       let R : F .s ≡ false = F .in-first .sign tt in
-      let B = widen-two {B = anyFourthK} W (any-fourth j h) in
-      (
+      let B = widen-two {B = anyFourthK} W (any-fourth j h) in (
         lead-end M (Q .m) (W .m) (F .m) (A .m) lead
-          (product-less (W .m) (Q .m) (2 ^ 874) (2 ^ 950) (lit≤ tt) (floor-le (B .in-first)) (some-or-none (Q .in-first)))
-          (le-of-lt (ltb→lt (F .m) (A .m) (subst T (lt-units (F .first) (A .first) ∙ ap₂ (λ s t. below s (F .m) t (A .m)) R S) t))),
+            (product-less (W .m) (Q .m) (2 ^ 874) (2 ^ 950) (lit≤ tt) (floor-le (B .in-first)) (some-or-none (Q .in-first)))
+            (le-of-lt (ltb→lt (F .m) (A .m) (subst T (lt-units (F .first) (A .first) ∙ ap₂ (λ s t. below s (F .m) t (A .m)) R S) t))),
         lead-end M' (Q .n) (W .n) (F .n) (A .n) lead'
-          (product-less (W .n) (Q .n) (2 ^ 874) (2 ^ 950) (lit≤ tt) (floor-le (B .in-second)) (some-or-none (Q .in-second)))
-          (le-of-lt (ltb→lt (F .n) (A .n) (subst T (test-two ∙ lt-units (F .second) (A .second) ∙ ap₂ (λ s t. below s (F .n) t (A .n)) R S) t))),
+            (product-less (W .n) (Q .n) (2 ^ 874) (2 ^ 950) (lit≤ tt) (floor-le (B .in-second)) (some-or-none (Q .in-second)))
+            (le-of-lt (ltb→lt (F .n) (A .n) (subst T (test-two ∙ lt-units (F .second) (A .second) ∙ ap₂ (λ s t. below s (F .n) t (A .n)) R S) t))),
       )
 
 -- ---- a correction: at most 1/32

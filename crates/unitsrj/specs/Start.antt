@@ -6,38 +6,34 @@ use Prim.Native.Nat.{ℕ, _+_, _-_, _*_, _^_, _≤_, _<_, zero-le}
 use native.Mathlib.Nat.{le-trans, le-of-eq, le-refl, mul-le-mul, zero-mul, mul-zero, zero-lt-suc}
 use native.Mathlib.Omega.{arith}
 use mathlib.Core.Bool.{Bool, true, false, not, _&&_, _||_, cond}
-use lib.Dec.{T, ltb, ltb→lt, nltb→le, lit≤, lit<}
-use lib.Pow.{pow-pos, pow-mono}
-use lib.Ieee.{Float, binary64, low, sub, ofBits}
+use lib.Dec.{T, ltb, lit≤, lit<}
+use lib.Pow.{pow-mono}
+use lib.Ieee.{Float, binary64, sub, ofBits}
 use lib.Ieee.Scale.{overflow}
-use Rattle.algebra.specs.Ring.{con, _:+_, _:*_, _≈_, _⊩_, _times_≼_, Order, by-below}
-use Rattle.binary64.specs.Leaves.{absolute, maximum}
+use Rattle.algebra.specs.Ring.{con, _:*_, _≈_, _⊩_, _times_≼_, Order, by-below}
 use Rattle.binary64.specs.Operators.{_⊕_, _⊖_, _⊗_, _⊘_, bits}
 use Rattle.root.specs.Root.{root}
-use Rattle.carlson.specs.Constants.{zero, one, two, four}
+use Rattle.carlson.specs.Constants.{one, two, four}
 use Rattle.carlson.specs.Common.{lambdaOf}
-use Rattle.elliprj.specs.Duplicate.{rjMean, rjStart, rjBegin, rjStep}
-use Rattle.elliprj.specs.declared.duplicate.Round.{Round}
-use Rattle.scaling.specs.Near.{near, near-mono, near-zero}
-use Rattle.scaling.specs.Cross.{addN, addS}
+use Rattle.elliprj.specs.Duplicate.{rjMean, rjBegin, rjStep}
+use Rattle.scaling.specs.Near.{near, near-zero}
+use Rattle.scaling.specs.Cross.{addN}
 use Rattle.scaling.specs.Units.{neg-units}
 use Rattle.scaling.specs.Half.{half-more}
-use Rattle.scaling.specs.Kind.{Kind, In, last, floor-le, near-le, mulK, mulOk, divK, divOk, plusK, plusOk, sumK, sumOk, within, absK, negK}
+use Rattle.scaling.specs.Kind.{Kind, In, last, floor-le, near-le, mulK, mulOk, divK, divOk, plusK, plusOk, sumK, sumOk, within}
 use Rattle.scaling.specs.Last.{Digits, digits-of}
 use Rattle.scaling.specs.Two.{Two, mul-two, div-two, plus-two, sum-two, summed}
 use Rattle.scaling.specs.Tests.{zero-is}
-use Rattle.scaling.specs.One.{lit-two, litOk, litN, widen-two, abs-two, sub-two, neg-two}
+use Rattle.scaling.specs.One.{lit-two, litOk, widen-two, sub-two, neg-two}
 use Rattle.scaling.specs.Root.{rootK, rootOk, root-two}
 use Rattle.scaling.specs.Nothing.{Nothing, root-nothing, nothing-two, skip-last, skip-last-units}
-use Rattle.scaling.specs.Signed.{above, Larger, larger-two}
-use Rattle.scaling.specs.Lead.{on-grid, shifted, quarter}
-use Rattle.scaling.specs.Maybe.{Maybe, force, solid?, mul-maybe, mul-some, add-maybe, add-some, add-law, Sum}
+use Rattle.scaling.specs.Lead.{on-grid, quarter}
+use Rattle.scaling.specs.Maybe.{Maybe, force, solid?, mul-maybe, mul-some, add-maybe, add-some, add-law}
 use Rattle.scaling.specs.Maybe as maybe
 use Rattle.unitsrd.specs.Mean.{argK, meanK, gapK, Arg, none, some, some?, units, units'}
-use Rattle.unitsrd.specs.Gaps.{Gap, gap}
 use Rattle.unitsrd.specs.Step.{lambdaK}
 use Rattle.unitsrj.specs.Pass.{l, l-pos}
-use Rattle.unitsrj.specs.Step.{fourthK, productK, sumsK, Next, Inv, Whole, pass, pass-some}
+use Rattle.unitsrj.specs.Step.{productK, sumsK, Next, Inv, Whole, pass, pass-some}
 
 -- ---- arguments as floats that may be a zero
 abbrev arg : {k : ℕ} {x x' : Float} → Arg k x x' → Maybe binary64 k argK x x'

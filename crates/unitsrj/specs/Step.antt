@@ -1,17 +1,17 @@
 -- A pass of RJ's duplication in two runs: what it keeps. Assumes nothing.
-use mathlib.Core.Path.{_≡_, refl, sym, ap, ap₂, _∙_, subst, subst₂}
+use mathlib.Core.Path.{_≡_, refl, sym, ap, _∙_, subst, subst₂}
 use mathlib.Core.Logic.{_⊎_, inl, inr}
 use mathlib.Core.List.{[], _∷_}
-use Prim.Native.Nat.{ℕ, suc, _+_, _-_, _*_, _^_, _≤_, _<_, zero-le}
-use native.Mathlib.Nat.{le-trans, le-of-eq, le-of-mul-le-mul-left, mul-le-mul, mul-le-mul-left, zero-lt-suc, mul-pos, zero-mul}
+use Prim.Native.Nat.{ℕ, suc, _+_, _-_, _*_, _^_, _≤_, _<_}
+use native.Mathlib.Nat.{le-trans, le-of-eq, le-of-mul-le-mul-left, mul-le-mul, zero-lt-suc, mul-pos}
 use native.Mathlib.Omega.{arith}
-use mathlib.Core.Bool.{Bool, true, false, not, _&&_, _||_, cond}
-use lib.Dec.{T, T-not, leb, leb→le, lit≤, lit<}
-use lib.Pow.{pow-pos, pow-mono}
-use lib.Ieee.{Float, nan, binary64, neg, lt, le, low, unlike, ofBits}
+use mathlib.Core.Bool.{Bool, true, false, _&&_, cond}
+use lib.Dec.{T, T-not, leb, leb→le, lit≤}
+use lib.Pow.{pow-mono}
+use lib.Ieee.{Float, binary64, neg, lt, le, low, ofBits}
 use lib.Ieee.Fits.{and-l, and-r}
-use Rattle.algebra.specs.Ring.{con, _:+_, _:*_, _≈_, _⊩_, _times_≼_, Order, by-below}
-use Rattle.binary64.specs.Operators.{_⊕_, _⊖_, _⊗_, _⊘_, bits}
+use Rattle.algebra.specs.Ring.{con, _:*_, _≈_, _⊩_, _times_≼_, Order, by-below}
+use Rattle.binary64.specs.Operators.{_⊕_, _⊗_, _⊘_, bits}
 use Rattle.root.specs.Root.{root}
 use Rattle.carlson.specs.Constants.{one, four, half}
 use Rattle.carlson.specs.Common.{lambdaOf}
@@ -28,7 +28,7 @@ use Rattle.scaling.specs.Tests.{same-float}
 use Rattle.scaling.specs.One.{lit-two, litOk, widen-two}
 use Rattle.scaling.specs.Every.{all, every}
 use Rattle.scaling.specs.Pick.{choose}
-use Rattle.scaling.specs.Nan.{mul-nan, nan-mul, add-nan, nan-add}
+use Rattle.scaling.specs.Nan.{mul-nan, add-nan, nan-add}
 use Rattle.scaling.specs.Maybe.{Maybe, none, some, some?, units, units', force}
 use Rattle.units.specs.Runs.{Fair}
 use Rattle.unitsrd.specs.Lead.{part}
@@ -279,5 +279,7 @@ step-whole h w =
     let i = w .inv in
     let t = and₃ (some? (i .x)) (some? (i .y)) (some? (i .z)) (w .all-some) in
     let L = lambda-two (roots-two (force (i .x) (t .0))) (roots-two (force (i .y) (t .1))) (roots-two (force (i .z) (t .2))) in
-    record { inv = pass h i L (next-maybe (i .x) (t .0) L) (next-maybe (i .y) (t .1) L) (next-maybe (i .z) (t .2) L);
-      all-some = pass-some h i L (next-maybe (i .x) (t .0) L) (next-maybe (i .y) (t .1) L) (next-maybe (i .z) (t .2) L) }
+    record {
+      inv = pass h i L (next-maybe (i .x) (t .0) L) (next-maybe (i .y) (t .1) L) (next-maybe (i .z) (t .2) L);
+      all-some = pass-some h i L (next-maybe (i .x) (t .0) L) (next-maybe (i .y) (t .1) L) (next-maybe (i .z) (t .2) L);
+    }
