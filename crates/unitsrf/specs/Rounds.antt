@@ -1,6 +1,6 @@
 -- RF's duplication in two runs, the second with x, y and z multiplied by 4 ^ k: the same number of passes, and the second result is the first
--- divided by
--- 2 ^ k. What a pass keeps: all means from 2 ^ -64 to 2 ^ 64, and the bound q times the power of four ahead of the first differences.
+-- divided by 2 ^ k. What a pass keeps: all means from 2 ^ -64 to 2 ^ 64, and the bound q times the power of four ahead of the first differences. The
+-- kinds allow fifty passes, as RG's joint loop does, which makes the same steps.
 use mathlib.Core.Path.{_≡_, refl, ap, _∙_, subst}
 use Prim.Native.Nat.{ℕ, suc, _+_, _-_, _*_, _^_, _≤_, _<_, max}
 use native.Mathlib.Nat.{le-trans, le-of-lt, lt-of-lt-of-le, mul-le-mul-left, mul-le-mul-right, le-max-left, le-max-right}
@@ -29,26 +29,26 @@ use Rattle.unitsrf.specs.Rc.{resultK}
 use Rattle.unitsrf.specs.Series.{smallK, lambda-two, quarter-two, mean-two, factor-two}
 
 -- the bound q and the power of four with j passes left: q is divided by four in a pass, and the power multiplied
-abbrev boundK : ℕ → Kind
+abbrev pub boundK : ℕ → Kind
 boundK j = record { any = false; zer = false; lo = 2 ^ (900 + 2 * j); hi = 2 ^ 1200; g = last binary64 (2 ^ (900 + 2 * j)); u = 2; d = 0 }
 
-abbrev powerK : ℕ → Kind
-powerK j = record { any = false; zer = false; lo = 2 ^ 1074; hi = 2 ^ (1100 - 2 * j); g = last binary64 (2 ^ 1074); u = 0; d = 0 }
+abbrev pub powerK : ℕ → Kind
+powerK j = record { any = false; zer = false; lo = 2 ^ 1074; hi = 2 ^ (1174 - 2 * j); g = last binary64 (2 ^ 1074); u = 0; d = 0 }
 
 -- a first difference
-gapK : Kind
+unfoldable pub gapK : Kind
 gapK = sumK binary64 meanK (negK meanK)
 
 -- ---- what a pass finds, D and D' being the larger of the first differences, in units
-record Inv (k D D' j : ℕ) (s t : Round) : Type 0 where
-  an : Two binary64 k meanK (s .an) (t .an)
-  xn : Two binary64 k meanK (s .xn) (t .xn)
-  yn : Two binary64 k meanK (s .yn) (t .yn)
-  zn : Two binary64 k meanK (s .zn) (t .zn)
-  q : Two binary64 k (boundK j) (s .q) (t .q)
-  fnval : Two binary64 k (powerK j) (s .fnval) (t .fnval)
-  ahead : Ahead binary64 D (q .m) (fnval .m)
-  ahead' : Ahead binary64 D' (q .n) (fnval .n)
+pub record Inv (k D D' j : ℕ) (s t : Round) : Type 0 where
+  pub an : Two binary64 k meanK (s .an) (t .an)
+  pub xn : Two binary64 k meanK (s .xn) (t .xn)
+  pub yn : Two binary64 k meanK (s .yn) (t .yn)
+  pub zn : Two binary64 k meanK (s .zn) (t .zn)
+  pub q : Two binary64 k (boundK j) (s .q) (t .q)
+  pub fnval : Two binary64 k (powerK j) (s .fnval) (t .fnval)
+  pub ahead : Ahead binary64 D (q .m) (fnval .m)
+  pub ahead' : Ahead binary64 D' (q .n) (fnval .n)
 
 -- ---- the tests that depend on the pass, for all passes at once
 fourK : Kind
@@ -62,17 +62,26 @@ powerOk : ℕ → Bool
 unfolding fourK mulK mulOk within
 powerOk j = mulOk binary64 (powerK (suc j)) fourK && within (mulK binary64 (powerK (suc j)) fourK) (powerK j)
 
-quarters : (j : ℕ) → j < 11 → T (quarterOk j)
+quarters : (j : ℕ) → j < 50 → T (quarterOk j)
 unfolding all quarterOk
-quarters = every 11 quarterOk tt
+quarters = every 50 quarterOk tt
 
-fours : (j : ℕ) → j < 11 → T (powerOk j)
+fours : (j : ℕ) → j < 50 → T (powerOk j)
 unfolding all powerOk
-fours = every 11 powerOk tt
+fours = every 50 powerOk tt
 
-powers : (j : ℕ) → j < 12 → T (within (powerK j) (powerK 0))
+powers : (j : ℕ) → j < 51 → T (within (powerK j) (powerK 0))
 unfolding all within
-powers = every 12 (λ j. within (powerK j) (powerK 0)) tt
+powers = every 51 (λ j. within (powerK j) (powerK 0)) tt
+
+-- a start with fewer passes allowed; RG allows fifty
+startOk : ℕ → Bool
+unfolding within
+startOk j = within (boundK 50) (boundK j) && within (powerK 50) (powerK j)
+
+starts : (j : ℕ) → j < 51 → T (startOk j)
+unfolding all startOk
+starts = every 51 startOk tt
 
 -- what is ahead of the larger of two is ahead of each
 ahead-of : (D E Q W : ℕ) → D ≤ E → Ahead binary64 E Q W → Ahead binary64 D Q W
@@ -84,7 +93,7 @@ module _ {k : ℕ} where
   four-two = lit-two four tt
 
   -- ---- a pass
-  pass : {D D' : ℕ} (j : ℕ) (s t : Round) → j < 11 → Inv k D D' (suc j) s t → Inv k D D' j (rfStep s) (rfStep t)
+  pub pass : {D D' : ℕ} (j : ℕ) (s t : Round) → j < 50 → Inv k D D' (suc j) s t → Inv k D D' j (rfStep s) (rfStep t)
   unfolding rfStep fourK quarterOk powerOk litOk widen-two mul-two div-two four-two lit-two
   pass {D} {D'} j s t h i =
       let l = lambda-two (i .xn) (i .yn) (i .zn) in
@@ -109,7 +118,7 @@ module _ {k : ℕ} where
       }
 
   -- ---- the test at a pass's end says the same in both runs, and what it says
-  test : (j : ℕ) {a q a' q' : Float} → Two binary64 k meanK a a' → Two binary64 k (boundK j) q q' → lt q (absolute a) ≡ lt q' (absolute a')
+  pub test : (j : ℕ) {a q a' q' : Float} → Two binary64 k meanK a a' → Two binary64 k (boundK j) q q' → lt q (absolute a) ≡ lt q' (absolute a')
   test j A Q = lt-two Q (abs-two A) tt
 
   closer : (j : ℕ) {a q a' q' : Float} (A : Two binary64 k meanK a a') (Q : Two binary64 k (boundK j) q q') → T (lt q (absolute a))
@@ -122,7 +131,7 @@ module _ {k : ℕ} where
       )
 
   -- ---- a correction: a first difference over the mean times the power is the same in both runs, and small
-  correction-two : (j : ℕ) (a₀ x a₀' x' : Float) {a q w a' q' w' : Float} → j < 12 → (A : Two binary64 k meanK a a')
+  correction-two : (j : ℕ) (a₀ x a₀' x' : Float) {a q w a' q' w' : Float} → j < 51 → (A : Two binary64 k meanK a a')
       (Q : Two binary64 k (boundK j) q q') (W : Two binary64 k (powerK j) w w') (G : Two binary64 k gapK (a₀ ⊖ x) (a₀' ⊖ x'))
       → Ahead binary64 (G .m) (Q .m) (W .m) → Ahead binary64 (G .n) (Q .n) (W .n) → T (lt q (absolute a))
       → Two binary64 k smallK (rfCorrection a₀ x a w) (rfCorrection a₀' x' a' w')
@@ -138,9 +147,9 @@ module _ {k : ℕ} where
       (lt-of-lt-of-le (lit< tt) (floor-le (E .in-second)))))
       tt
 
-  series-two : (j : ℕ) (a₀ x y a₀' x' y' : Float) (s t : Round) (G : Two binary64 k gapK (a₀ ⊖ x) (a₀' ⊖ x'))
+  pub series-two : (j : ℕ) (a₀ x y a₀' x' y' : Float) (s t : Round) (G : Two binary64 k gapK (a₀ ⊖ x) (a₀' ⊖ x'))
       (H : Two binary64 k gapK (a₀ ⊖ y) (a₀' ⊖ y'))
-      → j < 12 → Inv k (max (G .m) (H .m)) (max (G .n) (H .n)) j s t → T (rfClose s)
+      → j < 51 → Inv k (max (G .m) (H .m)) (max (G .n) (H .n)) j s t → T (rfClose s)
       → Two binary64 k resultK (rfSeries x y a₀ (s .an) (s .fnval)) (rfSeries x' y' a₀' (t .an) (t .fnval))
   unfolding rfSeries rfClose rootK rootOk divK divOk within
   series-two j a₀ x y a₀' x' y' s t G H h i p =
@@ -157,21 +166,24 @@ module _ {k : ℕ} where
       widen-two (div-two (factor-two X Y) (root-two (i .an) tt) tt) tt
 
   -- ---- the start, and the whole
-  begin : {x y z x' y' z' : Float} (X : Two binary64 k meanK x x') (Y : Two binary64 k meanK y y') (Z : Two binary64 k meanK z z')
+  pub begin : (j : ℕ) {x y z x' y' z' : Float} → j < 51
+      → (X : Two binary64 k meanK x x') (Y : Two binary64 k meanK y y') (Z : Two binary64 k meanK z z')
       → (G : Two binary64 k gapK (meanOf x y z ⊖ x) (meanOf x' y' z' ⊖ x')) (H : Two binary64 k gapK (meanOf x y z ⊖ y) (meanOf x' y' z' ⊖ y'))
-      → Inv k (max (G .m) (H .m)) (max (G .n) (H .n)) 11 (rfBegin x y z) (rfBegin x' y' z')
-  unfolding rfBegin rfStart gapK sumK sumOk mulK mulOk within litOk abs-two max-two mul-two lit-two widen-two
-  begin X Y Z G H =
+      → Inv k (max (G .m) (H .m)) (max (G .n) (H .n)) j (rfBegin x y z) (rfBegin x' y' z')
+  unfolding rfBegin rfStart startOk gapK sumK sumOk mulK mulOk within litOk abs-two max-two mul-two lit-two widen-two
+  begin j h X Y Z G H =
       let A = mean-two X Y Z in
       let M = max-two (max-two (max-two (abs-two A) (abs-two G) tt) (abs-two H) tt) (abs-two (sub-two A Z tt)) tt in
       let factor = bits 0x4053_B957_8EB0_BF54 in
+      let o = starts j h in
+      let P = within (boundK 50) (boundK j) in
       record {
         an = A;
         xn = X;
         yn = Y;
         zn = Z;
-        q = widen-two (mul-two (lit-two factor tt) M tt) tt;
-        fnval = widen-two (lit-two one tt) tt;
+        q = widen-two (widen-two {B = boundK 50} (mul-two (lit-two factor tt) M tt) tt) (and-l P _ o);
+        fnval = widen-two (widen-two {B = powerK 50} (lit-two one tt) tt) (and-r P _ o);
         ahead =
             ahead-start binary64 (litN binary64 factor) (M .m) (max (G .m) (H .m)) (digits-of (M .first)) (within-max (A .m) (G .m) (H .m) _)
             (lit≤ tt);
@@ -193,13 +205,16 @@ module _ {k : ℕ} where
       let a₀ = meanOf x y z in
       let a₀' = meanOf x' y' z' in
       loop-two rfStep rfClose (rfFound x y a₀) rfSpent (rfFound x' y' a₀') rfSpent (Same k resultK) (Inv k (max (G .m) (H .m)) (max (G .n) (H .n))) 11
-      pass closes
+      (λ j s t h. pass j s t (fifty j h)) closes
       (λ j s t n h i p. counted n (series-two j a₀ x y a₀' x' y' s t G H (more j h) i p))
       (λ s t n i. spent-both k resultK n)
-      11 false (rfBegin x y z) (rfBegin x' y' z') 0 (lit≤ tt) (λ p. absurd p) (begin X Y Z G H)
+      11 false (rfBegin x y z) (rfBegin x' y' z') 0 (lit≤ tt) (λ p. absurd p) (begin 11 (lit< tt) X Y Z G H)
     where
-      more : (j : ℕ) → j ≤ 11 → j < 12
+      more : (j : ℕ) → j ≤ 11 → j < 51
       more j h = omega arith
+
+      fifty : (j : ℕ) → j < 11 → j < 50
+      fifty j h = omega arith
 
       closes : {D D' : ℕ} (j : ℕ) (s t : Round) → j < 11 → Inv k D D' j s t → rfClose s ≡ rfClose t
       closes j s t h i = unfold rfClose in test j (i .an) (i .q)
