@@ -7,7 +7,7 @@ use mathlib.Core.Bool.{Bool, _||_}
 use lib.Dec.{T}
 use lib.Ieee.{Float, binary64, low}
 use Rattle.carlson.specs.Loop.{capped}
-use Rattle.elliprd.specs.Duplicate.{rdMean, rdBegin, rdStep, rdClose, rdFound, rdSpent, rdDuplication}
+use Rattle.elliprd.specs.Duplicate.{rdMean, rdBegin, rdStep, rdClose, rdSeries, rdFound, rdSpent, rdDuplication}
 use Rattle.elliprd.specs.declared.duplicate.Round.{Round}
 use Rattle.scaling.specs.Two.{Two}
 use Rattle.scaling.specs.Signed.{above}
@@ -19,14 +19,14 @@ use Rattle.unitsrd.specs.Start.{m, gx, gy, gz, xy, xyz, largest, largest
 use Rattle.unitsrd.specs.Series.{valueK, test-two, ended, correction-two, series-two}
 
 module _ {k : ℕ} {x x' y y' z z' : Float} (a : Arg k x x') (b : Arg k y y') (c : Two binary64 k argK z z') (h : T (some? a || some? b)) where
-  abbrev I : ℕ → Round → Round → Type 0
+  abbrev pub I : ℕ → Round → Round → Type 0
   I j s t = Inv k j (largest a b c h) (largest' a b c h) (m a b c h .two .m) (m a b c h .two .n) s t
 
   -- ---- the first differences of x and y are little more than the largest above zero
-  abbrev A : ℕ
+  abbrev pub A : ℕ
   A = m a b c h .two .m
 
-  abbrev A' : ℕ
+  abbrev pub A' : ℕ
   A' = m a b c h .two .n
 
   x-above : above (gx a b c h .two .s) (gx a b c h .two .m) ≤ largest a b c h
@@ -54,19 +54,27 @@ module _ {k : ℕ} {x x' y y' z z' : Float} (a : Arg k x x') (b : Arg k y y') (c
   y-bound' = bounded A' (units' b) (units' a) (c .n) (largest' a b c h) _ _ _ _ _ _ (turned (units' a) (units' b) (c .n) A' (m a b c h .second)) (gy a b c h .second) (gx a b c h .second) (gz a b c h .second) y-above' x-above' (xyz a b c h .right-second)
 
   -- ---- where it ends
-  ends : (j : ℕ) (s t : Round) (n : ℕ) → j ≤ 49 → I j s t → T (rdClose s) → Same k valueK (rdFound x y (rdMean x y z) s n) (rdFound x' y' (rdMean x' y' z') t n)
+  pub value-two : (j : ℕ) (s t : Round) → j ≤ 50 → I j s t → T (rdClose s)
+      → Two binary64 k valueK (rdSeries x y (rdMean x y z) (s .an) (s .fnval) (s .sum)) (rdSeries x' y' (rdMean x' y' z') (t .an) (t .fnval) (t .sum))
   unfolding rdClose
-  ends j s t n l i close =
+  value-two j s t l i close =
       let K = i .kept in
       let e = ended j (K .a) (K .q) close in
       let f : j < 51 = omega arith in
       let lead = le-trans (K .lead) (mul-le-mul-right (2 ^ low binary64) (e .0)) in
       let lead' = le-trans (K .lead') (mul-le-mul-right (2 ^ low binary64) (e .1)) in
-      let X = correction-two j (rdMean x y z) (rdMean x' y' z') x x' f (K .a) (K .w) (gx a b c h .two) (largest a b c h) (largest' a b c h) A A' x-bound x-bound' lead lead' (K .base) (K .base') in
-      let Y = correction-two j (rdMean x y z) (rdMean x' y' z') y y' f (K .a) (K .w) (gy a b c h .two) (largest a b c h) (largest' a b c h) A A' y-bound y-bound' lead lead' (K .base) (K .base') in
-      counted n (series-two j x x' y y' (rdMean x y z) (rdMean x' y' z') f (K .a) (K .w) (K .sum) X Y)
+      let X =
+      correction-two j (rdMean x y z) (rdMean x' y' z') x x' f (K .a) (K .w) (gx a b c h .two) (largest a b c h) (largest' a b c h) A A'
+      x-bound x-bound' lead lead' (K .base) (K .base') in
+      let Y =
+      correction-two j (rdMean x y z) (rdMean x' y' z') y y' f (K .a) (K .w) (gy a b c h .two) (largest a b c h) (largest' a b c h) A A'
+      y-bound y-bound' lead lead' (K .base) (K .base') in
+      series-two j x x' y y' (rdMean x y z) (rdMean x' y' z') f (K .a) (K .w) (K .sum) X Y
 
-  same-test : (j : ℕ) (s t : Round) → I j s t → rdClose s ≡ rdClose t
+  ends : (j : ℕ) (s t : Round) (n : ℕ) → j ≤ 49 → I j s t → T (rdClose s) → Same k valueK (rdFound x y (rdMean x y z) s n) (rdFound x' y' (rdMean x' y' z') t n)
+  ends j s t n l i close = counted n (value-two j s t (let r : j ≤ 50 = omega arith in r) i close)
+
+  pub same-test : (j : ℕ) (s t : Round) → I j s t → rdClose s ≡ rdClose t
   unfolding rdClose
   same-test j s t i = test-two j (i .kept .a) (i .kept .q)
 

@@ -30,13 +30,13 @@ use Rattle.unitsrd.specs.Mean.{argK}
 abbrev pub sideK : Kind
 sideK = record { any = false; zer = false; lo = 2 ^ 1042; hi = 2 ^ 1106; g = last binary64 (2 ^ 1042); u = 1; d = 0 }
 
-abbrev doubleK : ℕ → Kind
+abbrev pub doubleK : ℕ → Kind
 doubleK j = record { any = false; zer = false; lo = 2 ^ (1112 - j); hi = 2 ^ (1112 - j); g = last binary64 (2 ^ (1112 - j)); u = 0; d = 0 }
 
-abbrev anyDoubleK : Kind
+abbrev pub anyDoubleK : Kind
 anyDoubleK = record { any = false; zer = false; lo = 2 ^ 1072; hi = 2 ^ 1112; g = last binary64 (2 ^ 1072); u = 0; d = 0 }
 
-abbrev squareK : Kind
+abbrev pub squareK : Kind
 squareK = record { any = true; zer = true; lo = 2 ^ 840; hi = 2 ^ 1180; g = 840; u = 2; d = 0 }
 
 abbrev squaresK : ℕ → Kind
@@ -68,7 +68,7 @@ doubles : (j : ℕ) → j < 40 → T (doubleOk j)
 unfolding all doubleOk
 doubles = every 40 doubleOk tt
 
-any-double : (j : ℕ) → j < 41 → T (within (doubleK j) anyDoubleK)
+pub any-double : (j : ℕ) → j < 41 → T (within (doubleK j) anyDoubleK)
 unfolding all within
 any-double = every 41 (λ j. within (doubleK j) anyDoubleK) tt
 
@@ -79,6 +79,18 @@ squares = every 40 squaresOk tt
 any-squares : (j : ℕ) → j < 41 → T (within (squaresK j) (squaresK 0))
 unfolding all within
 any-squares = every 41 (λ j. within (squaresK j) (squaresK 0)) tt
+
+-- the power of two doubles
+pub double-two : {k j : ℕ} {p p' : Float} → j < 40 → Two binary64 k (doubleK (suc j)) p p' → Two binary64 k (doubleK j) (p ⊗ two) (p' ⊗ two)
+unfolding doubleOk twoK litOk ofBits
+double-two {j = j} h p =
+    let o = mulOk binary64 (doubleK (suc j)) twoK in
+    widen-two (mul-two p (lit-two two tt) (and-l o _ (doubles j h))) (and-r o _ (doubles j h))
+
+-- a mean at the start
+pub side-two : {k : ℕ} {v v' : Float} → Two binary64 k argK v v' → Two binary64 k sideK (root v) (root v')
+unfolding rootK rootOk within
+side-two a = widen-two (root-two a tt) tt
 
 -- ---- one pass
 pub record Inv (k j : ℕ) (s t : Sums) : Type 0 where
@@ -100,20 +112,19 @@ module _ {k : ℕ} {x x' y y' : Float} (X : Two binary64 k sideK x x') (Y : Two 
   unfolding apart mulK mulOk sumK sumOk litOk ofBits
   apart-two = le-two (mul-two (mul-two (lit-two (bits 0x4005_9999_9999_999A) tt) (lit-two (bits 0x3CB0_0000_0000_0000) tt) tt) (abs-two X) tt) (abs-two (sub-two X Y tt)) tt
 
-square-two : {k : ℕ} {p p' x x' y y' : Float} → Two binary64 k anyDoubleK p p' → Two binary64 k sideK x x' → Two binary64 k sideK y y'
+pub square-two : {k : ℕ} {p p' x x' y y' : Float} → Two binary64 k anyDoubleK p p' → Two binary64 k sideK x x' → Two binary64 k sideK y y'
     → Two binary64 k squareK (p ⊗ (x ⊖ y) ⊗ (x ⊖ y)) (p' ⊗ (x' ⊖ y') ⊗ (x' ⊖ y'))
 unfolding mulK mulOk sumK sumOk within
 square-two p x y = let d = sub-two x y tt in widen-two (mul-two (mul-two p d tt) d tt) tt
 
 pass : (k j : ℕ) (s t : Sums) → j < 40 → Inv k (suc j) s t → Inv k j (sumsOf s) (sumsOf t)
-unfolding sumsOf doubleOk squaresOk twoK litOk ofBits
+unfolding sumsOf squaresOk
 pass k j s t h i =
     let x = half-two (i .x) (i .y) in
     let y = middle-two (i .x) (i .y) in
-    let d = doubles j h in
     let q = squares j h in
-    let p = widen-two (mul-two (i .power) (lit-two two tt) (and-l (mulOk binary64 (doubleK (suc j)) twoK) _ d)) (and-r (mulOk binary64 (doubleK (suc j)) twoK) _ d) in
     let f : j < 41 = omega arith in
+    let p = double-two h (i .power) in
     let S = square-two (widen-two p (any-double j f)) x y in
     record {
       x = x;
@@ -136,10 +147,6 @@ value-two x y u v h w q s =
 
 -- ---- the loop
 module _ {k : ℕ} {y y' z z' : Float} (Y : Two binary64 k argK y y') (Z : Two binary64 k argK z z') (h : T (not (eq y z))) where
-  side-two : {v v' : Float} → Two binary64 k argK v v' → Two binary64 k sideK (root v) (root v')
-  unfolding rootK rootOk within
-  side-two a = widen-two (root-two a tt) tt
-
   begun : Inv k 40 (rdAgmStart y z) (rdAgmStart y' z')
   unfolding rdAgmStart within litOk ofBits
   begun = record {

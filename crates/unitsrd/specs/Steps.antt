@@ -30,7 +30,7 @@ use Rattle.unitsrd.specs.Loop.{duplication-two}
 no-units : {x : Float} {s : Bool} {n : ℕ} → Is binary64 x s n → T (eq x zero) → n ≡ 0
 no-units {x} {s} {n} X h = eqb→eq n 0 (and-l (eqb n 0) (Bool·beq s false || eqb n 0) (subst T (eq-units X (zero-is binary64)) h))
 
-nothing : {k : ℕ} {x x' : Float} → Two binary64 k argumentK x x' → T (eq x zero) → Nothing binary64 x x'
+pub nothing : {k : ℕ} {x x' : Float} → Two binary64 k argumentK x x' → T (eq x zero) → Nothing binary64 x x'
 nothing {k} {x} {x'} a h = record {
   s = a .s;
   first = subst (Is binary64 x (a .s)) (no-units (a .first) h) (a .first);
