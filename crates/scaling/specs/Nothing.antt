@@ -5,7 +5,7 @@ use Prim.Native.Nat.{ℕ, zero, suc, _+_, _-_, _*_, _^_, _<_, zero-le}
 use native.Mathlib.Nat.{zero-add, zero-mul, zero-lt-suc, lt-of-lt-of-le, lt-irrefl, mul-zero, mul-pos}
 use native.Mathlib.Omega.{arith}
 use mathlib.Core.Bool.{Bool, true, false, not, _&&_, cond}
-use lib.Dec.{T, ltb, ltb→lt, lt→ltb}
+use lib.Dec.{T, T-not, ltb, ltb→lt, lt→ltb}
 use lib.Pow.{pow-pos}
 use lib.IntN.{ℤ}
 use lib.Ieee.{Float, fin, Format, binary64, low, up, down, unlike, add, mul}
@@ -184,6 +184,21 @@ nothing-two {f} {k} K z e t = record {
   second = z .second;
   in-first = record { sign = λ i. e; from = inl (t, refl); to = zero-le };
   in-second = record { sign = λ i. e; from = inl (t, refl); to = zero-le };
+  grain = record { c = 0; is = sym (zero-mul (2 ^ K .g)) };
+  grain-second = record { c = 0; is = sym (zero-mul (2 ^ K .g)) };
+  tie = zero-mul (2 ^ (k * K .d)) ∙ sym (zero-mul (2 ^ (k * K .u)));
+}
+
+-- of a kind that allows any sign
+pub signed-nothing-two : {f : Format} {k : ℕ} {x y : Float} (K : Kind) (z : Nothing f x y) → T (K .any) → T (K .zer) → Two f k K x y
+signed-nothing-two {f} {k} K z any t = record {
+  s = z .s;
+  m = 0;
+  n = 0;
+  first = z .first;
+  second = z .second;
+  in-first = record { sign = λ i. absurd (T-not (K .any) i any); from = inl (t, refl); to = zero-le };
+  in-second = record { sign = λ i. absurd (T-not (K .any) i any); from = inl (t, refl); to = zero-le };
   grain = record { c = 0; is = sym (zero-mul (2 ^ K .g)) };
   grain-second = record { c = 0; is = sym (zero-mul (2 ^ K .g)) };
   tie = zero-mul (2 ^ (k * K .d)) ∙ sym (zero-mul (2 ^ (k * K .u)));
