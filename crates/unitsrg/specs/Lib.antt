@@ -1,2 +1,5 @@
 pub mod Sorting
 pub mod Means
+pub mod RfShare
+pub mod RdShare
+pub mod Joint
