@@ -3,3 +3,6 @@ pub mod Means
 pub mod RfShare
 pub mod RdShare
 pub mod Joint
+pub mod Steps
+pub mod Rg
+pub mod Examples
