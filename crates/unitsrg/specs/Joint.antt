@@ -69,7 +69,7 @@ module _ {k : ℕ} {x y z x' y' z' : Float} (X : Two binary64 k meanK x x') (Y :
   joint-two : Ended k (jointOf x y z) (jointOf x' y' z')
   unfolding jointOf jointBegun
   joint-two =
-      loops-two (jointNext x y (meanOf x y z) (rdMean x y z)) (jointNext x' y' (meanOf x' y' z') (rdMean x' y' z')) allDone
+      loops-two (jointNext x y (meanOf x y z) (rdMean x y z)) (jointNext x' y' (meanOf x' y' z') (rdMean x' y' z')) allDone allDone
       rfRdOf rfRdOf rfRdOf rfRdOf (Ended k) Inv 50 pass
       (λ j s t l i. same-test j s t i) (λ j s t n l i p. ends j s t n i) (λ s t n i. ends 0 s t n i) 50 false
       (jointBegun x y z) (jointBegun x' y' z') 0 (le-refl 50) (λ p. absurd p)
