@@ -23,7 +23,6 @@ pub mod Fused
 pub mod Nothing
 pub mod Signed
 pub mod Distinct
-pub mod Least
 pub mod Half
 pub mod Maybe
 pub mod Swap

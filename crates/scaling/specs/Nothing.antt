@@ -157,7 +157,7 @@ module _ {f : Format} (o : 0 < overflow f) {x y : Float} (z : Nothing f x y) whe
             subst (Is f (mul f u v) (unlike false (z .s))) e (mul-units U R (subst (λ (i : ℕ). i < overflow f) (sym e) o))
 
 -- ---- its root, and a zero as a float of any weight
-root-itself : {x : Float} {s : Bool} → Is binary64 x s 0 → root x ≡ x
+pub root-itself : {x : Float} {s : Bool} → Is binary64 x s 0 → root x ≡ x
 root-itself {x} {s} a = let r = form a in go (r .m) (r .e) (r .is) (r .units)
   where
     kept : (e : ℤ) → root (fin s zero e) ≡ fin s zero e

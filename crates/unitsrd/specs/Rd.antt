@@ -19,10 +19,9 @@ use Rattle.scaling.specs.Tests.{zero-two}
 use Rattle.scaling.specs.One.{number}
 use Rattle.scaling.specs.Pick.{choose, smaller-two}
 use Rattle.scaling.specs.Signs.{bounded, lt-zero-two, above-two}
-use Rattle.scaling.specs.Least.{neither-below}
 use Rattle.units.specs.Statement.{InRange, TimesFour, Alike}
 use Rattle.units.specs.Kinds.{argumentK}
-use Rattle.units.specs.Arguments.{argument}
+use Rattle.units.specs.Arguments.{argument, neither-below}
 use Rattle.units.specs.Limits.{first-size, second-size, within3}
 use Rattle.units.specs.Answers.{Pair, no, late-same, alike-of, alike-back, times-back, either-way}
 use Rattle.units.specs.Ran.{Ran, refusal, result}
@@ -106,3 +105,9 @@ rd-scales u d {x} {y} {z} {x'} {y'} {z'} X Y Z X' Y' Z' p q r =
     (subst (λ n. Alike (3 * u) (3 * n) (rd x' y' z') (rd x y z)) (sym e)
     (upward k u X' Y' Z' X Y Z (subst (λ n. TimesFour n u x' x) e (times-back p)) (subst (λ n. TimesFour n u y' y) e (times-back q))
     (subst (λ n. TimesFour n u z' z) e (times-back r)))))
+
+-- and of the function: whatever two calls of `elliprd` answer, whose contract is r ≡ rd x y z
+pub rd-called : (u d : ℕ) {x y z x' y' z' : Float} (r r' : Answer) → r ≡ rd x y z → r' ≡ rd x' y' z'
+    → InRange x → InRange y → InRange z → InRange x' → InRange y' → InRange z'
+    → TimesFour u d x x' → TimesFour u d y y' → TimesFour u d z z' → Alike (3 * d) (3 * u) r r'
+rd-called u d r r' e e' X Y Z X' Y' Z' p q s = subst₂ (Alike (3 * d) (3 * u)) (sym e) (sym e') (rd-scales u d X Y Z X' Y' Z' p q s)

@@ -20,6 +20,7 @@ use Rattle.scaling.specs.Signs.{above-two}
 use Rattle.scaling.specs.Root.{rootK, rootOk, root-two}
 use Rattle.scaling.specs.Nothing.{Nothing}
 use Rattle.units.specs.Kinds.{argumentK}
+use Rattle.units.specs.Arguments.{no-units-of}
 use Rattle.units.specs.Runs.{closed}
 use Rattle.units.specs.Ran.{Ran, result, wider-same}
 use Rattle.unitsrd.specs.Mean.{argK, Arg, none, some, some?}
@@ -27,14 +28,11 @@ use Rattle.unitsrd.specs.Means.{agmK, agm-two}
 use Rattle.unitsrd.specs.Loop.{duplication-two}
 
 -- ---- an argument that is not below zero is a zero of either sign or above it
-no-units : {x : Float} {s : Bool} {n : ℕ} → Is binary64 x s n → T (eq x zero) → n ≡ 0
-no-units {x} {s} {n} X h = eqb→eq n 0 (and-l (eqb n 0) (Bool·beq s false || eqb n 0) (subst T (eq-units X (zero-is binary64)) h))
-
 pub nothing : {k : ℕ} {x x' : Float} → Two binary64 k argumentK x x' → T (eq x zero) → Nothing binary64 x x'
 nothing {k} {x} {x'} a h = record {
   s = a .s;
-  first = subst (Is binary64 x (a .s)) (no-units (a .first) h) (a .first);
-  second = subst (Is binary64 x' (a .s)) (no-units (a .second) (subst T (zero-two a) h)) (a .second);
+  first = subst (Is binary64 x (a .s)) (no-units-of (a .first) h) (a .first);
+  second = subst (Is binary64 x' (a .s)) (no-units-of (a .second) (subst T (zero-two a) h)) (a .second);
 }
 
 arg-at : {k : ℕ} {x x' : Float} → Two binary64 k argumentK x x' → T (not (lt x zero)) → (b : Bool) → (T b → T (eq x zero)) → (T (not b) → T (not (eq x zero))) → Arg k x x'
@@ -97,7 +95,7 @@ both-zero s t m n h e =
 
 -- an equal of a zero is one
 pub equal-zero : {x y : Float} {s t : Bool} {m n : ℕ} → Is binary64 x s m → Is binary64 y t n → T (eq x y) → T (eq x zero) → T (eq y zero)
-equal-zero {x} {y} {s} {t} {m} {n} X Y e z = subst T (sym (eq-units Y (zero-is binary64))) (both-zero s t m n (subst T (eq-units X Y) e) (no-units X z))
+equal-zero {x} {y} {s} {t} {m} {n} X Y e z = subst T (sym (eq-units Y (zero-is binary64))) (both-zero s t m n (subst T (eq-units X Y) e) (no-units-of X z))
 
 module _ {k : ℕ} {z z' : Float} (Z : Two binary64 k argK z z') where
   module _ {x x' y y' : Float} (X : Two binary64 k argumentK x x') (Y : Two binary64 k argumentK y y') (hx : T (not (lt x zero))) (hy : T (not (lt y zero)))

@@ -24,6 +24,7 @@ use Rattle.scaling.specs.Two.{Two, mul-two, div-two, plus-two}
 use Rattle.scaling.specs.One.{lit-two, litOk, widen-two}
 use Rattle.scaling.specs.Tests.{zero-two, no-units}
 use Rattle.scaling.specs.Lead.{on-grid}
+use Rattle.scaling.specs.Nothing.{root-itself}
 use Rattle.scaling.specs.Root.{rootK, rootOk, root-two}
 use Rattle.scaling.specs.Signs.{lt-zero-two, minus, above-two, opposite-two}
 use Rattle.scaling.specs.Pick.{choose}
@@ -96,16 +97,6 @@ from-zero {x} {y} {s} {n} X Y h =
         go true t = let r : n - 0 ≡ n = omega arith in r
         go false t = absurd t
 
-root-of-zero : {x : Float} {s : Bool} → Is binary64 x s 0 → root x ≡ x
-unfolding root
-root-of-zero {x} {s} X = let r = form X in subst (λ z. root z ≡ z) (sym (r .is)) (go (r .m) (r .e) (r .units))
-  where
-    go : (m : ℕ) (e : ℤ) → m * up e * 2 ^ 1074 ≡ 0 * down e → root (fin s m e) ≡ fin s m e
-    go zero e u = refl
-    go (suc m) e u =
-        absurd (let p : 0 < suc m * up e * 2 ^ 1074 = mul-pos (mul-pos (zero-lt-suc m) (up-pos e)) (pow-pos 1074) in lt-irrefl 0
-        (subst (λ z. 0 < z) (u ∙ zero-mul (down e)) p))
-
 -- ---- past the checks, and not rescaled
 abbrev late : Float → Float → Bool → Bool → Answer
 late x y a b = settledLate (closedAt (rcUnchecked x y)) a b 7
@@ -146,9 +137,9 @@ module _ {k : ℕ} where
       λ m w W i. ap (λ a. near binary64 a w) (ap (λ a. a * 2 ^ low binary64) i ∙ zero-mul (2 ^ low binary64)) ∙ near-zero binary64 w W in
       let D = div-two X N tt in
       let r =
-      root-of-zero (subst (Is binary64 (x ⊘ neg y) (D .s)) (none (X .m) (N .m) (lt-of-lt-of-le (lit< tt) (floor-le (N .in-first))) z) (D .first)) in
+      root-itself (subst (Is binary64 (x ⊘ neg y) (D .s)) (none (X .m) (N .m) (lt-of-lt-of-le (lit< tt) (floor-le (N .in-first))) z) (D .first)) in
       let r' =
-      root-of-zero (subst (Is binary64 (x' ⊘ neg y') (D .s)) (none (X .n) (N .n) (lt-of-lt-of-le (lit< tt) (floor-le (N .in-second))) z')
+      root-itself (subst (Is binary64 (x' ⊘ neg y') (D .s)) (none (X .n) (N .n) (lt-of-lt-of-le (lit< tt) (floor-le (N .in-second))) z')
       (D .second)) in
       let W : Two binary64 k wideK (neg y) (neg y') = widen-two N tt in
       subst₂ (λ a b. Fair k rcK (rcCases (root (x ⊘ a)) a (neg y)) (rcCases (root (x' ⊘ b)) b (neg y'))) (sym e) (sym e')
