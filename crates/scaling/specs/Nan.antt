@@ -8,10 +8,6 @@ mul-nan f nan = refl
 mul-nan f (inf s) = refl
 mul-nan f (fin s m e) = refl
 
-pub nan-mul : (f : Format) (x : Float) → mul f nan x ≡ nan
-unfolding mul
-nan-mul f x = refl
-
 pub nan-div : (f : Format) (x : Float) → div f nan x ≡ nan
 unfolding div
 nan-div f x = refl

@@ -1,6 +1,6 @@
 -- atan, ln and the spread ln(1 + a) - ln(1 - a) as RC's two runs take them: at a number from 2 ^ -90 to 2 ^ 71 the value is a NaN or lies from
 -- 2 ^ -104 to 2 ^ 16. Such a bound is a leaf's whole rule, since its argument is the same float in both runs.
-use mathlib.Core.Path.{_≡_, refl, subst}
+use mathlib.Core.Path.{refl, subst}
 use mathlib.Core.Logic.{inl, inr}
 use Prim.Native.Nat.{ℕ, _^_, _≤_}
 use native.Mathlib.Nat.{le-trans}

@@ -2,22 +2,19 @@
 -- first
 -- times 2 ^ -k. y may be negative.
 use mathlib.Core.Path.{_≡_, refl, sym, ap, _∙_, subst, subst₂}
-use Prim.Native.Nat.{ℕ, zero, suc, _+_, _-_, _*_, _^_, _<_}
-use native.Mathlib.Nat.{lt-of-lt-of-le, lt-irrefl, mul-pos, zero-mul, zero-lt-suc}
+use Prim.Native.Nat.{ℕ, zero, _+_, _-_, _*_, _^_, _<_}
+use native.Mathlib.Nat.{lt-of-lt-of-le, zero-mul}
 use native.Mathlib.Omega.{arith}
 use mathlib.Core.Bool.{Bool, true, false, not, _&&_, Bool·beq, cond}
-use lib.IntN.{ℤ}
 use lib.Dec.{T, T-not, ltb, lt→ltb, lit<}
-use lib.Ieee.{Float, fin, binary64, low, up, down, add, sub, eq, lt, neg}
-use lib.Pow.{pow-pos}
-use lib.Ieee.Fits.{up-pos}
+use lib.Ieee.{Float, binary64, low, add, sub, eq, lt, neg}
 use lib.Ieee.Scale.{overflow}
 use Rattle.binary64.specs.Leaves.{absolute}
 use Rattle.binary64.specs.Operators.{_⊖_, _⊘_}
 use Rattle.root.specs.Root.{root}
 use Rattle.scaling.specs.Near.{near, near-zero}
 use Rattle.scaling.specs.Cross.{addN}
-use Rattle.scaling.specs.Units.{Is, form, unique, add-units, neg-units}
+use Rattle.scaling.specs.Units.{Is, unique, add-units, neg-units}
 use Rattle.scaling.specs.Kind.{Kind, last, floor-le, mulK, mulOk, divK, divOk, plusK, plusOk, within}
 use Rattle.scaling.specs.Last.{digits-of, is-under}
 use Rattle.scaling.specs.Two.{Two, mul-two, div-two, plus-two}
