@@ -1,0 +1,4 @@
+pub mod Period
+pub mod Ranges
+pub mod Steps
+pub mod StepLaws
