@@ -1,4 +1,9 @@
 pub mod Period
 pub mod Ranges
+pub mod Between
+pub mod Compared
+pub mod Ratios
+pub mod Mean
+pub mod Bounded
 pub mod Steps
 pub mod StepLaws

@@ -1,9 +1,11 @@
 -- The period of a swing (document 02, 2026-01), each operation rounded once, in the order of the words. Definitions only.
 use Prim.Native.Nat.{ℕ, _-_, _*_}
-use mathlib.Core.Bool.{Bool, _&&_, cond}
+use mathlib.Core.Path.{_≡_}
+use mathlib.Core.Bool.{Bool, true, _&&_, cond}
 use lib.Dec.{leb}
 use lib.IntN.{pos}
 use lib.Ieee.{Float, binary64, ofInt}
+use lib.Ieee.Scale.{finite}
 use Rattle.binary64.specs.Operators.{_⊗_, _⊘_}
 use Rattle.root.specs.Root.{root}
 use Rattle.carlson.specs.Constants.{zero, one, four}
@@ -52,3 +54,9 @@ periodOf length height gravity =
     (cond (within height (2 * length - 1)) (swung length height gravity) (Refused height-number))
     (Refused length-or-gravity))
     (Refused length-or-gravity)
+
+-- the only answers: a finite value with its rounds, 11 or 12. RF's own numbers are not among them.
+pub data Only : Answer → Type 0 where
+  finite-value : {f : Found} → finite (f .value) ≡ true → Only (Value f)
+  length-refused : Only (Refused length-or-gravity)
+  height-refused : Only (Refused height-number)

@@ -1,12 +1,12 @@
 -- The sum of the advances is the number of steps taken, and how a loop over the readings comes to it. Assumes nothing.
 use Prim.Native.Nat.{ℕ, _+_, _-_, _%_, _≤_, _<_}
-use mathlib.Core.Path.{_≡_, refl, sym, ap, _∙_}
+use mathlib.Core.Path.{_≡_, refl, _∙_}
 use mathlib.Core.List.{List, [], _∷_}
 use native.Mathlib.Numerals.{add-one}
 use native.Mathlib.Omega.{arith}
 use lib.ListN.{length, getD, drop, drop-of-length-le}
 use lib.Seq.{drop-cons}
-use Rattle.swing.specs.Steps.{advanceOf, advancesFrom, advances, added, stepsOf, Rising, ends, goes, shown, lastOf, StepsTaken}
+use Rattle.swing.specs.Steps.{advanceOf, advancesFrom, advances, stepsOf, Rising, ends, goes, shown, lastOf, StepsTaken}
 use Rattle.swing.specs.declared.steps.Steps.{Steps}
 
 -- ---- the steps taken

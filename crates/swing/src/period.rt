@@ -5,7 +5,7 @@ use elliprf::elliprf;
 use root::sqrt;
 ghost use mathlib.Core.Path.{_≡_};
 ghost use Prim.Native.Nat.{_*_, _≤_};
-ghost use Rattle.swing.specs.Period.{within, ratio, fourRoots, times, swung, periodOf};
+ghost use Rattle.swing.specs.Period.{within, ratio, fourRoots, times, swung, periodOf, Only};
 
 // Document 02's numbers for no: the length or the gravity, then the height, is out of range.
 const LENGTH_OR_GRAVITY: u32 = 11;
@@ -66,9 +66,10 @@ fn swing_time(length: u64, height: u64, gravity: u64) -> Answer
     multiplied(four_roots(length, gravity), elliprf(0.0, y, 1.0))
 }
 
-// Any three numbers: the period with RF's rounds, or 11 or 12. That RF never refuses here is specs/Bounded.antt.
+// Any three numbers: the period with RF's rounds, or 11 or 12. Why RF never refuses here is in specs/Bounded.antt.
 pub fn period(length: u64, height: u64, gravity: u64) -> Answer
     ensures { λ r. ⌜ r ≡ periodOf length height gravity ⌝ }
+    ensures { λ r. ⌜ Only r ⌝ }
 {
     if in_range(length, MOST_LENGTH) {
         if in_range(gravity, MOST_GRAVITY) {

@@ -1,11 +1,12 @@
 -- `period` meets its contract: its tests are those of the definition, in its order. Assumes nothing.
-use Prim.Native.Nat.{ℕ, _-_, _*_}
-use mathlib.Core.Path.{_≡_, sym, _∙_}
+use Prim.Native.Nat.{ℕ}
+use mathlib.Core.Path.{_≡_, sym, _∙_, subst}
 use mathlib.Core.Bool.{Bool, true}
-use borrow.Author.Needs.{needs}
 use native.Mathlib.Omega.{arith}
-use Rattle.swing.specs.Period.{within, periodOf}
+use Rattle.carlson.specs.declared.answer.Answer.{Answer}
+use Rattle.swing.specs.Period.{within, periodOf, Only}
 use Rattle.swing.specs.Ranges.{From1, in-within}
+use Rattle.swing.specs.Bounded.{period-only}
 use Rattle.swing.proofs.period.period.Statement.{statement}
 use Rattle.swing.proofs.period.period.Tie as tie
 
@@ -26,28 +27,32 @@ swing-time-requires c κs =
     let h = passed _ _ _ (c .before .in-range3 .ensures) (c .if3 .taken) in
     (l .largest, (g .largest, omega arith))
 
+-- both clauses from the first: what the definition gives is a finite value, 11 or 12
+settled : (l h g : ℕ) (r : Answer) → r ≡ periodOf l h g → (r ≡ periodOf l h g) × Only r
+settled l h g r e = (e, subst Only (sym e) (period-only l h g))
+
 returns : tie.Need-returns
 unfolding periodOf
 returns c =
-    rw (
+    settled _ _ _ _ (rw (
       sym (c .before .before .before .before .before .before .in-range .ensures) ∙ c .before .before .before .before .before .if1 .taken,
       sym (c .before .before .before .before .in-range2 .ensures) ∙ c .before .before .before .if2 .taken,
       sym (c .before .before .in-range3 .ensures) ∙ c .before .if3 .taken,
-    ) (c .swing-time .ensures)
+    ) (c .swing-time .ensures))
 
 returns-2 : tie.Need-returns-2
 unfolding periodOf
 returns-2 c =
-    rw (
+    settled _ _ _ _ (rw (
       sym (c .before .before .before .before .before .in-range .ensures) ∙ c .before .before .before .before .if1 .taken,
       sym (c .before .before .before .in-range2 .ensures) ∙ c .before .before .if2 .taken,
       sym (c .before .in-range3 .ensures) ∙ c .if3 .left,
-    )
+    ))
 
 returns-3 : tie.Need-returns-3
 unfolding periodOf
 returns-3 c =
-    rw (sym (c .before .before .before .in-range .ensures) ∙ c .before .before .if1 .taken, sym (c .before .in-range2 .ensures) ∙ c .if2 .left)
+    settled _ _ _ _ (rw (sym (c .before .before .before .in-range .ensures) ∙ c .before .before .if1 .taken, sym (c .before .in-range2 .ensures) ∙ c .if2 .left))
 
 pub period-spec : {M : Type 1} → statement M
 unfolding periodOf
@@ -63,4 +68,4 @@ period-spec =
     returns
     returns-2
     returns-3
-    (λ c. rw (sym (c .before .in-range .ensures) ∙ c .if1 .left)))
+    (λ c. settled _ _ _ _ (rw (sym (c .before .in-range .ensures) ∙ c .if1 .left))))
