@@ -8,7 +8,7 @@ ghost use Rattle.elliprg.specs.Rg.{rg};
 ghost use Rattle.elliprj.specs.Rj.{rj};
 ghost use Rattle.gatewren.specs.Told.{numberOf, valueAfter, roundsAfter};
 
-fn told(a: Answer, value: &mut f64, rounds: &mut u32) -> u32
+pub fn told(a: Answer, value: &mut f64, rounds: &mut u32) -> u32
     ensures { λ r. ⌜ r ≡ numberOf a ⌝ }
     ensures { λ r. ⌜ now (value .exit) ≡ valueAfter a (now (value .entry)) ⌝ }
     ensures { λ r. ⌜ now (rounds .exit) ≡ roundsAfter a (now (rounds .entry)) ⌝ }

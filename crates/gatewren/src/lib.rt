@@ -4,3 +4,4 @@ mod fused_leaf;
 mod leaves;
 mod power_leaf;
 mod series_leaf;
+mod swing_layer;

@@ -1,0 +1,14 @@
+-- `gatewren_swing` meets its contract: it hands out what `period` answers. Assumes nothing.
+use mathlib.Core.Path.{sym}
+use Rattle.gatewren.proofs.swing_layer.gatewren_swing.Statement.{statement}
+use Rattle.gatewren.proofs.swing_layer.gatewren_swing.Tie as tie
+
+pub gatewren-swing-spec : {M : Type 1} → statement M
+gatewren-swing-spec =
+    tie.close
+    (tie.spec
+    (λ c κs. tt)
+    (λ c κs. tt)
+    (λ c.
+    let e = sym (c .before .before .before .period .ensures .0) in
+    (rw e (c .told .ensures .0), (rw e (c .told .ensures .1 .0), rw e (c .told .ensures .1 .1)))))

@@ -1,0 +1,33 @@
+// The swing time and the step log for C (document 02, 2026-01).
+use crate::entries::told;
+ghost use mathlib.Core.Path.{_≡_};
+ghost use Rattle.swing.specs.Period.{periodOf};
+ghost use Rattle.swing.specs.Steps.{stepsOf, stepsNumber, keptTotal};
+ghost use Rattle.gatewren.specs.Told.{numberOf, valueAfter, roundsAfter};
+
+#[no_mangle]
+pub extern "C" fn gatewren_swing(
+    length: u64,
+    height: u64,
+    gravity: u64,
+    value: &mut f64,
+    rounds: &mut u32,
+) -> u32
+    ensures { λ r. ⌜ r ≡ numberOf (periodOf length height gravity) ⌝ }
+    ensures { λ r. ⌜ now (value .exit) ≡ valueAfter (periodOf length height gravity) (now (value .entry)) ⌝ }
+    ensures { λ r. ⌜ now (rounds .exit) ≡ roundsAfter (periodOf length height gravity) (now (rounds .entry)) ⌝ }
+{
+    told(
+        swing::period::period(length, height, gravity),
+        value,
+        rounds,
+    )
+}
+
+#[no_mangle]
+pub extern "C" fn gatewren_steps(total: &mut u64, readings: &[u16]) -> u32
+    ensures { λ r. ⌜ r ≡ stepsNumber (stepsOf (now (total .entry)) (now (readings .entry))) ⌝ }
+    ensures { λ r. ⌜ now (total .exit) ≡ keptTotal (stepsOf (now (total .entry)) (now (readings .entry))) (now (total .entry)) ⌝ }
+{
+    swing::steps::add_steps(total, readings)
+}
