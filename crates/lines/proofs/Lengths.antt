@@ -1,36 +1,21 @@
 -- How long the texts are. Assumes nothing.
-use Prim.Native.Nat.{ℕ, zero, suc, _+_, _/_, _≤_}
-use mathlib.Core.Path.{_≡_}
+use Prim.Native.Nat.{ℕ, _≤_}
 use mathlib.Core.Bool.{Bool, true, false, cond}
 use mathlib.Core.List.{List, [], _∷_, append-nil}
 use native.Mathlib.Omega.{arith}
-use lib.Dec.{eqb, ltb}
+use lib.Dec.{eqb}
 use lib.ListN.{length, length-append}
 use Rattle.carlson.specs.declared.answer.Answer.{Answer}
 use Rattle.carlson.specs.declared.answer.Answer.the-variants.{Value, Refused}
-use Rattle.calls.specs.Digits.{digits}
-use Rattle.lines.specs.Decimal.{placesOf, decimal}
+use Rattle.writing.specs.Decimal.{decimal}
+use Rattle.writing.specs.Places.{places-most}
 use Rattle.calls.specs.CallLaws.{digits-length, word-length}
 use Rattle.calls.specs.Calls.{callOf}
 use Rattle.lines.specs.Answers.{answerOf, countText, valueText, refusalText, afterName, textOf, replyTo, replyOf}
 use Rattle.lines.specs.Stream.{saidAt, saidOf}
-use Rattle.lines.specs.Written.{Put}
 use Rattle.calls.specs.declared.Call.{Call}
 use Rattle.calls.specs.declared.Line.{Line}
 use Rattle.calls.specs.declared.Line.the-variants.{Good, Bad}
-
-pub places-most : (more n : ℕ) → placesOf more n ≤ suc more
-unfolding placesOf
-places-most zero n = omega arith
-places-most (suc more) n = go (ltb n 10) (places-most more (n / 10))
-  where
-    go : (t : Bool) {p : ℕ} → p ≤ suc more → cond t 1 (suc p) ≤ suc (suc more)
-    go true h = omega arith
-    go false h = omega arith
-
--- the place after the digits
-pub spelled-place : (base k n : ℕ) {o out : List ℕ} {at next : ℕ} → Put o at (digits base k n) out next → next ≡ at + k
-spelled-place base k n p = rw digits-length at (p .place)
 
 count-length : (n : ℕ) → length (countText n) ≤ 11
 unfolding countText decimal

@@ -11,7 +11,7 @@ use Rattle.elliprf.specs.Rf.{rf}
 use Rattle.elliprd.specs.Rd.{rd}
 use Rattle.elliprg.specs.Rg.{rg}
 use Rattle.elliprj.specs.Rj.{rj}
-use Rattle.lines.specs.Decimal.{decimal}
+use Rattle.writing.specs.Decimal.{decimal}
 use Rattle.calls.specs.Calls.{wordText, letterOf, callOf}
 use Rattle.calls.specs.declared.Call.{Call}
 use Rattle.calls.specs.declared.Call.the-variants.{Rc, Rf, Rd, Rg, Rj}
@@ -31,7 +31,7 @@ answerOf (Rj x y z p) = rj (number x) (number y) (number z) (number p)
 
 -- ---- its text
 unfoldable pub countText : ℕ → List ℕ
-countText n = decimal n ++ 10 ∷ []
+countText n = decimal 9 n ++ 10 ∷ []
 
 unfoldable pub valueText : Found → List ℕ
 valueText f = wordText (toBits binary64 (f .value)) ++ (32 ∷ countText (f .rounds))

@@ -6,7 +6,7 @@ use mathlib.Core.List.{List, [], _∷_, _++_}
 use lib.Dec.{eqb, ltb}
 use lib.ListN.{take}
 use Rattle.lines.specs.Answers.{replyOf}
-use Rattle.lines.specs.Written.{Put}
+use Rattle.writing.specs.Written.{Put}
 
 -- ---- what is right: a reply to each line of the input
 -- a line ends at a newline, or with the input where something is left there

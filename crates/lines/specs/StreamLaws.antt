@@ -12,7 +12,7 @@ use lib.Seq.{take-all, take-take, take-append-le, length-take-le}
 use Rattle.algebra.specs.Order.{lt-or-le}
 use Rattle.calls.specs.Calls.{callOf}
 use Rattle.lines.specs.Answers.{replyTo, replyOf}
-use Rattle.lines.specs.Written.{put-more}
+use Rattle.writing.specs.Written.{put-more}
 use Rattle.lines.specs.Stream.{lastLine, linesFrom, repliesTo, listingOf, heldAfter, saidAt, restOf, saidOf, saidLast, Fed}
 use Rattle.calls.specs.declared.Line.the-variants.{Bad}
 

@@ -1,6 +1,4 @@
 // A call to its answer, and an answer to its text.
-use crate::digits::places;
-use crate::digits::spell;
 use binary64::join;
 use binary64::split;
 use calls::Call;
@@ -13,13 +11,16 @@ use elliprd::elliprd;
 use elliprf::elliprf;
 use elliprg::elliprg;
 use elliprj::elliprj;
+use writing::places;
+use writing::put_text;
+use writing::spell;
 ghost use mathlib.Core.Path.{_≡_};
 ghost use Prim.Native.Nat.{_+_, _≤_};
 ghost use lib.ListN.{length};
 ghost use Rattle.io.specs.Counts.{Counts};
 ghost use Rattle.calls.specs.Calls.{letterOf};
 ghost use Rattle.lines.specs.Answers.{answerOf, countText, valueText, refusalText, textOf, replyOf};
-ghost use Rattle.lines.specs.Written.{Put};
+ghost use Rattle.writing.specs.Written.{Put};
 
 // What the entry of that name answers.
 pub fn answer_of(call: Call) -> Answer
@@ -46,24 +47,12 @@ fn letter(call: Call) -> u8
     }
 }
 
-fn put_text(text: &[u8], out: &mut [u8], at: usize) -> usize
-    requires { ⌜ at + length (now text) ≤ length (now out) ⌝ }
-    ensures { λ r. ⌜ Put (now (out .entry)) at (now (text .entry)) (now (out .exit)) r ⌝ }
-{
-    let mut i = 0;
-    while i < text.len() {
-        out[at + i] = text[i];
-        i += 1;
-    }
-    at + i
-}
-
 // A count in decimal, at most ten digits, and the line's end.
 fn put_count(n: u32, out: &mut [u8], at: usize) -> usize
     requires { ⌜ at + 11 ≤ length (now out) ⌝ }
     ensures { λ r. ⌜ Put (now (out .entry)) at (countText n) (now (out .exit)) r ⌝ }
 {
-    let end = spell(n as u64, 10, places(n), out, at);
+    let end = spell(n as u64, 10, places(n as u64, 9), out, at);
     out[end] = b'\n';
     end + 1
 }

@@ -1,6 +1,5 @@
 // The listing's replies (document 01): calls to answers, answers to lines, the input as it comes.
 mod answers;
-mod digits;
 mod stream;
 
 pub use crate::answers::answer_of;

@@ -5,7 +5,7 @@ ghost use mathlib.Core.List.{[], _∷_};
 ghost use Prim.Native.Nat.{_+_, _*_, _≤_, min};
 ghost use lib.ListN.{length, take, set};
 ghost use Rattle.io.specs.Counts.{Counts};
-ghost use Rattle.lines.specs.Written.{Put};
+ghost use Rattle.writing.specs.Written.{Put};
 ghost use Rattle.lines.specs.Stream.{pushed, saidLast, Fed};
 
 // How many bytes are held now, and how many were written.

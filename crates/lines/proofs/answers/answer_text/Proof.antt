@@ -6,7 +6,7 @@ use borrow.Author.Needs.{needs}
 use lib.ListN.{length}
 use lib.Seq.{length-take-le}
 use denote.Ref.{now}
-use Rattle.lines.specs.Written.{put-length}
+use Rattle.writing.specs.Written.{put-length}
 use Rattle.lines.proofs.Lengths.{text-length}
 use Rattle.lines.proofs.answers.answer_text.Statement.{statement}
 use Rattle.lines.proofs.answers.answer_text.Tie as tie

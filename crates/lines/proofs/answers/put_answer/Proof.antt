@@ -9,7 +9,7 @@ use lib.ListN.{set, length-set}
 use Rattle.carlson.specs.declared.answer.Answer.{Answer}
 use Rattle.calls.specs.Calls.{letterOf}
 use Rattle.lines.specs.Answers.{afterName, textOf}
-use Rattle.lines.specs.Written.{Put, put-more, put-length}
+use Rattle.writing.specs.Written.{Put, put-more, put-length}
 use Rattle.calls.specs.declared.Call.{Call}
 use Rattle.lines.proofs.answers.put_answer.Statement.{statement}
 use Rattle.lines.proofs.answers.put_answer.Tie as tie

@@ -6,10 +6,10 @@ use native.Mathlib.Omega.{arith}
 use borrow.Author.Needs.{needs}
 use lib.ListN.{set}
 use Rattle.calls.specs.Digits.{digits}
-use Rattle.lines.specs.Decimal.{placesOf, decimal}
+use Rattle.writing.specs.Decimal.{placesOf, decimal}
 use Rattle.lines.specs.Answers.{countText}
-use Rattle.lines.specs.Written.{Put, put-more, put-byte}
-use Rattle.lines.proofs.Lengths.{places-most, spelled-place}
+use Rattle.writing.specs.Written.{Put, put-more, put-byte}
+use Rattle.writing.specs.Places.{places-most, spelled-place}
 use Rattle.lines.proofs.answers.put_count.Statement.{statement}
 use Rattle.lines.proofs.answers.put_count.Tie as tie
 
@@ -36,7 +36,7 @@ pub put-count-spec : {M : Type 1} → statement M
 put-count-spec =
     tie.close
     (tie.spec
-    (λ c κs. tt)
+    (λ c κs. omega arith)
     spell-requires
     (λ c. omega (arith, ten c))
     (λ c. omega (arith, ten c))

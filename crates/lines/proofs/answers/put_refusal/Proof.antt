@@ -1,7 +1,7 @@
 -- `put_refusal` meets its contract: the word, then the number. Assumes nothing.
 use borrow.Author.Needs.{needs}
 use Rattle.lines.specs.Answers.{refusalText}
-use Rattle.lines.specs.Written.{put-more}
+use Rattle.writing.specs.Written.{put-more}
 use Rattle.lines.proofs.answers.put_refusal.Statement.{statement}
 use Rattle.lines.proofs.answers.put_refusal.Tie as tie
 

@@ -6,7 +6,7 @@ use borrow.Author.Needs.{needs}
 use Rattle.carlson.specs.declared.answer.Answer.{Answer}
 use Rattle.calls.specs.Calls.{callOf}
 use Rattle.lines.specs.Answers.{answerOf, textOf, badText, replyTo, replyOf}
-use Rattle.lines.specs.Written.{Put}
+use Rattle.writing.specs.Written.{Put}
 use Rattle.calls.specs.declared.Call.{Call}
 use Rattle.calls.specs.declared.Line.the-variants.{Good, Bad}
 use Rattle.lines.proofs.answers.put_reply.Statement.{statement}

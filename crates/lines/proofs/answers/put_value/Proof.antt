@@ -11,8 +11,8 @@ use Rattle.carlson.specs.declared.answer.Found.{Found}
 use Rattle.calls.specs.Digits.{digits}
 use Rattle.calls.specs.Calls.{wordText}
 use Rattle.lines.specs.Answers.{countText, valueText}
-use Rattle.lines.specs.Written.{Put, put-more, put-length, put-byte}
-use Rattle.lines.proofs.Lengths.{spelled-place}
+use Rattle.writing.specs.Written.{Put, put-more, put-length, put-byte}
+use Rattle.writing.specs.Places.{spelled-place}
 use Rattle.lines.proofs.answers.put_value.Statement.{statement}
 use Rattle.lines.proofs.answers.put_value.Tie as tie
 

@@ -8,7 +8,7 @@ use lib.ListN.{length, take}
 use lib.Seq.{length-take-le}
 use denote.Ref.{now}
 use Rattle.lines.specs.Stream.{Fed}
-use Rattle.lines.specs.Written.{put-length}
+use Rattle.writing.specs.Written.{put-length}
 use Rattle.lines.proofs.Parts.{take-least}
 use Rattle.lines.proofs.stream.feed.Statement.{statement}
 use Rattle.lines.proofs.stream.feed.Tie as tie

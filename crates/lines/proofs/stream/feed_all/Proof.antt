@@ -8,7 +8,7 @@ use lib.ListN.{length, getD, take}
 use lib.Seq.{take-suc, take-all}
 use Rattle.lines.specs.Stream.{restOf, saidOf, Fed}
 use Rattle.lines.specs.StreamLaws.{fed-more}
-use Rattle.lines.specs.Written.{Put, put-length}
+use Rattle.writing.specs.Written.{Put, put-length}
 use Rattle.lines.proofs.Lengths.{said-length}
 use Rattle.lines.proofs.stream.feed_all.Statement.{statement}
 use Rattle.lines.proofs.stream.feed_all.Tie as tie

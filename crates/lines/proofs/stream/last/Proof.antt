@@ -9,7 +9,7 @@ use lib.ListN.{length, take}
 use lib.Seq.{length-take-le}
 use Rattle.lines.specs.Answers.{replyOf}
 use Rattle.lines.specs.Stream.{lastLine, repliesTo, saidLast}
-use Rattle.lines.specs.Written.{Put}
+use Rattle.writing.specs.Written.{Put}
 use Rattle.lines.proofs.Lengths.{reply-length}
 use Rattle.lines.proofs.stream.last.Statement.{statement}
 use Rattle.lines.proofs.stream.last.Tie as tie

@@ -8,8 +8,8 @@ use native.Mathlib.Nat.{add-zero, add-suc}
 use lib.ListN.{length, getD, drop, set, length-set, drop-of-length-le}
 use lib.Seq.{sets, drop-cons}
 use denote.Ref.{now}
-use Rattle.lines.proofs.answers.put_text.Statement.{statement}
-use Rattle.lines.proofs.answers.put_text.Tie as tie
+use Rattle.writing.proofs.text.put_text.Statement.{statement}
+use Rattle.writing.proofs.text.put_text.Tie as tie
 
 abbrev Inv-loop : tie.InvT-loop
 Inv-loop text out₀ at i₀ out i = (i ≤ length text) × (length out ≡ length out₀) × (sets out (at + i) (drop i text) ≡ sets out₀ at text)

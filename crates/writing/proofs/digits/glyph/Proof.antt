@@ -2,8 +2,8 @@
 use borrow.Author.Needs.{needs}
 use borrow.Author.Tests.{lt-ltb, le-ltb}
 use Rattle.calls.specs.Digits.{glyphOf}
-use Rattle.lines.proofs.digits.glyph.Statement.{statement}
-use Rattle.lines.proofs.digits.glyph.Tie as tie
+use Rattle.writing.proofs.digits.glyph.Statement.{statement}
+use Rattle.writing.proofs.digits.glyph.Tie as tie
 
 pub glyph-spec : {M : Type 1} → statement M
 unfolding glyphOf

@@ -3,8 +3,8 @@ ghost use mathlib.Core.Path.{_≡_};
 ghost use Prim.Native.Nat.{_+_, _≤_, _<_};
 ghost use lib.ListN.{length};
 ghost use Rattle.calls.specs.Digits.{glyphOf, digits};
-ghost use Rattle.lines.specs.Decimal.{placesOf};
-ghost use Rattle.lines.specs.Written.{Put};
+ghost use Rattle.writing.specs.Decimal.{placesOf};
+ghost use Rattle.writing.specs.Written.{Put};
 
 // The byte of a digit.
 fn glyph(d: u64) -> u8
@@ -17,20 +17,21 @@ fn glyph(d: u64) -> u8
     55 + d as u8
 }
 
-// In how many decimal digits a number is written.
-pub fn places(n: u32) -> usize
-    ensures { λ r. ⌜ r ≡ placesOf 9 n ⌝ }
+// In how many decimal digits a number is written, up to `more` more than one.
+pub fn places(n: u64, more: usize) -> usize
+    requires { ⌜ more ≤ 19 ⌝ }
+    ensures { λ r. ⌜ r ≡ placesOf more n ⌝ }
 {
-    let mut k: usize = 1;
+    let mut k: usize = 0;
     let mut rest = n;
-    while k < 10 {
+    while k < more {
         if rest < 10 {
-            return k;
+            return k + 1;
         }
         rest = rest / 10;
         k += 1;
     }
-    k
+    more + 1
 }
 
 // The last k digits of n, from the last to the first; the place after them.

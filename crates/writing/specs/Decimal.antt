@@ -1,4 +1,4 @@
--- A count in decimal. Definitions only.
+-- A number in decimal. Definitions only.
 use Prim.Native.Nat.{ℕ, zero, suc, _/_}
 use mathlib.Core.Bool.{cond}
 use mathlib.Core.List.{List}
@@ -10,6 +10,6 @@ unfoldable pub placesOf : ℕ → ℕ → ℕ
 placesOf zero n = 1
 placesOf (suc more) n = cond (ltb n 10) 1 (suc (placesOf more (n / 10)))
 
--- a u32 in decimal, with no zero in front: ten digits are enough
-unfoldable pub decimal : ℕ → List ℕ
-decimal n = digits 10 (placesOf 9 n) n
+-- n in decimal, with no zero in front: ten digits are enough for a u32, twenty for a u64
+unfoldable pub decimal : ℕ → ℕ → List ℕ
+decimal more n = digits 10 (placesOf more n) n

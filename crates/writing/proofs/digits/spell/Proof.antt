@@ -9,9 +9,9 @@ use lib.Seq.{sets}
 use denote.Ref.{now}
 use Rattle.calls.specs.Digits.{glyphOf, digits}
 use Rattle.calls.specs.CallLaws.{digits-length}
-use Rattle.lines.specs.Written.{sets-last}
-use Rattle.lines.proofs.digits.spell.Statement.{statement}
-use Rattle.lines.proofs.digits.spell.Tie as tie
+use Rattle.writing.specs.Written.{sets-last}
+use Rattle.writing.proofs.digits.spell.Statement.{statement}
+use Rattle.writing.proofs.digits.spell.Tie as tie
 
 -- the stores of the loop, the last digit first
 spelled : ℕ → ℕ → ℕ → List ℕ → ℕ → List ℕ
