@@ -6,19 +6,10 @@ use mathlib.Core.List.{List, [], _∷_, _++_}
 use lib.Dec.{eqb, ltb}
 use lib.ListN.{take}
 use Rattle.lines.specs.Answers.{replyOf}
+use Rattle.writing.specs.Input.{lastLine, linesFrom}
 use Rattle.writing.specs.Written.{Put}
 
 -- ---- what is right: a reply to each line of the input
--- a line ends at a newline, or with the input where something is left there
-unfoldable pub lastLine : List ℕ → List (List ℕ)
-lastLine [] = []
-lastLine (b ∷ l) = (b ∷ l) ∷ []
-
--- the lines of the input, where `begun` is what came of the first
-unfoldable pub linesFrom : List ℕ → List ℕ → List (List ℕ)
-linesFrom begun [] = lastLine begun
-linesFrom begun (b ∷ bs) = cond (eqb b 10) (begun ∷ linesFrom [] bs) (linesFrom (begun ++ b ∷ []) bs)
-
 unfoldable pub repliesTo : List (List ℕ) → List ℕ
 repliesTo [] = []
 repliesTo (l ∷ ls) = replyOf l ++ repliesTo ls

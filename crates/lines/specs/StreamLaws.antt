@@ -13,7 +13,8 @@ use Rattle.algebra.specs.Order.{lt-or-le}
 use Rattle.calls.specs.Calls.{callOf}
 use Rattle.lines.specs.Answers.{replyTo, replyOf}
 use Rattle.writing.specs.Written.{put-more}
-use Rattle.lines.specs.Stream.{lastLine, linesFrom, repliesTo, listingOf, heldAfter, saidAt, restOf, saidOf, saidLast, Fed}
+use Rattle.writing.specs.Input.{lastLine, linesFrom}
+use Rattle.lines.specs.Stream.{repliesTo, listingOf, heldAfter, saidAt, restOf, saidOf, saidLast, Fed}
 use Rattle.calls.specs.declared.Line.the-variants.{Bad}
 
 -- ---- wherever the bytes are cut

@@ -109,7 +109,7 @@ value-le a b h = elim (lt-or-le a b) [
 ]
 
 module _ {lo hi : ℕ} {x : Float} (X : Between lo hi x) where
-  pub units-of : ℕ
+  unfoldable pub units-of : ℕ
   units-of = value (X .n)
 
   pub units-low : value lo ≤ units-of

@@ -1,13 +1,20 @@
 -- The sum of the advances is the number of steps taken, and how a loop over the readings comes to it. Assumes nothing.
-use Prim.Native.Nat.{ℕ, _+_, _-_, _%_, _≤_, _<_}
-use mathlib.Core.Path.{_≡_, refl, _∙_}
+use Prim.Native.Nat.{ℕ, _+_, _-_, _%_, _^_, _≤_, _<_}
+use mathlib.Core.Path.{_≡_, refl, sym, ap, _∙_}
+use mathlib.Core.Bool.{true}
+use mathlib.Core.Logic.{inl, inr}
 use mathlib.Core.List.{List, [], _∷_}
 use native.Mathlib.Numerals.{add-one}
+use native.Mathlib.Nat.{add-assoc, add-zero}
 use native.Mathlib.Omega.{arith}
+use borrow.Author.Tests.{lt-ltb, le-ltb}
 use lib.ListN.{length, getD, drop, drop-of-length-le}
 use lib.Seq.{drop-cons}
-use Rattle.swing.specs.Steps.{advanceOf, advancesFrom, advances, stepsOf, Rising, ends, goes, shown, lastOf, StepsTaken}
+use Rattle.algebra.specs.Order.{lt-or-le}
+use Rattle.swing.specs.Steps.{advanceOf, advancesFrom, advances, added, addedTo, logFrom, logAfter, logAll, stepsOf, Rising, ends, goes, shown, lastOf, StepsTaken}
+use Rattle.swing.specs.declared.steps.Log.{Log}
 use Rattle.swing.specs.declared.steps.Steps.{Steps}
+use Rattle.swing.specs.declared.steps.Steps.the-variants.{Total, Refused}
 
 -- ---- the steps taken
 -- between two counts: fewer than 65,536, so that the counters tell them
@@ -33,17 +40,43 @@ pub steps-taken : (total : ℕ) (readings : List ℕ) (r : Steps) → r ≡ step
 unfolding stepsOf
 steps-taken total readings r e = record { taken = λ c cs up s. e ∙ rw (s, advances-counted c cs up) }
 
--- ---- by places in the list
-pub from-first : (l : List ℕ) → advances l ≡ advancesFrom (getD l 0 0) (drop 1 l)
-unfolding advances advancesFrom
-from-first [] = refl
-from-first (a ∷ l) = refl
+-- ---- the log comes to the same sum, whatever it is given
+added-twice : (t a b : ℕ) → addedTo (added t a) b ≡ added t (a + b)
+unfolding addedTo added
+added-twice t a b = elim (lt-or-le (t + a) (2 ^ 64)) [
+  | inl l ↦ rw (lt-ltb (t + a) (2 ^ 64) l, add-assoc t a b)
+  | inr l ↦ rw (le-ltb (t + a) (2 ^ 64) l, le-ltb (t + (a + b)) (2 ^ 64) (omega arith))
+]
 
-pub from-next : (l : List ℕ) (before i : ℕ) → i < length l
-    → advancesFrom before (drop i l) ≡ advanceOf before (getD l i 0) + advancesFrom (getD l i 0) (drop (i + 1) l)
-unfolding advancesFrom
-from-next l before i h = rw (drop-cons l i 0 h, add-one)
+more-twice : (s : Steps) (a b : ℕ) → addedTo (addedTo s a) b ≡ addedTo s (a + b)
+unfolding addedTo
+more-twice (Total t) a b = added-twice t a b
+more-twice (Refused n) a b = refl
 
-pub from-last : (l : List ℕ) (before i : ℕ) → length l ≤ i → advancesFrom before (drop i l) ≡ 0
-unfolding advancesFrom
-from-last l before i h = rw (drop-of-length-le l {i = i} h)
+log-more : (rs : List ℕ) (l : Log) → l .begun ≡ true → addedTo (l .sum) 0 ≡ l .sum → logAll l rs .sum ≡ addedTo (l .sum) (advancesFrom (l .last) rs)
+unfolding logAll advancesFrom logAfter
+log-more [] l e h = sym h
+log-more (r ∷ rs) l e h =
+    let a = advanceOf (l .last) r in
+    let n : Log = record { sum = addedTo (l .sum) a; begun = true; last = r } in
+    let is : logAfter l r ≡ n = rw e in
+    let kept : addedTo (addedTo (l .sum) a) 0 ≡ addedTo (l .sum) a = more-twice (l .sum) a 0 ∙ ap (λ (k : ℕ). addedTo (l .sum) k) (add-zero a) in
+    ap (λ (k : Log). logAll k rs .sum) is ∙ log-more rs n refl kept ∙ more-twice (l .sum) a (advancesFrom r rs)
+
+none : (total : ℕ) → total < 2 ^ 64 → added total 0 ≡ Total total
+unfolding added
+none total h = rw (add-zero, lt-ltb total (2 ^ 64) h)
+
+pub log-steps : (rs : List ℕ) (total : ℕ) → total < 2 ^ 64 → logAll (logFrom total) rs .sum ≡ stepsOf total rs
+unfolding logAll logFrom logAfter stepsOf advances addedTo
+log-steps [] total h = sym (none total h)
+log-steps (r ∷ rs) total h = log-more rs (record { sum = Total total; begun = true; last = r }) refl (none total h)
+
+-- what is left of a loop over the readings
+pub log-next : (l : List ℕ) (log : Log) (i : ℕ) → i < length l → logAll log (drop i l) ≡ logAll (logAfter log (getD l i 0)) (drop (i + 1) l)
+unfolding logAll
+log-next l log i h = rw (drop-cons l i 0 h, add-one)
+
+pub log-last : (l : List ℕ) (log : Log) (i : ℕ) → length l ≤ i → logAll log (drop i l) ≡ log
+unfolding logAll
+log-last l log i h = rw (drop-of-length-le l {i = i} h)

@@ -1,9 +1,10 @@
 -- The step log (document 02, 2026-01). Definitions only.
 use Prim.Native.Nat.{ℕ, _+_, _-_, _%_, _^_, _≤_, _<_}
 use mathlib.Core.Path.{_≡_}
-use mathlib.Core.Bool.{cond}
+use mathlib.Core.Bool.{true, false, cond}
 use mathlib.Core.List.{List, [], _∷_}
 use lib.Dec.{ltb}
+use Rattle.swing.specs.declared.steps.Log.{Log}
 use Rattle.swing.specs.declared.steps.Steps.{Steps}
 use Rattle.swing.specs.declared.steps.Steps.the-variants.{Total, Refused}
 
@@ -31,6 +32,22 @@ added total more = cond (ltb (total + more) (2 ^ 64)) (Total (total + more)) (Re
 
 unfoldable pub stepsOf : ℕ → List ℕ → Steps
 stepsOf total readings = added total (advances readings)
+
+-- ---- the log as its readings come: the sum so far, and the last reading once there is one
+-- a sum that was refused stays so
+unfoldable pub addedTo : Steps → ℕ → Steps
+addedTo (Total sum) more = added sum more
+addedTo (Refused n) more = Refused n
+
+unfoldable pub logFrom : ℕ → Log
+logFrom total = record { sum = Total total; begun = false; last = 0 }
+
+unfoldable pub logAfter : Log → ℕ → Log
+logAfter l reading = record { sum = cond (l .begun) (addedTo (l .sum) (advanceOf (l .last) reading)) (l .sum); begun = true; last = reading }
+
+unfoldable pub logAll : Log → List ℕ → Log
+logAll l [] = l
+logAll l (reading ∷ rest) = logAll (logAfter l reading) rest
 
 -- "and the total stays": what a stored total is afterwards, and what it was
 unfoldable pub keptTotal : Steps → ℕ → ℕ

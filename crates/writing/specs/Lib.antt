@@ -1,3 +1,5 @@
 pub mod Decimal
 pub mod Written
 pub mod Places
+pub mod Input
+pub mod Parts

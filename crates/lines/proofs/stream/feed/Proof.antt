@@ -9,7 +9,7 @@ use lib.Seq.{length-take-le}
 use denote.Ref.{now}
 use Rattle.lines.specs.Stream.{Fed}
 use Rattle.writing.specs.Written.{put-length}
-use Rattle.lines.proofs.Parts.{take-least}
+use Rattle.writing.specs.Parts.{take-least}
 use Rattle.lines.proofs.stream.feed.Statement.{statement}
 use Rattle.lines.proofs.stream.feed.Tie as tie
 

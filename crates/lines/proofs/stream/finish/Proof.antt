@@ -7,7 +7,7 @@ use lib.ListN.{length}
 use lib.Seq.{length-take-le}
 use denote.Ref.{now}
 use Rattle.writing.specs.Written.{put-length}
-use Rattle.lines.proofs.Parts.{take-least}
+use Rattle.writing.specs.Parts.{take-least}
 use Rattle.lines.proofs.stream.finish.Statement.{statement}
 use Rattle.lines.proofs.stream.finish.Tie as tie
 

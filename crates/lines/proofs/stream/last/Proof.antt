@@ -8,7 +8,8 @@ use denote.Ref.{now}
 use lib.ListN.{length, take}
 use lib.Seq.{length-take-le}
 use Rattle.lines.specs.Answers.{replyOf}
-use Rattle.lines.specs.Stream.{lastLine, repliesTo, saidLast}
+use Rattle.writing.specs.Input.{lastLine}
+use Rattle.lines.specs.Stream.{repliesTo, saidLast}
 use Rattle.writing.specs.Written.{Put}
 use Rattle.lines.proofs.Lengths.{reply-length}
 use Rattle.lines.proofs.stream.last.Statement.{statement}

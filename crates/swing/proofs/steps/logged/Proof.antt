@@ -1,0 +1,14 @@
+-- `logged` meets its contract, step by step as its definition. Assumes nothing.
+use mathlib.Core.Path.{sym}
+use borrow.Author.Needs.{needs}
+use Rattle.swing.specs.Steps.{logAfter}
+use Rattle.swing.proofs.steps.logged.Statement.{statement}
+use Rattle.swing.proofs.steps.logged.Tie as tie
+
+returns : tie.Need-returns
+unfolding logAfter
+returns c = rw (c .before .before .if1 .taken, sym (c .before .between .ensures), sym (c .more .ensures))
+
+pub logged-spec : {M : Type 1} → statement M
+unfolding logAfter
+logged-spec = tie.close (tie.spec (λ c κs. tt) (λ c κs. tt) returns (λ c. rw (c .if1 .left)))

@@ -1,0 +1,18 @@
+-- `blank` meets its contract: its tests are those of the definition, in its order. Assumes nothing.
+use mathlib.Core.Path.{refl}
+use borrow.Author.Tests.{eq-eqb, ne-eqb}
+use Rattle.swinglines.specs.Reading.{blankAfter}
+use Rattle.swinglines.proofs.reading.blank.Statement.{statement}
+use Rattle.swinglines.proofs.reading.blank.Tie as tie
+
+pub blank-spec : {M : Type 1} → statement M
+unfolding blankAfter
+blank-spec =
+    tie.close
+    (tie.spec
+    (λ c. rw (c .before .before .if1 .taken, eq-eqb _ _ (c .if2 .taken)))
+    (λ c. rw (c .before .before .before .before .if1 .taken, ne-eqb _ _ (c .before .before .if2 .left), eq-eqb _ _ (c .if3 .taken)))
+    (λ c κs. tt)
+    (λ c. rw (c .before .before .before .before .before .if1 .taken, ne-eqb _ _ (c .before .before .before .if2 .left), ne-eqb _ _ (c .before .if3 .left)) (c .spoilt .ensures))
+    (λ c κs. tt)
+    (λ c. rw (c .before .if1 .left) (c .spoilt2 .ensures)))

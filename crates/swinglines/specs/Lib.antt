@@ -1,0 +1,4 @@
+pub mod Reading
+pub mod Replies
+pub mod Stream
+pub mod StreamLaws
