@@ -57,4 +57,3 @@ module _ (m s hi lo : ℕ) (M : m < 2 ^ 53) (low : 33 ≤ s) (high : s ≤ 63) (
     where
       part : (a b : ℕ) → a + b < 2 ^ 60 → a < 2 ^ 64
       part a b h = omega arith
-
