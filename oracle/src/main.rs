@@ -13,6 +13,7 @@ mod list;
 mod listing;
 mod random;
 mod shapes;
+mod swing;
 mod symbols;
 mod tally;
 mod units;
@@ -20,7 +21,7 @@ mod units;
 use std::process::ExitCode;
 
 const USAGE: &str = "oracle examples | make-list | check-list | call | diff N [SEED] | leaf NAME N [SEED] | answers NAME |
-       compare N [SEED [THREADS]] | fuzz SECONDS [SEED]";
+       compare N [SEED [THREADS]] | swing N [SEED] | fuzz SECONDS [SEED]";
 
 fn main() -> ExitCode {
     let words: Vec<String> = std::env::args().skip(1).collect();
@@ -40,6 +41,8 @@ fn main() -> ExitCode {
         ["answers", name] => leaf::answers(name),
         ["leaf", name, n] => leaf::run(name, number(n), 1),
         ["leaf", name, n, seed] => leaf::run(name, number(n), number(seed)),
+        ["swing", n] => swing::run(number(n), 1),
+        ["swing", n, seed] => swing::run(number(n), number(seed)),
         _ => {
             eprintln!("{USAGE}");
             false

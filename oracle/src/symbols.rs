@@ -35,3 +35,9 @@ linked! {
     "lib-rd-rg" RG = gatewren_rg(f64, f64, f64, *mut f64, *mut u32) -> u32;
     "lib-rj" RJ = gatewren_rj(f64, f64, f64, f64, *mut f64, *mut u32) -> u32;
 }
+
+// Request 2026-01: likewise; a log's readings go as a pointer and a length.
+linked! {
+    "lib-swing" SWING = gatewren_swing(u64, u64, u64, *mut f64, *mut u32) -> u32;
+    "lib-swing" STEPS = gatewren_steps(*mut u64, *const u16, usize) -> u32;
+}
