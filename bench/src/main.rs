@@ -8,6 +8,7 @@ mod listing;
 #[path = "../../oracle/src/random.rs"]
 #[allow(dead_code)]
 mod random;
+#[allow(dead_code)] // the swing is not timed
 #[path = "../../oracle/src/symbols.rs"]
 mod symbols;
 

@@ -88,7 +88,10 @@ impl Tally {
 
     fn print(&self, name: &str) {
         let (calls, values, rounds) = (self.calls, self.values, self.rounds);
-        println!("{name}: {calls} calls, {values} values (at most {rounds} rounds), refused {:?}, {} differ", self.refusals, self.wrong);
+        println!(
+            "{name}: {calls} calls, {values} values (at most {rounds} rounds), refused {:?}, {} differ",
+            self.refusals, self.wrong
+        );
     }
 }
 

@@ -14,11 +14,10 @@ use Rattle.carlson.specs.declared.answer.Answer.{Answer}
 use Rattle.carlson.specs.declared.answer.Answer.the-variants.{Value, Refused}
 use Rattle.elliprf.specs.Rf.{rf}
 
--- "11 length or gravity out of range"
+-- the numbers for no
 abbrev pub length-or-gravity : ℕ
 length-or-gravity = 11
 
--- "12 height not from 1 to 2L-1"
 abbrev pub height-number : ℕ
 height-number = 12
 
@@ -46,14 +45,21 @@ times factor (Refused n) = Refused n
 unfoldable pub swung : ℕ → ℕ → ℕ → Answer
 swung length height gravity = times (fourRoots length gravity) (rf zero (ratio (2 * length - height) (2 * length)) one)
 
--- 11, then 12: "in that order"
+abbrev pub orRefused : Bool → ℕ → Answer → Answer
+orRefused fits number answer = cond fits answer (Refused number)
+
+-- "11 length or gravity out of range"
+abbrev pub lengthAndGravity : ℕ → ℕ → Answer → Answer
+lengthAndGravity length gravity answer =
+    orRefused (within length 10000000) length-or-gravity (orRefused (within gravity 20000000) length-or-gravity answer)
+
+-- "12 height not from 1 to 2L-1"
+abbrev pub heightFor : ℕ → ℕ → Answer → Answer
+heightFor length height answer = orRefused (within height (2 * length - 1)) height-number answer
+
+-- "in that order"
 unfoldable pub periodOf : ℕ → ℕ → ℕ → Answer
-periodOf length height gravity =
-    cond (within length 10000000)
-    (cond (within gravity 20000000)
-    (cond (within height (2 * length - 1)) (swung length height gravity) (Refused height-number))
-    (Refused length-or-gravity))
-    (Refused length-or-gravity)
+periodOf length height gravity = lengthAndGravity length gravity (heightFor length height (swung length height gravity))
 
 -- the only answers: a finite value with its rounds, 11 or 12. RF's own numbers are not among them.
 pub data Only : Answer → Type 0 where
