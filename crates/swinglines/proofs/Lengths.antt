@@ -5,7 +5,6 @@ use mathlib.Core.List.{List, []}
 use lib.Dec.{eqb}
 use lib.ListN.{length, length-append}
 use native.Mathlib.Omega.{arith}
-use lib.Ieee.{binary64, toBits}
 use Rattle.calls.specs.CallLaws.{digits-length}
 use Rattle.writing.specs.Decimal.{decimal}
 use Rattle.writing.specs.Places.{places-most}

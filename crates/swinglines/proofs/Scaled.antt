@@ -1,13 +1,13 @@
 -- A product of two words over a power of two: the quotient, the remainder, and how they round. Assumes nothing.
-use Prim.Native.Nat.{ℕ, suc, _+_, _-_, _*_, _/_, _%_, _^_, _≤_, _<_, compare, Ordering}
-use mathlib.Core.Path.{_≡_, refl, sym, ap, _∙_, subst}
-use mathlib.Core.List.{[], _∷_}
-use native.Mathlib.Nat.{mul-add-div-right, mul-add-mod-self-right, mod-eq-of-lt, div-add-mod', mod-lt, div-lt-iff-lt-mul, pow-suc, le-trans, lt-of-lt-of-le, mul-le-mul-left}
+use Prim.Native.Nat.{ℕ, _+_, _-_, _*_, _/_, _%_, _^_, _≤_, _<_, compare, Ordering}
+use mathlib.Core.Path.{_≡_, sym, ap, _∙_, subst}
+use mathlib.Core.List.{[]}
+use native.Mathlib.Nat.{mul-add-div-right, mul-add-mod-self-right, mod-eq-of-lt, div-add-mod', div-lt-iff-lt-mul, lt-of-lt-of-le, mul-le-mul-left}
 use native.Mathlib.Omega.{arith}
 use lib.Pow.{pow-pos, pow-add, pow-mono}
 use lib.Ieee.{nearest}
 use lib.Ieee.Nearest.{closest}
-use Rattle.algebra.specs.Ring.{_:+_, _:*_, _≈_, ring}
+use Rattle.algebra.specs.Ring.{_:*_, _≈_, ring}
 use Rattle.algebra.specs.Order.{scaled-compare}
 
 module _ (X A B hi lo : ℕ) (pos : 0 < A) (is : hi * (A * B) + lo ≡ X) where

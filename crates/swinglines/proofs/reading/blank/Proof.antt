@@ -1,5 +1,4 @@
 -- `blank` meets its contract: its tests are those of the definition, in its order. Assumes nothing.
-use mathlib.Core.Path.{refl}
 use borrow.Author.Tests.{eq-eqb, ne-eqb}
 use Rattle.swinglines.specs.Reading.{blankAfter}
 use Rattle.swinglines.proofs.reading.blank.Statement.{statement}

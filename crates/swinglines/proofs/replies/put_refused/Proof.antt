@@ -1,7 +1,6 @@
 -- `put_refused` meets its contract: the word, then the number. Assumes nothing.
-use native.Mathlib.Omega.{arith}
 use borrow.Author.Needs.{needs}
-use Rattle.writing.specs.Written.{put-more, put-length}
+use Rattle.writing.specs.Written.{put-more}
 use Rattle.swinglines.specs.Replies.{refusedText}
 use Rattle.swinglines.proofs.replies.put_refused.Statement.{statement}
 use Rattle.swinglines.proofs.replies.put_refused.Tie as tie
