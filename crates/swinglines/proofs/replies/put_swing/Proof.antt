@@ -1,10 +1,9 @@
 -- `put_swing` meets its contract, case by case. Assumes nothing.
-use mathlib.Core.Path.{_≡_, subst}
+use mathlib.Core.Path.{subst}
 use native.Mathlib.Omega.{arith}
 use borrow.Author.Needs.{needs}
 use Rattle.writing.specs.Written.{put-length}
 use Rattle.carlson.specs.declared.answer.Found.{Found}
-use Rattle.carlson.specs.declared.answer.Answer.{Answer}
 use Rattle.carlson.specs.declared.answer.Answer.the-variants.{Value}
 use Rattle.swing.specs.Between.{Between}
 use Rattle.swing.specs.Ratios.{power}

@@ -1,7 +1,6 @@
 -- `closing` meets its contract: the step log's total, if one was given. Assumes nothing.
 use mathlib.Core.Path.{refl, sym}
 use native.Mathlib.Nat.{add-zero}
-use native.Mathlib.Omega.{arith}
 use borrow.Author.Needs.{needs}
 use Rattle.writing.specs.Written.{put-length}
 use Rattle.swinglines.specs.Stream.{saidAtEnd}

@@ -1,12 +1,12 @@
 -- `feed_all` meets its contract. The invariant: what was fed so far is the block's beginning. Assumes nothing.
 use Prim.Native.Nat.{ℕ, _+_, _-_, _*_, _≤_, _<_}
-use mathlib.Core.Path.{_≡_, refl, sym, ap, _∙_, subst}
-use mathlib.Core.List.{List, [], _∷_, _++_}
+use mathlib.Core.Path.{_≡_, refl, _∙_}
+use mathlib.Core.List.{List, []}
 use native.Mathlib.Numerals.{add-one}
 use native.Mathlib.Omega.{arith}
 use lib.ListN.{length, getD, take}
 use lib.Seq.{take-suc, take-all}
-use Rattle.writing.specs.Written.{Put, put-length}
+use Rattle.writing.specs.Written.{put-length}
 use Rattle.swinglines.specs.Stream.{stateAfter, saidAt, restOf, saidOf, Told}
 use Rattle.swinglines.specs.StreamLaws.{told-more}
 use Rattle.swinglines.specs.declared.stream.State.{State}

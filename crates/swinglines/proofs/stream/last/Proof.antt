@@ -1,10 +1,9 @@
 -- `last` meets its contract: a line that has begun ends with the input. Assumes nothing.
-use Prim.Native.Nat.{ℕ, _+_, _≤_}
-use mathlib.Core.Path.{_≡_, sym, ap, _∙_, subst}
+use Prim.Native.Nat.{ℕ}
+use mathlib.Core.Path.{_≡_, sym, _∙_, subst}
 use mathlib.Core.Bool.{Bool, true, false, cond}
 use mathlib.Core.List.{List, _++_}
 use native.Mathlib.Omega.{arith}
-use borrow.Author.Needs.{needs}
 use Rattle.writing.specs.Written.{Put, put-more, put-length}
 use Rattle.swinglines.specs.Reading.{atStart}
 use Rattle.swinglines.specs.Stream.{heard, said, saidAtEnd, saidLast, Told}
