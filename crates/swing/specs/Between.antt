@@ -5,7 +5,24 @@ use mathlib.Core.Path.{_≡_, refl, sym, ap, _∙_, subst}
 use mathlib.Core.Bool.{Bool, false, _&&_}
 use mathlib.Core.Logic.{inl, inr}
 use mathlib.Core.List.{[], _∷_}
-use native.Mathlib.Nat.{le-refl, le-of-eq, le-of-lt, le-antisymm, mul-assoc, le-trans, lt-of-lt-of-le, lt-of-le-of-lt, lt-irrefl, mul-pos, mul-le-mul, add-le-add, mul-le-mul-right, mul-le-mul-left, eq-of-mul-eq-mul-right, zero-lt-suc}
+use native.Mathlib.Nat.{
+  le-refl,
+  le-of-eq,
+  le-of-lt,
+  le-antisymm,
+  mul-assoc,
+  le-trans,
+  lt-of-lt-of-le,
+  lt-of-le-of-lt,
+  lt-irrefl,
+  mul-pos,
+  mul-le-mul,
+  add-le-add,
+  mul-le-mul-right,
+  mul-le-mul-left,
+  eq-of-mul-eq-mul-right,
+  zero-lt-suc,
+}
 use lib.Dec.{T, isLe, eqb·suc-zero, leb, ltb, leb→le, le→leb, ltb→lt}
 use lib.Pow.{pow-pos}
 use lib.IntN.{ℤ}
@@ -135,6 +152,21 @@ module _ {lo hi : ℕ} {x : Float} (X : Between lo hi x) where
   form = form-of x units-of units-pos has-value
 
 -- ---- the operations on two such f64s: the exact result's fraction, rounded once
+sum-cross : (a b c d u w D : ℕ) → a * D ≡ u * c → b * D ≡ w * d → (a * d + b * c) * D ≡ (u + w) * (c * d)
+sum-cross =
+    ring 7 (λ a b c d u w D. (d times a :* D ≼ u :* c) ∷ (c times b :* D ≼ w :* d) ∷ []
+    ⊩ (a :* d :+ b :* c) :* D ≈ (u :+ w) :* (c :* d)) tt
+
+product-cross : (a b c d u w D : ℕ) → a * D ≡ u * c → b * D ≡ w * d → a * b * (D * D) ≡ u * w * (c * d)
+product-cross =
+    ring 7 (λ a b c d u w D. (b :* D times a :* D ≼ u :* c) ∷ (u :* c times b :* D ≼ w :* d) ∷ []
+    ⊩ a :* b :* (D :* D) ≈ u :* w :* (c :* d)) tt
+
+quotient-cross : (a b c d u w D : ℕ) → a * D ≡ u * c → w * d ≡ b * D → a * d * w * D ≡ u * (b * c) * D
+quotient-cross =
+    ring 7 (λ a b c d u w D. (d :* w times a :* D ≼ u :* c) ∷ (u :* c times w :* d ≼ b :* D) ∷ []
+    ⊩ a :* d :* w :* D ≈ u :* (b :* c) :* D) tt
+
 module _ {x y : Float} {u w : ℕ} (X : Form x u) (Y : Form y w) where
   add-is : x ⊕ y ≡ round binary64 false (u + w) (2 ^ 1074)
   unfolding add sum
@@ -145,8 +177,7 @@ module _ {x y : Float} {u w : ℕ} (X : Form x u) (Y : Form y w) where
       let d = down (Y .e) in
       rw (X .is, Y .is)
       (round-same binary64 false (a * d + b * c) (c * d) (u + w) (2 ^ 1074) (mul-pos (down-pos (X .e)) (down-pos (Y .e))) (pow-pos 1074)
-      (ring 7 (λ a b c d u w D. (d times a :* D ≼ u :* c) ∷ (c times b :* D ≼ w :* d) ∷ [] ⊩ (a :* d :+ b :* c) :* D ≈ (u :+ w) :* (c :* d)) tt a b c d u w (2 ^ 1074)
-      (X .units) (Y .units)))
+      (sum-cross a b c d u w (2 ^ 1074) (X .units) (Y .units)))
 
   mul-is : x ⊗ y ≡ round binary64 false (u * w) (2 ^ 1074 * 2 ^ 1074)
   unfolding mul
@@ -156,9 +187,9 @@ module _ {x y : Float} {u w : ℕ} (X : Form x u) (Y : Form y w) where
       let c = down (X .e) in
       let d = down (Y .e) in
       rw (X .is, Y .is)
-      (round-same binary64 false (a * b) (c * d) (u * w) (2 ^ 1074 * 2 ^ 1074) (mul-pos (down-pos (X .e)) (down-pos (Y .e))) (mul-pos (pow-pos 1074) (pow-pos 1074))
-      (ring 7 (λ a b c d u w D. (b :* D times a :* D ≼ u :* c) ∷ (u :* c times b :* D ≼ w :* d) ∷ [] ⊩ a :* b :* (D :* D) ≈ u :* w :* (c :* d)) tt a b c d u w (2 ^ 1074)
-      (X .units) (Y .units)))
+      (round-same binary64 false (a * b) (c * d) (u * w) (2 ^ 1074 * 2 ^ 1074) (mul-pos (down-pos (X .e)) (down-pos (Y .e)))
+      (mul-pos (pow-pos 1074) (pow-pos 1074))
+      (product-cross a b c d u w (2 ^ 1074) (X .units) (Y .units)))
 
   pub div-is : 0 < w → x ⊘ y ≡ round binary64 false u w
   unfolding div
@@ -170,8 +201,7 @@ module _ {x y : Float} {u w : ℕ} (X : Form x u) (Y : Form y w) where
       rw (X .is, Y .is, eqb·suc-zero (Y .m))
       (round-same binary64 false (a * d) (b * c) u w (mul-pos (mul-pos (zero-lt-suc (Y .m)) (up-pos (Y .e))) (down-pos (X .e))) W
       (eq-of-mul-eq-mul-right (2 ^ 1074) (pow-pos 1074) (a * d * w) (u * (b * c))
-      (ring 7 (λ a b c d u w D. (d :* w times a :* D ≼ u :* c) ∷ (u :* c times w :* d ≼ b :* D) ∷ [] ⊩ a :* d :* w :* D ≈ u :* (b :* c) :* D) tt a b c d u w (2 ^ 1074)
-      (X .units) (sym (Y .units)))))
+      (quotient-cross a b c d u w (2 ^ 1074) (X .units) (sym (Y .units)))))
 
 root-is : {x : Float} {u : ℕ} (X : Form x u) → root x ≡ rounded (rootOf (suc (X .m) * up (X .e)) (down (X .e)))
 unfolding root
@@ -185,15 +215,18 @@ module _ {lo hi lo' hi' : ℕ} {x y : Float} (X : Between lo hi x) (Y : Between 
       (mul-le-mul-right (2 ^ 1074) (le-trans (leb→le (value p) (value lo + value lo') s) (add-le-add (units-low X) (units-low Y))))
       (mul-le-mul-right (2 ^ 1074) (le-trans (add-le-add (units-high X) (units-high Y)) (leb→le (value hi + value hi') (value q) t))))
 
-  pub product-between : T (leb (value p * 2 ^ 1074) (value lo * value lo')) → T (leb (value hi * value hi') (value q * 2 ^ 1074)) → Between p q (x ⊗ y)
+  pub product-between : T (leb (value p * 2 ^ 1074) (value lo * value lo')) → T (leb (value hi * value hi') (value q * 2 ^ 1074))
+      → Between p q (x ⊗ y)
   product-between s t = subst (λ (z : Float). Between p q z) (sym (mul-is (form X) (form Y)))
       (fraction-between (units-of X * units-of Y) (2 ^ 1074 * 2 ^ 1074) p q (mul-pos (pow-pos 1074) (pow-pos 1074)) o
       (le-trans (le-of-eq (sym (mul-assoc (value p) (2 ^ 1074) (2 ^ 1074))))
       (mul-le-mul-right (2 ^ 1074) (le-trans (leb→le (value p * 2 ^ 1074) (value lo * value lo') s) (mul-le-mul (units-low X) (units-low Y)))))
-      (le-trans (mul-le-mul-right (2 ^ 1074) (le-trans (mul-le-mul (units-high X) (units-high Y)) (leb→le (value hi * value hi') (value q * 2 ^ 1074) t)))
+      (le-trans (mul-le-mul-right (2 ^ 1074)
+      (le-trans (mul-le-mul (units-high X) (units-high Y)) (leb→le (value hi * value hi') (value q * 2 ^ 1074) t)))
       (le-of-eq (mul-assoc (value q) (2 ^ 1074) (2 ^ 1074)))))
 
-  pub quotient-between : T (leb (value p * value hi') (value lo * 2 ^ 1074)) → T (leb (value hi * 2 ^ 1074) (value q * value lo')) → Between p q (x ⊘ y)
+  pub quotient-between : T (leb (value p * value hi') (value lo * 2 ^ 1074)) → T (leb (value hi * 2 ^ 1074) (value q * value lo'))
+      → Between p q (x ⊘ y)
   quotient-between s t = subst (λ (z : Float). Between p q z) (sym (div-is (form X) (form Y) (units-pos Y)))
       (fraction-between (units-of X) (units-of Y) p q (units-pos Y) o
       (le-trans (mul-le-mul-left (value p) (units-high Y))
@@ -201,11 +234,14 @@ module _ {lo hi lo' hi' : ℕ} {x y : Float} (X : Between lo hi x) (Y : Between 
       (le-trans (mul-le-mul-right (2 ^ 1074) (units-high X))
       (le-trans (leb→le (value hi * 2 ^ 1074) (value q * value lo') t) (mul-le-mul-left (value q) (units-low Y)))))
 
+root-cross : (u m c D : ℕ) → m * D ≡ u * c → m * (D * D) ≡ u * D * c
+root-cross = ring 4 (λ u m c D. (D times m :* D ≼ u :* c) ∷ [] ⊩ m :* (D :* D) ≈ u :* D :* c) tt
+
 root-low : (p u m c D : ℕ) → p * p ≤ u * D → m * D ≡ u * c → p * p * c ≤ m * (D * D)
-root-low p u m c D h e = le-trans (mul-le-mul-right c h) (le-of-eq (ring 4 (λ u m c D. (D times u :* c ≼ m :* D) ∷ [] ⊩ u :* D :* c ≈ m :* (D :* D)) tt u m c D (sym e)))
+root-low p u m c D h e = le-trans (mul-le-mul-right c h) (le-of-eq (sym (root-cross u m c D e)))
 
 root-high : (q u m c D : ℕ) → u * D ≤ q * q → m * D ≡ u * c → m * (D * D) ≤ q * q * c
-root-high q u m c D h e = le-trans (le-of-eq (ring 4 (λ u m c D. (D times m :* D ≼ u :* c) ∷ [] ⊩ m :* (D :* D) ≈ u :* D :* c) tt u m c D e)) (mul-le-mul-right c h)
+root-high q u m c D h e = le-trans (le-of-eq (root-cross u m c D e)) (mul-le-mul-right c h)
 
 pub root-between : {lo hi : ℕ} {x : Float} (X : Between lo hi x) (p q : ℕ) → T (solid p q) → T (leb (value p * value p) (value lo * 2 ^ 1074))
     → T (leb (value hi * 2 ^ 1074) (value q * value q)) → Between p q (root x)
@@ -216,9 +252,11 @@ root-between {lo} {hi} {x} X p q o s t =
     subst (λ (z : Float). Between p q z) (sym (root-is F))
     (cut-between (rootOf M c) (root-number M c (down-pos (F .e))) p q o
     (le→leb (value p * value p * c) (M * (2 ^ 1074 * 2 ^ 1074))
-    (root-low (value p) (units-of X) M c (2 ^ 1074) (le-trans (leb→le (value p * value p) (value lo * 2 ^ 1074) s) (mul-le-mul-right (2 ^ 1074) (units-low X))) (F .units)))
+    (root-low (value p) (units-of X) M c (2 ^ 1074)
+    (le-trans (leb→le (value p * value p) (value lo * 2 ^ 1074) s) (mul-le-mul-right (2 ^ 1074) (units-low X))) (F .units)))
     (not-below (value q * value q * c) (M * (2 ^ 1074 * 2 ^ 1074))
-    (root-high (value q) (units-of X) M c (2 ^ 1074) (le-trans (mul-le-mul-right (2 ^ 1074) (units-high X)) (leb→le (value hi * 2 ^ 1074) (value q * value q) t)) (F .units))))
+    (root-high (value q) (units-of X) M c (2 ^ 1074)
+    (le-trans (mul-le-mul-right (2 ^ 1074) (units-high X)) (leb→le (value hi * 2 ^ 1074) (value q * value q) t)) (F .units))))
 
 -- a constant
 pub constant : (n : ℕ) → T (solid n n) → Between n n (ofBits binary64 n)

@@ -21,10 +21,35 @@ use Rattle.carlson.specs.declared.answer.Answer.{Answer}
 use Rattle.carlson.specs.declared.answer.Answer.the-variants.{Value, Refused}
 use Rattle.elliprf.specs.Means.{agmOf}
 use Rattle.elliprf.specs.Rf.{rfGeneral, rfSteps, rfUnchecked, rf}
-use Rattle.swing.specs.Period.{within, ratio, fourRoots, times, swung, periodOf, Only, finite-value, length-refused, height-refused, length-or-gravity, height-number}
+use Rattle.swing.specs.Period.{
+  within,
+  ratio,
+  fourRoots,
+  times,
+  swung,
+  periodOf,
+  Only,
+  finite-value,
+  length-refused,
+  height-refused,
+  length-or-gravity,
+  height-number,
+}
 use Rattle.swing.specs.Ranges.{From1, in-within}
 use Rattle.swing.specs.Between.{Between, has-value, units-of, units-high, product-between}
-use Rattle.swing.specs.Compared.{lt-is, eq-is, one-units, not-nan, own-size, is-finite, not-infinite, above-zero, not-below-zero, not-zero, zero-not}
+use Rattle.swing.specs.Compared.{
+  lt-is,
+  eq-is,
+  one-units,
+  not-nan,
+  own-size,
+  is-finite,
+  not-infinite,
+  above-zero,
+  not-below-zero,
+  not-zero,
+  zero-not,
+}
 use Rattle.swing.specs.Ratios.{power, below-one, argument, four-roots}
 use Rattle.swing.specs.Mean.{mean}
 
@@ -75,7 +100,9 @@ module _ {y : Float} (Y : Between (power 998) below-one y) where
   below-1 = lt-is y one (units-of Y) (2 ^ 1074) (has-value Y) one-units ∙ lt-ltb (units-of Y) (2 ^ 1074) under-one
 
   not-1 : eq y one ≡ false
-  not-1 = eq-is y one (units-of Y) (2 ^ 1074) (has-value Y) one-units ∙ ne-eqb (units-of Y) (2 ^ 1074) (λ e. lt-irrefl (2 ^ 1074) (subst (λ (z : ℕ). z < 2 ^ 1074) e under-one))
+  not-1 =
+      eq-is y one (units-of Y) (2 ^ 1074) (has-value Y) one-units
+      ∙ ne-eqb (units-of Y) (2 ^ 1074) (λ e. lt-irrefl (2 ^ 1074) (subst (λ (z : ℕ). z < 2 ^ 1074) e under-one))
 
   steps-are : rfSteps +0 y one ≡ agmOf one y
   unfolding rfSteps rfGeneral
@@ -95,7 +122,21 @@ module _ {y : Float} (Y : Between (power 998) below-one y) where
 
   pub rf-is : rf +0 y one ≡ Value (agmOf one y)
   unfolding rf settled
-  rf-is = rw (no-nan-zero, not-nan Y, no-nan-one, checked-below, zero-is-zero, not-zero Y, one-is-not-zero, zero-finite, not-infinite Y, one-finite, unchecked-is, is-finite (mean y Y))
+  rf-is =
+      rw (
+        no-nan-zero,
+        not-nan Y,
+        no-nan-one,
+        checked-below,
+        zero-is-zero,
+        not-zero Y,
+        one-is-not-zero,
+        zero-finite,
+        not-infinite Y,
+        one-finite,
+        unchecked-is,
+        is-finite (mean y Y),
+      )
 
 -- ---- the period
 record InRange (l h g : ℕ) : Type 0 where
@@ -111,7 +152,8 @@ swing-of l h g =
 
 module _ (l h g : ℕ) (R : InRange l h g) where
   argument-in : Between (power 998) below-one (ratio (2 * l - h) (2 * l))
-  argument-in = argument (2 * l - h) (2 * l) (from-one l h (R .length-in) (R .height-in)) (less l h (R .length-in) (R .height-in)) (most l (R .length-in))
+  argument-in =
+      argument (2 * l - h) (2 * l) (from-one l h (R .length-in) (R .height-in)) (less l h (R .length-in) (R .height-in)) (most l (R .length-in))
     where
       from-one : (l h : ℕ) → From1 l 10000000 → From1 h (2 * l - 1) → 1 ≤ 2 * l - h
       from-one l h L H = omega arith
@@ -129,7 +171,8 @@ module _ (l h g : ℕ) (R : InRange l h g) where
   swing-between : Between (power 1012) (power 1042) (swing-of l h g .value)
   unfolding value swing-of
   swing-between =
-      product-between (four-roots l g (R .length-in) (R .gravity-in)) (mean (ratio (2 * l - h) (2 * l)) argument-in) (power 1012) (power 1042) tt tt tt
+      product-between (four-roots l g (R .length-in) (R .gravity-in)) (mean (ratio (2 * l - h) (2 * l)) argument-in) (power 1012)
+      (power 1042) tt tt tt
 
 -- THE LAWS. A value is finite, from 2 ^ -11 to 2 ^ 19; and every answer is such a value, 11 or 12.
 pub data Bounded : Answer → Type 0 where
@@ -147,7 +190,11 @@ period-bounded l h g = go (within l 10000000) (within g 20000000) (within h (2 *
     go true false u p q r = no-length
     go true true false p q r = no-height
     go true true true p q r =
-        let R : InRange l h g = record { length-in = in-within l 10000000 p; gravity-in = in-within g 20000000 q; height-in = in-within h (2 * l - 1) r } in
+        let R : InRange l h g = record {
+          length-in = in-within l 10000000 p;
+          gravity-in = in-within g 20000000 q;
+          height-in = in-within h (2 * l - 1) r;
+        } in
         subst Bounded (sym (swung-is l h g R)) (value-in (swing-between l h g R))
 
 bounded-only : (a : Answer) → Bounded a → Only a

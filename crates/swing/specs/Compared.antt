@@ -32,7 +32,8 @@ module _ (a b c d u w D : ℕ) (P : 0 < D) (C : 0 < c * d) (e : a * D ≡ u * c)
   cross-lt : ltb (a * d) (b * c) ≡ ltb u w
   cross-lt =
       same-ltb (a * d) (b * c) u w
-      (λ h. lt-of-mul-lt-mul-right (c * d) (lt-of-le-of-lt (le-of-eq (sym over-left)) (lt-of-lt-of-le (mul-lt-mul-of-pos-right h P) (le-of-eq over-right))))
+      (λ h. lt-of-mul-lt-mul-right (c * d)
+      (lt-of-le-of-lt (le-of-eq (sym over-left)) (lt-of-lt-of-le (mul-lt-mul-of-pos-right h P) (le-of-eq over-right))))
       (λ h. lt-of-mul-lt-mul-right D (lt-of-le-of-lt (le-of-eq over-left) (lt-of-lt-of-le (mul-lt-mul-of-pos-right h C) (le-of-eq (sym over-right)))))
 
   cross-eq : eqb (a * d) (b * c) ≡ eqb u w
@@ -98,4 +99,5 @@ module _ {lo hi : ℕ} {x : Float} (X : Between lo hi x) where
   not-zero = eq-is x +0 (units-of X) 0 (has-value X) zero-units ∙ ne-eqb (units-of X) 0 (λ e. lt-irrefl 0 (subst (λ (z : ℕ). 0 < z) e (units-pos X)))
 
   pub zero-not : eq +0 x ≡ false
-  zero-not = eq-is +0 x 0 (units-of X) zero-units (has-value X) ∙ ne-eqb 0 (units-of X) (λ e. lt-irrefl 0 (subst (λ (z : ℕ). 0 < z) (sym e) (units-pos X)))
+  zero-not =
+      eq-is +0 x 0 (units-of X) zero-units (has-value X) ∙ ne-eqb 0 (units-of X) (λ e. lt-irrefl 0 (subst (λ (z : ℕ). 0 < z) (sym e) (units-pos X)))

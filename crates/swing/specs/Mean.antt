@@ -45,7 +45,8 @@ kept (suc (suc k)) m K = (
 abbrev pub Answered : Float → Type 0
 Answered v = Between (power 1023) (power 1028) v
 
-pi-over : {lo : ℕ} {x : Float} → Between lo (power 1024) x → T (leb (value 0x4009_21FB_5444_2D18 * 2 ^ 1074) (value (power 1028) * value lo)) → Answered (pi ⊘ x)
+pi-over : {lo : ℕ} {x : Float} → Between lo (power 1024) x → T (leb (value 0x4009_21FB_5444_2D18 * 2 ^ 1074) (value (power 1028) * value lo))
+    → Answered (pi ⊘ x)
 unfolding value
 pi-over X t = quotient-between (constant 0x4009_21FB_5444_2D18 tt) X (power 1023) (power 1028) tt tt t
 
@@ -63,7 +64,8 @@ record Ended {S A : Type 0} (found : S → ℕ → A) (Good : ℕ → S → Type
   good : Good passes state
   is : r ≡ found state count
 
-module _ {S A : Type 0} (step : S → S) (stop : S → Bool) (found : S → ℕ → A) (Good : ℕ → S → Type 0) (next : (k : ℕ) (s : S) → Good k s → Good (suc k) (step s)) where
+module _ {S A : Type 0} (step : S → S) (stop : S → Bool) (found : S → ℕ → A) (Good : ℕ → S → Type 0)
+    (next : (k : ℕ) (s : S) → Good k s → Good (suc k) (step s)) where
   ended : (left : ℕ) (b : Bool) (s : S) (n k : ℕ) → Good k s → Ended found Good (capped step stop found found left b s n)
   unfolding capped
   ended zero true s n k g = record { passes = k; state = s; count = n; good = g; is = refl }

@@ -46,10 +46,12 @@ module _ (a b : ℕ) (A : From1 a 20000000) (B : From1 b 20000000) where
 
 -- L/g lies from 2 ^ -25 to 2 ^ 24
 low-ratio : (a b : ℕ) → 1 ≤ a → b ≤ 2 ^ 25 → 2 ^ 1049 * b ≤ a * 2 ^ 1074
-low-ratio = below 2 (λ a b. (con (2 ^ 1074) times con 1 ≼ a) ∷ (con (2 ^ 1049) times b ≼ con (2 ^ 25)) ∷ [] ⊩ con (2 ^ 1049) :* b ≈ a :* con (2 ^ 1074)) tt
+low-ratio =
+    below 2 (λ a b. (con (2 ^ 1074) times con 1 ≼ a) ∷ (con (2 ^ 1049) times b ≼ con (2 ^ 25)) ∷ [] ⊩ con (2 ^ 1049) :* b ≈ a :* con (2 ^ 1074)) tt
 
 high-ratio : (a b : ℕ) → a ≤ 2 ^ 24 → 1 ≤ b → a * 2 ^ 1074 ≤ 2 ^ 1098 * b
-high-ratio = below 2 (λ a b. (con (2 ^ 1074) times a ≼ con (2 ^ 24)) ∷ (con (2 ^ 1098) times con 1 ≼ b) ∷ [] ⊩ a :* con (2 ^ 1074) ≈ con (2 ^ 1098) :* b) tt
+high-ratio =
+    below 2 (λ a b. (con (2 ^ 1074) times a ≼ con (2 ^ 24)) ∷ (con (2 ^ 1098) times con 1 ≼ b) ∷ [] ⊩ a :* con (2 ^ 1074) ≈ con (2 ^ 1098) :* b) tt
 
 up-to : (n m k : ℕ) → n ≤ m → T (leb m k) → n ≤ k
 up-to n m k h t = le-trans h (leb→le m k t)
@@ -57,7 +59,8 @@ up-to n m k h t = le-trans h (leb→le m k t)
 length-ratio : (l g : ℕ) → From1 l 10000000 → From1 g 20000000 → Between (power 998) (power 1047) (ratio l g)
 unfolding value
 length-ratio l g L G =
-    subst (λ (x : Float). Between (power 998) (power 1047) x) (sym (ratio-is l g (record { least = L .least; largest = up-to l 10000000 20000000 (L .largest) tt }) G))
+    subst (λ (x : Float). Between (power 998) (power 1047) x)
+    (sym (ratio-is l g (record { least = L .least; largest = up-to l 10000000 20000000 (L .largest) tt }) G))
     (fraction-between l g (power 998) (power 1047) (G .least) tt (low-ratio l g (L .least) (up-to g 20000000 (2 ^ 25) (G .largest) tt))
     (high-ratio l g (up-to l 10000000 (2 ^ 24) (L .largest) tt) (G .least)))
 
@@ -67,7 +70,8 @@ below-one = 1023 * 2 ^ 52 - 2 ^ 28
 
 high-argument : (a b : ℕ) → a < b → b ≤ 2 ^ 25 → a * 2 ^ 1074 ≤ (2 ^ 1074 - 2 ^ 1049) * b
 high-argument =
-    below 2 (λ a b. (con (2 ^ 1074) times nxt a ≼ b) ∷ (con (2 ^ 1049) times b ≼ con (2 ^ 25)) ∷ [] ⊩ a :* con (2 ^ 1074) ≈ con (2 ^ 1074 - 2 ^ 1049) :* b) tt
+    below 2 (λ a b. (con (2 ^ 1074) times nxt a ≼ b) ∷ (con (2 ^ 1049) times b ≼ con (2 ^ 25)) ∷ []
+    ⊩ a :* con (2 ^ 1074) ≈ con (2 ^ 1074 - 2 ^ 1049) :* b) tt
 
 pub argument : (a b : ℕ) → 1 ≤ a → a < b → b ≤ 20000000 → Between (power 998) below-one (ratio a b)
 unfolding value
@@ -82,4 +86,5 @@ argument a b h k l =
 pub four-roots : (l g : ℕ) → From1 l 10000000 → From1 g 20000000 → Between (power 1012) (power 1037) (fourRoots l g)
 unfolding value fourRoots
 four-roots l g L G =
-    product-between (constant (power 1025) tt) (root-between (length-ratio l g L G) (power 1010) (power 1035) tt tt tt) (power 1012) (power 1037) tt tt tt
+    product-between (constant (power 1025) tt) (root-between (length-ratio l g L G) (power 1010) (power 1035) tt tt tt) (power 1012)
+    (power 1037) tt tt tt

@@ -11,7 +11,23 @@ use borrow.Author.Tests.{lt-ltb, le-ltb}
 use lib.ListN.{length, getD, drop, drop-of-length-le}
 use lib.Seq.{drop-cons}
 use Rattle.algebra.specs.Order.{lt-or-le}
-use Rattle.swing.specs.Steps.{advanceOf, advancesFrom, advances, added, addedTo, logFrom, logAfter, logAll, stepsOf, Rising, ends, goes, shown, lastOf, StepsTaken}
+use Rattle.swing.specs.Steps.{
+  advanceOf,
+  advancesFrom,
+  advances,
+  added,
+  addedTo,
+  logFrom,
+  logAfter,
+  logAll,
+  stepsOf,
+  Rising,
+  ends,
+  goes,
+  shown,
+  lastOf,
+  StepsTaken,
+}
 use Rattle.swing.specs.declared.steps.Log.{Log}
 use Rattle.swing.specs.declared.steps.Steps.{Steps}
 use Rattle.swing.specs.declared.steps.Steps.the-variants.{Total, Refused}

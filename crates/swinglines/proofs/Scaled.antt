@@ -39,12 +39,16 @@ module _ (m s hi lo : ℕ) (M : m < 2 ^ 53) (low : 33 ≤ s) (high : s ≤ 63) (
   quotient-is = quotient (m * 1000000000000) (2 ^ s) (2 ^ (64 - s)) hi lo (pow-pos s) whole
 
   pub quotient-small : hi * 2 ^ (64 - s) + lo / 2 ^ s < 2 ^ 60
-  quotient-small = subst (λ (z : ℕ). z < 2 ^ 60) quotient-is (div-lt-iff-lt-mul {k = 2 ^ s} {x = m * 1000000000000} {y = 2 ^ 60} (pow-pos s) .1 (lt-of-lt-of-le (most m M) (mul-le-mul-left (2 ^ 60) (pow-mono low))))
+  quotient-small =
+      subst (λ (z : ℕ). z < 2 ^ 60) quotient-is
+      (div-lt-iff-lt-mul {k = 2 ^ s} {x = m * 1000000000000} {y = 2 ^ 60} (pow-pos s) .1
+      (lt-of-lt-of-le (most m M) (mul-le-mul-left (2 ^ 60) (pow-mono low))))
     where
       most : (m : ℕ) → m < 2 ^ 53 → m * 1000000000000 < 2 ^ 60 * 2 ^ 33
       most m h = omega arith
 
-  pub rounds : (q r half : ℕ) → q ≡ hi * 2 ^ (64 - s) + lo / 2 ^ s → r ≡ lo % 2 ^ s → half * 2 ≡ 2 ^ s → nearest q (compare r half) ≡ closest (m * 1000000000000) (2 ^ s)
+  pub rounds : (q r half : ℕ) → q ≡ hi * 2 ^ (64 - s) + lo / 2 ^ s → r ≡ lo % 2 ^ s → half * 2 ≡ 2 ^ s
+      → nearest q (compare r half) ≡ closest (m * 1000000000000) (2 ^ s)
   rounds q r half e f g =
       let t : r ≡ m * 1000000000000 % 2 ^ s = f ∙ sym (remainder (m * 1000000000000) (2 ^ s) (2 ^ (64 - s)) hi lo (pow-pos s) whole) in
       let o : compare r half ≡ compare (m * 1000000000000 % 2 ^ s * 2) (2 ^ s) =

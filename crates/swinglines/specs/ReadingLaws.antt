@@ -185,7 +185,8 @@ digit-reads k a b begun v d l K h e z = go (roomFor begun v d) refl
         (room-value begun v d room) (λ f. absurd (true≢false f))
     go false room = spoilt-read (l ++ ((48 + d) ∷ []))
 
-blank-reads : (k a b : ℕ) (begun : Bool) (v : ℕ) (l : List ℕ) → k < 3 → l ≡ textOf (at k a b begun v) → Read (l ++ 32 ∷ []) (blankAfter (at k a b begun v))
+blank-reads : (k a b : ℕ) (begun : Bool) (v : ℕ) (l : List ℕ) → k < 3 → l ≡ textOf (at k a b begun v)
+    → Read (l ++ 32 ∷ []) (blankAfter (at k a b begun v))
 unfolding blankAfter
 blank-reads k a b false v l K e = spoilt-read (l ++ 32 ∷ [])
 blank-reads k a b true v l K e = go (eqb k 0) (eqb k 1) refl refl
@@ -197,8 +198,12 @@ blank-reads k a b true v l K e = go (eqb k 0) (eqb k 1) refl refl
     second = unfold frontText partText in simp (append-assoc, append-nil)
 
     go : (t u : Bool) → eqb k 0 ≡ t → eqb k 1 ≡ u → Read (l ++ 32 ∷ []) (cond t (at 1 v 0 false 0) (cond u (at 2 a v false 0) spoiltOf))
-    go true u p q = good (omega arith) (ap (λ (x : List ℕ). x ++ 32 ∷ []) (e ∙ ap (λ (n : ℕ). textOf (at n a b true v)) (eqb-true k 0 p)) ∙ first) (omega arith) (λ f. refl)
-    go false true p q = good (omega arith) (ap (λ (x : List ℕ). x ++ 32 ∷ []) (e ∙ ap (λ (n : ℕ). textOf (at n a b true v)) (eqb-true k 1 q)) ∙ second) (omega arith) (λ f. refl)
+    go true u p q =
+        good (omega arith) (ap (λ (x : List ℕ). x ++ 32 ∷ []) (e ∙ ap (λ (n : ℕ). textOf (at n a b true v)) (eqb-true k 0 p)) ∙ first)
+        (omega arith) (λ f. refl)
+    go false true p q =
+        good (omega arith) (ap (λ (x : List ℕ). x ++ 32 ∷ []) (e ∙ ap (λ (n : ℕ). textOf (at n a b true v)) (eqb-true k 1 q)) ∙ second)
+        (omega arith) (λ f. refl)
     go false false p q = spoilt-read (l ++ 32 ∷ [])
 
 byte-reads : (l : List ℕ) (r : Reading) (x : ℕ) → Read l r → Read (l ++ x ∷ []) (byteAfter r x)
@@ -209,7 +214,8 @@ byte-reads l r x (good K e u z) = rw (ne-eqb (r .ended) 3 (λ f. omega arith)) (
     go : (t v w : Bool) → eqb x 32 ≡ t → ltb x 48 ≡ v → ltb x 58 ≡ w
         → Read (l ++ x ∷ []) (cond t (blankAfter r) (cond v spoiltOf (cond w (digitAfter r (x - 48)) spoiltOf)))
     go true v w p q s =
-        subst (λ (n : ℕ). Read (l ++ n ∷ []) (blankAfter r)) (sym (eqb-true x 32 p)) (blank-reads (r .ended) (r .first) (r .second) (r .begun) (r .value) l K e)
+        subst (λ (n : ℕ). Read (l ++ n ∷ []) (blankAfter r)) (sym (eqb-true x 32 p))
+        (blank-reads (r .ended) (r .first) (r .second) (r .begun) (r .value) l K e)
     go false true w p q s = spoilt-read (l ++ x ∷ [])
     go false false true p q s =
         let lo : 48 ≤ x = ltb-false x 48 q in
@@ -222,14 +228,17 @@ byte-reads l r x (good K e u z) = rw (ne-eqb (r .ended) 3 (λ f. omega arith)) (
 all-read : (xs l : List ℕ) (r : Reading) → Read l r → Read (l ++ xs) (bytesAfter r xs)
 unfolding bytesAfter
 all-read [] l r h = subst (λ (x : List ℕ). Read x r) (sym (append-nil l)) h
-all-read (x ∷ xs) l r h = subst (λ (y : List ℕ). Read y (bytesAfter (byteAfter r x) xs)) (append-assoc l (x ∷ []) xs) (all-read xs (l ++ x ∷ []) (byteAfter r x) (byte-reads l r x h))
+all-read (x ∷ xs) l r h =
+    subst (λ (y : List ℕ). Read y (bytesAfter (byteAfter r x) xs)) (append-assoc l (x ∷ []) xs)
+    (all-read xs (l ++ x ∷ []) (byteAfter r x) (byte-reads l r x h))
 
 line-read : (l : List ℕ) → Read l (bytesAfter startOf l)
 unfolding startOf
 line-read l = all-read l [] (at 0 0 0 false 0) (good (omega arith) (unfold frontText partText in refl) (omega arith) (λ e. refl))
 
 -- a good reading's text, once it is known how many numbers ended
-text-is : (l : List ℕ) (r : Reading) (k : ℕ) → Read l r → k < 3 → r .ended ≡ k → r .begun ≡ true → l ≡ frontText k (r .first) (r .second) ++ decimal 19 (r .value)
+text-is : (l : List ℕ) (r : Reading) (k : ℕ) → Read l r → k < 3 → r .ended ≡ k → r .begun ≡ true
+    → l ≡ frontText k (r .first) (r .second) ++ decimal 19 (r .value)
 text-is l r k (bad e) K f g = absurd (omega arith)
 text-is l r k (good K′ e u z) K f g =
     e ∙ ap (λ (n : ℕ). frontText n (r .first) (r .second) ++ partText (r .begun) (r .value)) f

@@ -53,7 +53,8 @@ unfolding saidOf
 one-said s b = append-nil (saidAt s b)
 
 -- some bytes, and one more
-pub told-more : (xs : List ℕ) (b : ℕ) (s : State) {m after : State} {o half out : List ℕ} {at h next : ℕ} → Told (restOf s xs) (saidOf s xs) m o at half h
+pub told-more : (xs : List ℕ) (b : ℕ) (s : State) {m after : State} {o half out : List ℕ} {at h next : ℕ}
+    → Told (restOf s xs) (saidOf s xs) m o at half h
     → Told (stateAfter m b) (saidAt m b) after half h out next → Told (restOf s (xs ++ b ∷ [])) (saidOf s (xs ++ b ∷ [])) after o at out next
 told-more xs b s p q = record {
   state = rw (rest-more xs s (b ∷ []), one-state) (q .state ∙ ap (λ (t : State). stateAfter t b) (p .state));
@@ -75,7 +76,8 @@ unfolding digitAfter atStart spoiltOf
 digit-begins r d = go (roomFor (r .begun) (r .value) d)
   where
     go : (t : Bool)
-        → atStart (cond t (record { ended = r .ended; first = r .first; second = r .second; begun = true; value = r .value * 10 + d }) spoiltOf) ≡ false
+        → atStart (cond t (record { ended = r .ended; first = r .first; second = r .second; begun = true; value = r .value * 10 + d }) spoiltOf)
+        ≡ false
     go true = refl
     go false = refl
 
@@ -155,7 +157,8 @@ at-end : (begun : List ℕ) (s : State) → s .reading ≡ bytesAfter startOf be
 unfolding saidLast lastLine repliesFrom said heard readLine
 at-end [] s e = subst (λ (b : Bool). cond b (saidAtEnd s) (said s ++ saidAtEnd (heard s)) ≡ saidAtEnd s) (sym (ap atStart e ∙ nothing-yet)) refl
 at-end (b ∷ l) s e =
-    subst (λ (t : Bool). cond t (saidAtEnd s) (said s ++ saidAtEnd (heard s)) ≡ repliesFrom s ((b ∷ l) ∷ [])) (sym (ap atStart e ∙ line-begins l b startOf))
+    subst (λ (t : Bool). cond t (saidAtEnd s) (said s ++ saidAtEnd (heard s)) ≡ repliesFrom s ((b ∷ l) ∷ []))
+    (sym (ap atStart e ∙ line-begins l b startOf))
     (ap (λ (r : Reading). saidTo s (lineOf r) ++ saidAtEnd (afterLine s (lineOf r))) e)
 
 from-begun : (bs begun : List ℕ) (s : State) → s .reading ≡ bytesAfter startOf begun
@@ -168,7 +171,9 @@ from-begun (b ∷ bs) begun s e = go (eqb b 10) (from-begun bs)
     on = record { counting = s .counting; known = s .known; log = s .log; reading = byteAfter (s .reading) b }
 
     ends : said s ++ repliesFrom (heard s) (linesFrom [] bs) ≡ repliesFrom s (begun ∷ linesFrom [] bs)
-    ends = unfold said heard readLine repliesFrom in (ap (λ (r : Reading). saidTo s (lineOf r) ++ repliesFrom (afterLine s (lineOf r)) (linesFrom [] bs)) e)
+    ends =
+        unfold said heard readLine repliesFrom in
+        (ap (λ (r : Reading). saidTo s (lineOf r) ++ repliesFrom (afterLine s (lineOf r)) (linesFrom [] bs)) e)
 
     fresh-line : heard s .reading ≡ bytesAfter startOf []
     fresh-line = unfold heard bytesAfter in after-line s (lineOf (s .reading))

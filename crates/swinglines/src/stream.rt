@@ -19,7 +19,8 @@ ghost use Rattle.io.specs.Counts.{Counts};
 ghost use Rattle.writing.specs.Written.{Put};
 ghost use mathlib.Core.Bool.{true};
 ghost use Rattle.swinglines.specs.Replies.{badText};
-ghost use Rattle.swinglines.specs.Stream.{swingsFrom, stepsFrom, takes, noted, fresh, swingSaid, stepsAfter, stepsSaid, heard, said, stateAfter, saidAt, restOf, saidOf, saidAtEnd, saidLast, Told};
+ghost use Rattle.swinglines.specs.Stream.{swingsFrom, stepsFrom, takes, noted, fresh, swingSaid, stepsAfter, stepsSaid};
+ghost use Rattle.swinglines.specs.Stream.{heard, said, stateAfter, saidAt, restOf, saidOf, saidAtEnd, saidLast, Told};
 
 // Whether the lines are the step log's, whether its total is known, the log, and what is read of a line that has not ended.
 pub struct State {

@@ -18,7 +18,8 @@ sets-more [] ws l i = rw add-zero
 sets-more (v ∷ vs) ws l i = rw (add-suc, ← suc-add) (sets-more vs ws (set l i v) (suc i))
 
 pub put-more :
-    {before middle out vs ws : List ℕ} {at next end : ℕ} → Put before at vs middle next → Put middle next ws out end → Put before at (vs ++ ws) out end
+    {before middle out vs ws : List ℕ} {at next end : ℕ} → Put before at vs middle next → Put middle next ws out end
+    → Put before at (vs ++ ws) out end
 put-more {before} {middle} {out} {vs} {ws} {at} {next} {end} p q = record {
   bytes = q .bytes ∙ rw (p .bytes, p .place) (sets-more vs ws before at);
   place = rw length-append (omega (arith, p .place, q .place));

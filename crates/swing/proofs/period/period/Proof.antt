@@ -52,7 +52,11 @@ returns-2 c =
 returns-3 : tie.Need-returns-3
 unfolding periodOf
 returns-3 c =
-    settled _ _ _ _ (rw (sym (c .before .before .before .in-range .ensures) ∙ c .before .before .if1 .taken, sym (c .before .in-range2 .ensures) ∙ c .if2 .left))
+    settled _ _ _ _ (rw (
+      sym (c .before .before .before .in-range .ensures) ∙ c .before .before .if1 .taken,
+      sym (c .before .in-range2 .ensures)
+          ∙ c .if2 .left,
+    ))
 
 pub period-spec : {M : Type 1} → statement M
 unfolding periodOf

@@ -8,7 +8,13 @@ use Rattle.swing.proofs.period.swing_time.Tie as tie
 returns : tie.Need-returns
 unfolding swung
 returns c =
-    rw (sym (c .before .before .before .quotient .ensures), sym (c .before .before .four-roots .ensures), sym (c .before .elliprf .ensures), sym (c .multiplied .ensures))
+    rw (
+      sym (c .before .before .before .quotient .ensures),
+      sym (c .before .before .four-roots .ensures),
+      sym (c .before .elliprf .ensures),
+      sym
+          (c .multiplied .ensures),
+    )
 
 pub swing-time-spec : {M : Type 1} → statement M
 swing-time-spec =

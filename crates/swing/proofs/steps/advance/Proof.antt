@@ -31,7 +31,8 @@ returns c =
     let a = k .before .before .before .args in
     let l = a .readings .now in
     let e : k .loop .log .sum ≡ stepsOf (a .total) l =
-    ap (λ (x : Log). x .sum) (sym (log-last l (k .loop .log) (k .loop .i) (c .loop-test .left)) ∙ k .loop .inv .1) ∙ log-steps l (a .total) (omega arith) in
+    ap (λ (x : Log). x .sum) (sym (log-last l (k .loop .log) (k .loop .i) (c .loop-test .left)) ∙ k .loop .inv .1)
+    ∙ log-steps l (a .total) (omega arith) in
     (e, steps-taken _ _ _ e)
 
 pub advance-spec : {M : Type 1} → statement M

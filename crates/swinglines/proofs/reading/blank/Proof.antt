@@ -12,6 +12,10 @@ blank-spec =
     (λ c. rw (c .before .before .if1 .taken, eq-eqb _ _ (c .if2 .taken)))
     (λ c. rw (c .before .before .before .before .if1 .taken, ne-eqb _ _ (c .before .before .if2 .left), eq-eqb _ _ (c .if3 .taken)))
     (λ c κs. tt)
-    (λ c. rw (c .before .before .before .before .before .if1 .taken, ne-eqb _ _ (c .before .before .before .if2 .left), ne-eqb _ _ (c .before .if3 .left)) (c .spoilt .ensures))
+    (λ c. rw (
+      c .before .before .before .before .before .if1 .taken,
+      ne-eqb _ _ (c .before .before .before .if2 .left),
+      ne-eqb _ _ (c .before .if3 .left),
+    ) (c .spoilt .ensures))
     (λ c κs. tt)
     (λ c. rw (c .before .if1 .left) (c .spoilt2 .ensures)))

@@ -13,7 +13,8 @@ use Rattle.swinglines.specs.Replies.{numberText}
 use Rattle.swinglines.proofs.replies.put_number.Statement.{statement}
 use Rattle.swinglines.proofs.replies.put_number.Tie as tie
 
-numbered : (o out : List ℕ) (at n b k end : ℕ) → k ≡ placesOf 19 n → Put o at (digits 10 k n) out end → Put o at (numberText n b) (set out end b) (end + 1)
+numbered : (o out : List ℕ) (at n b k end : ℕ) → k ≡ placesOf 19 n → Put o at (digits 10 k n) out end
+    → Put o at (numberText n b) (set out end b) (end + 1)
 unfolding numberText decimal
 numbered o out at n b k end e p = put-more (rw e at p) (put-byte out end b)
 

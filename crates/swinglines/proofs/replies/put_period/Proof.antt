@@ -17,7 +17,8 @@ use Rattle.swinglines.proofs.replies.put_period.Statement.{statement}
 use Rattle.swinglines.proofs.replies.put_period.Tie as tie
 
 timed :
-    (f : Found) (o half out : List ℕ) (at bits t blank end : ℕ) → bits ≡ toBits binary64 (f .value) → t ≡ ticksOf (f .value) → Put o at (digits 16 16 bits) half blank
+    (f : Found) (o half out : List ℕ) (at bits t blank end : ℕ) → bits ≡ toBits binary64 (f .value) → t ≡ ticksOf (f .value)
+    → Put o at (digits 16 16 bits) half blank
     → Put (set half blank 32) (blank + 1) (secondsText t) out end → Put o at (periodText f) (set out end 10) (end + 1)
 unfolding periodText
 timed f o half out at bits t blank end e g p q = put-more (put-more (rw e at p) (put-byte half blank 32)) (put-more (rw g at q) (put-byte out end 10))
@@ -30,7 +31,8 @@ kept : (c : tie.After-spell) → length (c .spell .last .1 .1 .1 .0) ≡ length 
 kept c = put-length (c .spell .ensures)
 
 -- the seconds are at most 33 bytes
-ended : (c : tie.After-put-seconds) → c .put-seconds .result ≤ c .before .before .before .before .before .before .before .before .before .args .at + 50
+ended : (c : tie.After-put-seconds)
+    → c .put-seconds .result ≤ c .before .before .before .before .before .before .before .before .before .args .at + 50
 ended c = omega (arith, place-most 33 (c .put-seconds .ensures) (seconds-length _), spelled (c .before .before .before .before .before))
 
 still : (c : tie.After-put-seconds)

@@ -43,7 +43,8 @@ pattern-in x bits X e = bounded bits (X .n) (pattern-of x bits X e) (X .low) (X 
 same-ratio : (N d M U a b D : ℕ) → 0 < a → N * D ≡ M * a * d → a * b ≡ D → N * U * b ≡ M * U * d
 same-ratio N d M U a b D A e f =
     eq-of-mul-eq-mul-right a A (N * U * b) (M * U * d)
-    (ring 7 (λ N d M U a b D. (N :* U times a :* b ≼ D) ∷ (U times N :* D ≼ M :* a :* d) ∷ [] ⊩ N :* U :* b :* a ≈ M :* U :* d :* a) tt N d M U a b D f e)
+    (ring 7 (λ N d M U a b D. (N :* U times a :* b ≼ D) ∷ (U times N :* D ≼ M :* a :* d) ∷ []
+    ⊩ N :* U :* b :* a ≈ M :* U :* d :* a) tt N d M U a b D f e)
 
 powers : (f : ℕ) → 1012 ≤ f → f ≤ 1042 → 2 ^ (f - 1) * 2 ^ (1075 - f) ≡ 2 ^ 1074
 powers f l h = sym (pow-add 2 (f - 1) (1075 - f)) ∙ ap (λ (z : ℕ). 2 ^ z) (joined f l h)
@@ -67,7 +68,8 @@ ticked x bits X e =
     let u : value (X .n) ≡ M * 2 ^ (f - 1) = ap value (sym (pattern-of x bits X e)) ∙ value-high bits (normal bits P) in
     let v : num x * 2 ^ 1074 ≡ M * 2 ^ (f - 1) * den x = value→cross x (value (X .n)) (2 ^ 1074) (has-value X) ∙ ap (λ (z : ℕ). z * den x) u in
     closest-same (M * 1000000000000) (2 ^ (1075 - f)) (num x * 1000000000000) (den x) (pow-pos (1075 - f)) (den-pos x)
-    (sym (same-ratio (num x) (den x) M 1000000000000 (2 ^ (f - 1)) (2 ^ (1075 - f)) (2 ^ 1074) (pow-pos (f - 1)) v (powers f (field bits P .0) (field bits P .1))))
+    (sym (same-ratio (num x) (den x) M 1000000000000 (2 ^ (f - 1)) (2 ^ (1075 - f)) (2 ^ 1074) (pow-pos (f - 1)) v
+    (powers f (field bits P .0) (field bits P .1))))
 
 sub-scaled : tie.Need-sub-scaled
 sub-scaled c = let p = field _ (pattern-in _ _ (c .before .pre) (c .split .ensures)) in omega arith

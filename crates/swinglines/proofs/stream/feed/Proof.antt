@@ -15,7 +15,8 @@ use Rattle.swinglines.proofs.stream.feed.Statement.{statement}
 use Rattle.swinglines.proofs.stream.feed.Tie as tie
 
 cut :
-    (block o out : List ℕ) (s t : State) (k next : ℕ) → k ≡ min (length block) 1024 → Told (restOf s (take k block)) (saidOf s (take k block)) t o 0 out next
+    (block o out : List ℕ) (s t : State) (k next : ℕ) → k ≡ min (length block) 1024
+    → Told (restOf s (take k block)) (saidOf s (take k block)) t o 0 out next
     → Told (restOf s (take 1024 block)) (saidOf s (take 1024 block)) t o 0 out next
 cut block o out s t k next e p = rw (take-least block (length block) 1024 k refl e) at p
 

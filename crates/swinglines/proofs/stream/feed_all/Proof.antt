@@ -26,7 +26,8 @@ unfolding restOf saidOf
 nothing s o = record { state = refl; words = record { bytes = refl; place = refl } }
 
 one-more :
-    (block o half out : List ℕ) (s m after : State) (i h next : ℕ) → i < length block → Told (restOf s (take i block)) (saidOf s (take i block)) m o 0 half h
+    (block o half out : List ℕ) (s m after : State) (i h next : ℕ) → i < length block
+    → Told (restOf s (take i block)) (saidOf s (take i block)) m o 0 half h
     → Told (stateAfter m (getD block i 0)) (saidAt m (getD block i 0)) after half h out next
     → Told (restOf s (take (i + 1) block)) (saidOf s (take (i + 1) block)) after o 0 out next
 one-more block o half out s m after i h next k p q = rw (add-one, take-suc block i 0 k) (told-more (take i block) (getD block i 0) s p q)

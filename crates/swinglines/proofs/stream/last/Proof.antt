@@ -17,7 +17,8 @@ unfolding saidLast
 ended s o out next e p = subst (λ (b : Bool). Put o 0 (cond b (saidAtEnd s) (said s ++ saidAtEnd (heard s))) out next) (sym e) p
 
 begun :
-    (s t : State) (o half out : List ℕ) (h next : ℕ) → atStart (s .reading) ≡ false → Told (heard s) (said s) t o 0 half h → Put half h (saidAtEnd t) out next
+    (s t : State) (o half out : List ℕ) (h next : ℕ) → atStart (s .reading) ≡ false → Told (heard s) (said s) t o 0 half h
+    → Put half h (saidAtEnd t) out next
     → Put o 0 (saidLast s) out next
 unfolding saidLast
 begun s t o half out h next e p q =
@@ -27,8 +28,10 @@ begun s t o half out h next e p q =
 returns : tie.Need-returns
 returns c =
     let k = c .before .before in
-    let p = k .closing .ensures in
-    (ended _ _ _ _ (sym (k .before .before .before .nothing .ensures) ∙ k .before .before .if1 .taken) p, omega (arith, place-most 29 p (said-end-length _)))
+    let p = k .closing .ensures in (
+      ended _ _ _ _ (sym (k .before .before .before .nothing .ensures) ∙ k .before .before .if1 .taken) p,
+      omega (arith, place-most 29 p (said-end-length _)),
+    )
 
 returns-2 : tie.Need-returns-2
 returns-2 c =
@@ -48,6 +51,8 @@ last-spec =
     (λ c. put-length (returns c .0))
     returns
     (λ c κs. omega arith)
-    (λ c κs. let e = c .before .before .before .before in omega (arith, place-most 51 (e .line-end .ensures .words) (said-length _), put-length (e .line-end .ensures .words)))
+    (λ c κs.
+    let e = c .before .before .before .before in
+    omega (arith, place-most 51 (e .line-end .ensures .words) (said-length _), put-length (e .line-end .ensures .words)))
     (λ c. put-length (returns-2 c .0))
     returns-2)

@@ -19,7 +19,8 @@ module _ (s t : State) (l : Line) (o out : List ℕ) (at next : ℕ) (is : l ≡
 
   said-is : (b : Bool) → s .counting ≡ b → cond b (stepsSaid s l) (swingSaid l) ≡ said s
   unfolding said saidTo
-  said-is b e = ap (λ (c : Bool). cond c (stepsSaid s l) (swingSaid l)) (sym e) ∙ ap (λ (k : Line). cond (s .counting) (stepsSaid s k) (swingSaid k)) is
+  said-is b e =
+      ap (λ (c : Bool). cond c (stepsSaid s l) (swingSaid l)) (sym e) ∙ ap (λ (k : Line). cond (s .counting) (stepsSaid s k) (swingSaid k)) is
 
   told : (b : Bool) → s .counting ≡ b → Told (cond b (stepsAfter s l) (fresh s)) (cond b (stepsSaid s l) (swingSaid l)) t o at out next
       → Told (heard s) (said s) t o at out next

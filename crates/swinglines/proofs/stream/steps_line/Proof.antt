@@ -16,7 +16,8 @@ use Rattle.swinglines.proofs.stream.steps_line.Statement.{statement}
 use Rattle.swinglines.proofs.stream.steps_line.Tie as tie
 
 taken :
-    (s t : State) (l : Line) (n : ℕ) (o : List ℕ) (at : ℕ) → l ≡ One n → takes (s .known) n ≡ true → t ≡ noted s n → Told (stepsAfter s l) (stepsSaid s l) t o at o at
+    (s t : State) (l : Line) (n : ℕ) (o : List ℕ) (at : ℕ) → l ≡ One n → takes (s .known) n ≡ true → t ≡ noted s n
+    → Told (stepsAfter s l) (stepsSaid s l) t o at o at
 unfolding stepsAfter stepsSaid
 taken s t l n o at e f g = record { state = rw (e, f) g; words = rw (e, f) (record { bytes = refl; place = sym (add-zero at) }) }
 

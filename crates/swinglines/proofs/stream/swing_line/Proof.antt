@@ -17,7 +17,8 @@ use Rattle.swinglines.proofs.stream.swing_line.Statement.{statement}
 use Rattle.swinglines.proofs.stream.swing_line.Tie as tie
 
 answered :
-    (s t : State) (a : Answer) (l : Line) (length height gravity : ℕ) (o out : List ℕ) (at next : ℕ) → l ≡ Three length height gravity → a ≡ periodOf length height gravity
+    (s t : State) (a : Answer) (l : Line) (length height gravity : ℕ) (o out : List ℕ) (at next : ℕ) → l ≡ Three length height gravity
+    → a ≡ periodOf length height gravity
     → t ≡ fresh s → Put o at (swingText a) out next → Told (fresh s) (swingSaid l) t o at out next
 unfolding swingSaid
 answered s t a l length height gravity o out at next e f g p = record { state = g; words = rw e (rw f at p) }
@@ -32,7 +33,8 @@ returns : tie.Need-returns
 returns c =
     let k = c .before .before in
     let p = k .before .before in
-    answered _ _ _ _ _ _ _ _ _ _ _ (p .before .before .before .line .given .1) (p .period .ensures .0) (p .before .renewed .ensures) (k .put-swing .ensures)
+    answered _ _ _ _ _ _ _ _ _ _ _ (p .before .before .before .line .given .1) (p .period .ensures .0) (p .before .renewed .ensures)
+    (k .put-swing .ensures)
 
 returns-2 : tie.Need-returns-2
 unfolding swingSaid

@@ -24,7 +24,8 @@ Inv-loop n base k out₀ at i₀ rest₀ out i rest = (i ≤ k) × (length out �
 abbrev μ-loop : tie.MeasureT-loop
 μ-loop n base k out₀ at i₀ rest₀ out i rest = i
 
-store : (base i j n : ℕ) (o : List ℕ) (at g : ℕ) → i ≡ suc j → g ≡ glyphOf (n % base) → spelled base j (n / base) (set o (at + j) g) at ≡ spelled base i n o at
+store : (base i j n : ℕ) (o : List ℕ) (at g : ℕ) → i ≡ suc j → g ≡ glyphOf (n % base)
+    → spelled base j (n / base) (set o (at + j) g) at ≡ spelled base i n o at
 unfolding spelled
 store base i j n o at g e f = rw (e, f)
 
@@ -48,15 +49,21 @@ glyph-requires c κs = omega (arith, mod-lt (c .before .loop .rest) (c .before .
 loop-again : tie.Need-loop-again Inv-loop μ-loop
 loop-again c =
     let l = c .before .before .loop in
-    let a = c .before .before .before .before .args in
-    (omega arith, simp length-set (l .inv .1), store (a .base) (l .i) (l .i - 1) (l .rest) (l .out) (a .at) (c .glyph .result) (omega arith) (c .glyph .ensures) ∙ l .inv .2)
+    let a = c .before .before .before .before .args in (
+      omega arith,
+      simp length-set (l .inv .1),
+      store (a .base) (l .i) (l .i - 1) (l .rest) (l .out) (a .at) (c .glyph .result) (omega arith)
+          (c .glyph .ensures) ∙ l .inv .2,
+    )
 
 returns : tie.Need-returns Inv-loop μ-loop
 returns c =
     let l = c .before .loop in
     let a = c .before .before .before .args in
     record {
-      bytes = sym (none-left (a .base) (l .i) (l .rest) (l .out) (a .at) (c .loop-test .left)) ∙ l .inv .2 ∙ written (a .base) (a .k) (a .n) (now (a .out)) (a .at);
+      bytes =
+          sym (none-left (a .base) (l .i) (l .rest) (l .out) (a .at) (c .loop-test .left)) ∙ l .inv .2
+          ∙ written (a .base) (a .k) (a .n) (now (a .out)) (a .at);
       place = rw digits-length;
     }
 
