@@ -177,3 +177,60 @@ fn logs(random: &mut Random, n: u64) -> u64 {
     println!("step logs: 9 named and {n} by chance ({refused} refused 13), {wrong} differ, {miscounted} not the steps taken");
     wrong + miscounted
 }
+
+/// The fixtures of the programs `swings` and `steps`, by a reader and a writer of lines of the oracle's own.
+#[cfg(test)]
+mod tests {
+    use super::*;
+    use std::{fs, path::Path};
+
+    fn fixture(program: &str, file: &str) -> String {
+        let folder = Path::new(env!("CARGO_MANIFEST_DIR")).join("../crates").join(program);
+        fs::read_to_string(folder.join(file)).expect("a program of the repository has its fixture")
+    }
+
+    /// The numbers of a line, if that is all it has: each in its shortest form, one blank between.
+    fn numbers(line: &str) -> Option<Vec<u64>> {
+        line.split(' ').map(|word| word.parse::<u64>().ok().filter(|n| n.to_string() == word)).collect()
+    }
+
+    /// The f64's exact value to 12 places, half to even. It is below 2^63 and no less than 2^-11.
+    fn seconds(value: f64) -> String {
+        let bits = value.to_bits();
+        let (digits, shift) = ((1 << 52) + u128::from(bits % (1 << 52)), 1075 - (bits >> 52));
+        let (exact, one) = (digits * 1_000_000_000_000, 1u128 << shift);
+        let (whole, rest) = (exact / one, exact % one * 2);
+        let ticks = whole + u128::from(rest > one || rest == one && whole % 2 == 1);
+        format!("{}.{:012}", ticks / 1_000_000_000_000, ticks % 1_000_000_000_000)
+    }
+
+    #[test]
+    fn swings() {
+        let mut said = String::new();
+        for line in fixture("swings", "stdin").lines() {
+            said += &match numbers(line).as_deref() {
+                Some(&[length, height, gravity]) => match judged((length, height, gravity)) {
+                    Answer::Value(bits, _) => format!("{bits:016X} {}\n", seconds(f64::from_bits(bits))),
+                    Answer::Refused(number) => format!("refused {number}\n"),
+                },
+                _ => "bad line\n".to_string(),
+            };
+        }
+        assert_eq!(said, fixture("swings", "stdout"));
+    }
+
+    #[test]
+    fn steps() {
+        let (mut said, mut total, mut readings) = (String::new(), None, Vec::new());
+        for line in fixture("steps", "stdin").lines() {
+            match (numbers(line).as_deref(), total) {
+                (Some(&[n]), None) => total = Some(n),
+                (Some(&[n]), Some(_)) if n < 65536 => readings.push(n as u16),
+                _ => said += "bad line\n",
+            }
+        }
+        let sum = summed(total.expect("the fixture has a total"), &readings);
+        said += &sum.map_or("refused 13\n".to_string(), |sum| format!("{sum}\n"));
+        assert_eq!(said, fixture("steps", "stdout"));
+    }
+}
