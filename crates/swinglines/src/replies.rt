@@ -1,4 +1,5 @@
 // The text of an answer, from a place of a lent slice on; the place after it.
+use crate::seconds::TRILLION;
 use crate::seconds::ticks;
 use binary64::split;
 use carlson::answer::Answer;
@@ -14,8 +15,6 @@ ghost use Rattle.swing.specs.Ratios.{power};
 ghost use Rattle.swing.specs.Bounded.{Bounded};
 ghost use Rattle.writing.specs.Written.{Put};
 ghost use Rattle.swinglines.specs.Replies.{numberText, secondsText, periodText, refusedText, swingText, totalText};
-
-const TRILLION: u64 = 1_000_000_000_000;
 
 // A number in decimal and a byte after it.
 fn put_number(n: u64, end: u8, out: &mut [u8], at: usize) -> usize

@@ -12,7 +12,8 @@ ghost use Rattle.swinglines.specs.Replies.{ticksOf};
 
 const FIELD: u64 = 0x10_0000_0000_0000; // 2 ^ 52
 
-const TRILLION: u64 = 1_000_000_000_000;
+// How many units of 10^-12 s a second has.
+pub const TRILLION: u64 = 1_000_000_000_000;
 
 // q, or the next: by the remainder r beside the half of what it is a remainder by.
 fn nearer(q: u64, r: u64, half: u64) -> u64
