@@ -55,13 +55,13 @@ fn both(call: &Call, theirs: Theirs) -> Option<(f64, f64)> {
     Some((ours, value(with(theirs, || call.judged()).answer)?))
 }
 
-const TOP: u32 = 40;
+const TOP: u32 = 64;
 
-/// The first by the arguments' sum, then in order: x, y, z from 0 and p of either sign.
+/// The first by the largest of the four, then in order: x, y, z from 0 and p from 1, of either sign.
 fn smallest(theirs: Theirs) -> Option<(Call, f64, f64)> {
-    (1..=TOP).find_map(|sum| {
-        let parts = (0..=sum).flat_map(|x| (0..=sum - x).flat_map(move |y| (0..=sum - x - y).map(move |z| (x, y, z, sum - x - y - z))));
-        parts.filter(|&(.., p)| p > 0).find_map(|(x, y, z, p)| {
+    (1..=TOP).find_map(|top| {
+        let parts = (0..=top).flat_map(|x| (0..=top).flat_map(move |y| (0..=top).flat_map(move |z| (1..=top).map(move |p| [x, y, z, p]))));
+        parts.filter(|all| all.contains(&top)).find_map(|[x, y, z, p]| {
             [1.0, -1.0].into_iter().find_map(|sign| {
                 let call = Call::new(Entry::RJ, &[f64::from(x), f64::from(y), f64::from(z), sign * f64::from(p)]);
                 let (ours, other) = both(&call, theirs)?;

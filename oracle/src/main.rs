@@ -4,6 +4,7 @@ mod aims;
 mod call;
 mod compare;
 mod diff;
+mod effect;
 mod examples;
 mod families;
 mod fuzz;
@@ -21,7 +22,7 @@ mod units;
 use std::process::ExitCode;
 
 const USAGE: &str = "oracle examples | make-list | check-list | call | diff N [SEED] | leaf NAME N [SEED] | answers NAME |
-       compare N [SEED [THREADS]] | swing N [SEED] | fuzz SECONDS [SEED]";
+       compare N [SEED [THREADS]] | effect N [SEED] | swing N [SEED] | fuzz SECONDS [SEED]";
 
 fn main() -> ExitCode {
     let words: Vec<String> = std::env::args().skip(1).collect();
@@ -36,6 +37,8 @@ fn main() -> ExitCode {
         ["compare", n] => compare::run(number(n), 1, compare::all_threads()),
         ["compare", n, seed] => compare::run(number(n), number(seed), compare::all_threads()),
         ["compare", n, seed, threads] => compare::run(number(n), number(seed), number(threads)),
+        ["effect", n] => effect::run(number(n), 1),
+        ["effect", n, seed] => effect::run(number(n), number(seed)),
         ["fuzz", seconds] => fuzz::run(number(seconds), 1),
         ["fuzz", seconds, seed] => fuzz::run(number(seconds), number(seed)),
         ["answers", name] => leaf::answers(name),

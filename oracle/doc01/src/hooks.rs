@@ -14,6 +14,27 @@ thread_local! {
     static DEPTH: Cell<u32> = const { Cell::new(0) };
     static DEEPEST: Cell<u32> = const { Cell::new(0) };
     static SERIES: Cell<bool> = const { Cell::new(false) };
+    static THEIRS: Cell<Theirs> = const { Cell::new(Theirs::Nothing) };
+}
+
+/// Which one of document 01's rules is left to the crate as it is, to see what that rule alone changes.
+#[derive(Clone, Copy, Debug, PartialEq, Eq)]
+pub enum Theirs {
+    Nothing,
+    Polynomial,
+    Power,
+}
+
+/// Makes a call with that rule left to the crate.
+pub fn with<A>(theirs: Theirs, call: impl FnOnce() -> A) -> A {
+    THEIRS.set(theirs);
+    let answer = call();
+    THEIRS.set(Theirs::Nothing);
+    answer
+}
+
+pub fn is_theirs(what: Theirs) -> bool {
+    THEIRS.get() == what
 }
 
 /// The payload of the unwinding: a number for no.

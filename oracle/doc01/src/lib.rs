@@ -15,6 +15,7 @@ mod start;
 
 use polyeval::polyeval;
 
+pub use hooks::{with, Theirs};
 pub use judge::{rc, rd, rf, rg, rj, Answer, Judged};
 pub use numbers::refusal;
 pub use power::neg_three_halves;

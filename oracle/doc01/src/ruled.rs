@@ -103,7 +103,9 @@ impl Float for Ruled {
     }
     /// The Rust asks for two powers only.
     fn powf(self, n: Ruled) -> Ruled {
-        if n.0 == -1.5 {
+        if n.0 == -1.5 && hooks::is_theirs(hooks::Theirs::Power) {
+            Ruled(self.0.powf(-1.5))
+        } else if n.0 == -1.5 {
             Ruled(power::neg_three_halves(self.0))
         } else {
             assert_eq!(n.0, -0.125, "a power that document 01 does not name");
