@@ -1,5 +1,6 @@
 /*
- * Gatewren: Carlson's elliptic integrals RC, RF, RD, RG and RJ on doubles, proved to the last bit, and the leaves they stand on.
+ * Gatewren: Carlson's elliptic integrals RC, RF, RD, RG and RJ on doubles, proved to the last bit, the leaves they stand on, and the
+ * swing time of the knee bench.
  *
  * Link libgatewren.a (rt staticlib gatewren) or libgatewren.so (./gatewren shared). Neither wants the C maths library.
  * The code counts on what IEEE 754 and C start with: rounding to nearest, and subnormal numbers kept.
@@ -7,6 +8,7 @@
 #ifndef GATEWREN_H
 #define GATEWREN_H
 
+#include <stddef.h>
 #include <stdint.h>
 
 #ifdef __cplusplus
@@ -25,7 +27,10 @@ enum gatewren_outcome {
     GATEWREN_RC_NO_RESULT = 7,  /* RC ends so */
     GATEWREN_RG_NO_RESULT = 8,  /* RG ends so */
     GATEWREN_AGM_SPENT = 9,     /* the cap of 40 on RD's or RG's mean is spent */
-    GATEWREN_TOO_DEEP = 10      /* RJ would call itself a fifth time */
+    GATEWREN_TOO_DEEP = 10,     /* RJ would call itself a fifth time */
+    GATEWREN_OUT_OF_RANGE = 11, /* a swing's length is not 1 to 10,000,000 or its gravity not 1 to 20,000,000 */
+    GATEWREN_HEIGHT = 12,       /* a swing's height is not 1 to 2 * length - 1 */
+    GATEWREN_SUM_TOO_LARGE = 13 /* the step log's total would pass 2^64 - 1 */
 };
 
 /*
@@ -50,6 +55,19 @@ uint32_t gatewren_rg(double x, double y, double z, double *value, uint32_t *roun
 
 /* RJ(x, y, z, p); for p below zero its Cauchy principal value. Returns 0, 1, 2, 3, 4, 6, 9 or 10. */
 uint32_t gatewren_rj(double x, double y, double z, double p, double *value, uint32_t *rounds);
+
+/*
+ * The knee bench: whole micrometres, and micrometres per second squared.
+ */
+
+/* The period of an ideal swing in seconds: equivalent length, release height above the low point, gravity. As an entry answers:
+   0 with both written, or 11 or 12 with neither touched. */
+uint32_t gatewren_swing(uint64_t length, uint64_t height, uint64_t gravity, double *value, uint32_t *rounds);
+
+/* Adds to *total the steps between n successive readings of a 16-bit counter, each the later less the earlier modulo 65,536;
+   none or one adds 0. Right if fewer than 65,536 steps lie between two readings. Returns 0; or 13, and *total is as it was.
+   total is not null and points to none of the readings; readings may be null only where n is 0. */
+uint32_t gatewren_steps(uint64_t *total, const uint16_t *readings, size_t n);
 
 /*
  * The leaves. A leaf always returns a number; where the exact result is none, that is a NaN, and which NaN is left open.

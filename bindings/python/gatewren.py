@@ -1,4 +1,5 @@
-"""Gatewren for Python: Carlson's elliptic integrals rc, rf, rd, rg, rj, and the leaves they stand on.
+"""Gatewren for Python: Carlson's elliptic integrals rc, rf, rd, rg, rj, the leaves they stand on, and the knee bench's swing time
+and step log.
 
 What is called is the proved library as a shared object, which `./gatewren shared` builds; GATEWREN_SO may name another place.
 
@@ -15,11 +16,12 @@ answer, and use as a condition raise an error, so that it is never taken for a n
 
 import ctypes
 import enum
+import operator
 import os
 import pathlib
 
-__all__ = ["Refusal", "Answer", "Value", "Refused", "rc", "rf", "rd", "rg", "rj"]
-__all__ += ["sqrt", "mul_add", "pow_neg_3_2", "atan", "ln", "ln_1p"]
+__all__ = ["Refusal", "Answer", "Value", "Total", "Refused", "rc", "rf", "rd", "rg", "rj"]
+__all__ += ["swing", "steps", "sqrt", "mul_add", "pow_neg_3_2", "atan", "ln", "ln_1p"]
 
 
 class Refusal(enum.Enum):
@@ -35,10 +37,13 @@ class Refusal(enum.Enum):
     RG_NO_RESULT = 8  # RG ends so
     AGM_SPENT = 9  # the cap on RD's or RG's mean is spent
     TOO_DEEP = 10  # RJ would call itself a fifth time
+    OUT_OF_RANGE = 11  # a swing's length is not 1 to 10,000,000 or its gravity not 1 to 20,000,000
+    HEIGHT = 12  # a swing's height is not 1 to 2L - 1
+    SUM_TOO_LARGE = 13  # the step log's total would pass 2^64 - 1
 
 
 class Answer:
-    """A Value or a Refused. It is compared with other answers only, and is neither true nor false."""
+    """A Value, a Total or a Refused. It is compared with other answers only, and is neither true nor false."""
 
     __slots__ = ()
 
@@ -78,6 +83,25 @@ class Value(Answer):
 
     def __repr__(self):
         return f"Value(value={self.value!r}, rounds={self.rounds!r})"
+
+
+class Total(Answer):
+    """A step log's new total."""
+
+    __slots__ = ("steps",)
+    __match_args__ = ("steps",)
+
+    def __init__(self, steps):
+        object.__setattr__(self, "steps", steps)
+
+    def _parts(self):
+        return (self.steps,)
+
+    def __index__(self):
+        return self.steps
+
+    def __repr__(self):
+        return f"Total(steps={self.steps!r})"
 
 
 class Refused(Answer):
@@ -148,6 +172,41 @@ rf = _entry("rf", 3, "RF(x, y, z).")
 rd = _entry("rd", 3, "RD(x, y, z).")
 rg = _entry("rg", 3, "RG(x, y, z).")
 rj = _entry("rj", 4, "RJ(x, y, z, p); for p below zero its Cauchy principal value.")
+
+_SWING = _symbol("swing", [ctypes.c_uint64] * 3 + [ctypes.POINTER(ctypes.c_double), ctypes.POINTER(ctypes.c_uint32)], ctypes.c_uint32)
+_STEPS = _symbol("steps", [ctypes.POINTER(ctypes.c_uint64), ctypes.POINTER(ctypes.c_uint16), ctypes.c_size_t], ctypes.c_uint32)
+
+
+def _whole(number, bits):
+    """A whole number of so many bits: ctypes would drop what is above them."""
+    number = operator.index(number)
+    if not 0 <= number < 2**bits:
+        raise ValueError(f"{number} is no whole number of {bits} bits")
+    return number
+
+
+def swing(length, height, gravity):
+    """The period of an ideal swing in seconds, from whole micrometres and micrometres per second squared.
+
+    >>> swing(250_000, 50_000, 9_806_650)
+    Value(value=1.0298016523976394, rounds=3)
+    """
+    value, rounds = ctypes.c_double(), ctypes.c_uint32()
+    number = _SWING(*(_whole(argument, 64) for argument in (length, height, gravity)), ctypes.byref(value), ctypes.byref(rounds))
+    return Value(value.value, rounds.value) if number == 0 else Refused(number)
+
+
+def steps(total, readings):
+    """The total with the steps between successive readings of a 16-bit counter added; right if fewer than 65,536 lie between two.
+
+    >>> steps(120_000, [65500, 65535, 12, 40])
+    Total(steps=120076)
+    """
+    held = [_whole(reading, 16) for reading in readings]
+    sum_of = ctypes.c_uint64(_whole(total, 64))
+    number = _STEPS(ctypes.byref(sum_of), (ctypes.c_uint16 * len(held))(*held), len(held))
+    return Total(sum_of.value) if number == 0 else Refused(number)
+
 
 sqrt = _leaf("sqrt", 1, "The square root, rounded once.")
 mul_add = _leaf("mul_add", 3, "a times b plus c, rounded once.")

@@ -77,6 +77,25 @@ class Examples(unittest.TestCase):
         self.assertTrue(math.isnan(gatewren.ln(1.5)))
         self.assertLess(abs(gatewren.ln_1p(-0.5) + math.log(2)), 1e-15)
 
+    def test_the_swing_time(self):
+        self.assertEqual(float(gatewren.swing(250_000, 50_000, 9_806_650)), of_bits(0x3FF07A114C26A24A))
+        self.assertEqual(gatewren.swing(0, 0, 0), Refused(Refusal.OUT_OF_RANGE))
+        self.assertEqual(gatewren.swing(1, 2, 1), Refused(Refusal.HEIGHT))
+        for bad in (-1, 2**64):
+            with self.assertRaises(ValueError):
+                gatewren.swing(bad, 1, 1)
+        with self.assertRaises(TypeError):
+            gatewren.swing(1.5, 1, 1)
+
+    def test_the_step_log(self):
+        self.assertEqual(gatewren.steps(7, []), gatewren.Total(7))
+        self.assertEqual(gatewren.steps(7, [65535, 0]), gatewren.Total(8))
+        self.assertEqual(int(gatewren.steps(7, [9, 9, 9])), 7)
+        self.assertEqual(gatewren.steps(2**64 - 1, [3, 4]), Refused(Refusal.SUM_TOO_LARGE))
+        for bad in ([-1], [65536]):
+            with self.assertRaises(ValueError):
+                gatewren.steps(0, bad)
+
     def test_the_number_of_arguments(self):
         for call in (rc, rf, rd, rg, rj, gatewren.sqrt, gatewren.mul_add):
             with self.assertRaises(TypeError, msg=call.__name__):
@@ -134,8 +153,8 @@ class Answers(unittest.TestCase):
             rf(-1, 1, 1).value = 1.0
 
     def test_every_number_has_a_meaning(self):
-        self.assertEqual([refusal.value for refusal in Refusal], list(range(1, 11)))
-        for number in (0, 11):
+        self.assertEqual([refusal.value for refusal in Refusal], list(range(1, 14)))
+        for number in (0, 14):
             with self.assertRaises(ValueError):
                 Refused(number)
 
@@ -156,7 +175,7 @@ class Interface(unittest.TestCase):
     def test_the_header_names_every_function_that_is_called(self):
         header = pathlib.Path(__file__).resolve().parents[2] / "include" / "gatewren.h"
         text = header.read_text()
-        names = ["rc", "rf", "rd", "rg", "rj", "sqrt", "mul_add", "pow_neg_3_2", "atan", "ln", "ln_1p"]
+        names = ["rc", "rf", "rd", "rg", "rj", "sqrt", "mul_add", "pow_neg_3_2", "atan", "ln", "ln_1p", "swing", "steps"]
         for name in names:
             self.assertIn(f"gatewren_{name}(", text)
         for refusal in Refusal:

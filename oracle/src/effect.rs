@@ -33,12 +33,9 @@ pub fn run(n: u64, seed: u64) -> bool {
             println!("  largest {units:.0} units at {call}");
         }
         match smallest(theirs) {
-            Some((call, ours, other)) => println!(
-                "  smallest input {:?}: {:016X}, with the crate's {:016X}",
-                call.args(),
-                ours.to_bits(),
-                other.to_bits()
-            ),
+            Some((call, ours, other)) => {
+                println!("  smallest input {:?}: {:016X}, with the crate's {:016X}", call.args(), ours.to_bits(), other.to_bits())
+            }
             None => println!("  no whole numbers up to {TOP} differ"),
         }
     }
@@ -60,7 +57,8 @@ const TOP: u32 = 64;
 /// The first by the largest of the four, then in order: x, y, z from 0 and p from 1, of either sign.
 fn smallest(theirs: Theirs) -> Option<(Call, f64, f64)> {
     (1..=TOP).find_map(|top| {
-        let parts = (0..=top).flat_map(|x| (0..=top).flat_map(move |y| (0..=top).flat_map(move |z| (1..=top).map(move |p| [x, y, z, p]))));
+        let parts = (0..=top)
+            .flat_map(|x| (0..=top).flat_map(move |y| (0..=top).flat_map(move |z| (1..=top).map(move |p| [x, y, z, p]))));
         parts.filter(|all| all.contains(&top)).find_map(|[x, y, z, p]| {
             [1.0, -1.0].into_iter().find_map(|sign| {
                 let call = Call::new(Entry::RJ, &[f64::from(x), f64::from(y), f64::from(z), sign * f64::from(p)]);

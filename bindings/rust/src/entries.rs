@@ -4,7 +4,7 @@ use crate::answer::Answer;
 use crate::symbols;
 
 /// A call of the C interface with places of its own to write to.
-fn told(call: impl FnOnce(&mut f64, &mut u32) -> u32) -> Answer {
+pub(crate) fn told(call: impl FnOnce(&mut f64, &mut u32) -> u32) -> Answer {
     let (mut value, mut rounds) = (0.0, 0);
     let number = call(&mut value, &mut rounds);
     Answer::told(number, value, rounds)

@@ -1,5 +1,5 @@
-//! Gatewren for Rust: Carlson's elliptic integrals [`rc`], [`rf`], [`rd`], [`rg`] and [`rj`], and the [`leaf`] functions they
-//! stand on. What is called is the proved library, libgatewren.a; here is only its dress.
+//! Gatewren for Rust: Carlson's elliptic integrals [`rc`], [`rf`], [`rd`], [`rg`] and [`rj`], the [`leaf`] functions they
+//! stand on, and the knee [`bench`]'s swing time and step log. What is called is the proved library, libgatewren.a; here is only its dress.
 //!
 //! ```
 //! use gatewren::{rf, Answer, Refusal};
@@ -9,6 +9,7 @@
 //! ```
 
 mod answer;
+pub mod bench;
 mod entries;
 pub mod leaf;
 mod symbols;

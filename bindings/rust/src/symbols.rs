@@ -6,6 +6,8 @@ extern "C" {
     pub fn gatewren_rd(x: f64, y: f64, z: f64, value: &mut f64, rounds: &mut u32) -> u32;
     pub fn gatewren_rg(x: f64, y: f64, z: f64, value: &mut f64, rounds: &mut u32) -> u32;
     pub fn gatewren_rj(x: f64, y: f64, z: f64, p: f64, value: &mut f64, rounds: &mut u32) -> u32;
+    pub fn gatewren_swing(length: u64, height: u64, gravity: u64, value: &mut f64, rounds: &mut u32) -> u32;
+    pub fn gatewren_steps(total: &mut u64, readings: *const u16, n: usize) -> u32;
     pub fn gatewren_sqrt(x: f64) -> f64;
     pub fn gatewren_mul_add(a: f64, b: f64, c: f64) -> f64;
     pub fn gatewren_pow_neg_3_2(a: f64) -> f64;

@@ -1,6 +1,6 @@
 //! Document 01's settled and printed examples, and the leaves at a few points, through the binding.
 
-use gatewren::{leaf, rc, rd, rf, rg, rj, Answer, Refusal};
+use gatewren::{bench, leaf, rc, rd, rf, rg, rj, Answer, Refusal};
 
 const INF: f64 = f64::INFINITY;
 const NAN: f64 = f64::NAN;
@@ -60,10 +60,10 @@ fn rounds_are_counted() {
 #[test]
 fn every_number_has_a_meaning() {
     let numbers: Vec<u32> = Refusal::ALL.iter().map(|refusal| refusal.number()).collect();
-    assert_eq!(numbers, (1..=10).collect::<Vec<u32>>());
+    assert_eq!(numbers, (1..=13).collect::<Vec<u32>>());
     assert!(Refusal::ALL.iter().all(|&refusal| Refusal::of(refusal.number()) == Some(refusal)));
     assert_eq!(Refusal::of(0), None);
-    assert_eq!(Refusal::of(11), None);
+    assert_eq!(Refusal::of(14), None);
     assert_eq!(Refusal::TooDeep.to_string(), "refused 10: RJ would call itself a fifth time");
 }
 
@@ -90,4 +90,28 @@ fn leaves() {
     assert!(leaf::ln(1.5).is_nan());
     assert!((leaf::ln_1p(-0.5) + std::f64::consts::LN_2).abs() < 1e-15);
     assert!(leaf::ln_1p(0.8).is_nan());
+}
+
+#[test]
+fn the_swing_time() {
+    let period = |length, height, gravity| bench::swing(length, height, gravity).value();
+    assert_eq!(period(250_000, 50_000, 9_806_650).map(f64::to_bits), Ok(0x3FF0_7A11_4C26_A24A));
+    assert_eq!(period(0, 0, 0), Err(Refusal::OutOfRange));
+    assert_eq!(period(10_000_001, 1, 1), Err(Refusal::OutOfRange));
+    assert_eq!(period(1, 1, 20_000_001), Err(Refusal::OutOfRange));
+    assert_eq!(period(u64::MAX, u64::MAX, u64::MAX), Err(Refusal::OutOfRange));
+    assert_eq!(period(1, 0, 1), Err(Refusal::Height));
+    assert_eq!(period(1, 2, 1), Err(Refusal::Height));
+    assert!(period(1, 1, 1).is_ok());
+}
+
+#[test]
+fn the_step_log() {
+    assert_eq!(bench::steps(7, &[]), Ok(7));
+    assert_eq!(bench::steps(7, &[65_535]), Ok(7));
+    assert_eq!(bench::steps(120_000, &[65_500, 65_535, 12, 40]), Ok(120_076));
+    assert_eq!(bench::steps(7, &[65_535, 0]), Ok(8));
+    assert_eq!(bench::steps(7, &[9, 9, 9]), Ok(7));
+    assert_eq!(bench::steps(u64::MAX - 1, &[3, 4]), Ok(u64::MAX));
+    assert_eq!(bench::steps(u64::MAX, &[3, 4]), Err(Refusal::SumTooLarge));
 }
