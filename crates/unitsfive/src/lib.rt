@@ -1,0 +1,1 @@
+// Laws only, no function: demand 3 for all five functions, in one place.
