@@ -9,10 +9,12 @@ mod examples;
 mod families;
 mod fuzz;
 mod gatewren;
+mod in_range;
 mod leaf;
 mod list;
 mod listing;
 mod random;
+mod rescale;
 mod shapes;
 mod swing;
 mod symbols;
@@ -22,7 +24,7 @@ mod units;
 use std::process::ExitCode;
 
 const USAGE: &str = "oracle examples | make-list | check-list | call | diff N [SEED] | leaf NAME N [SEED] | answers NAME |
-       compare N [SEED [THREADS]] | effect N [SEED] | swing N [SEED] | fuzz SECONDS [SEED]";
+       compare N [SEED [THREADS]] | units N [SEED] | effect N [SEED] | swing N [SEED] | fuzz SECONDS [SEED]";
 
 fn main() -> ExitCode {
     let words: Vec<String> = std::env::args().skip(1).collect();
@@ -39,6 +41,8 @@ fn main() -> ExitCode {
         ["compare", n, seed, threads] => compare::run(number(n), number(seed), number(threads)),
         ["effect", n] => effect::run(number(n), 1),
         ["effect", n, seed] => effect::run(number(n), number(seed)),
+        ["units", n] => rescale::run(number(n), 1),
+        ["units", n, seed] => rescale::run(number(n), number(seed)),
         ["fuzz", seconds] => fuzz::run(number(seconds), 1),
         ["fuzz", seconds, seed] => fuzz::run(number(seconds), number(seed)),
         ["answers", name] => leaf::answers(name),
