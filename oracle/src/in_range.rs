@@ -5,7 +5,7 @@ use crate::random::Random;
 use crate::shapes::{self, moved, power_of_two};
 
 /// The range's ends, as exponents of two.
-const END: i64 = 64;
+pub const END: i64 = 64;
 
 /// The k that keep a call of nothing but zeros, of which any would do, go so far either way.
 const FURTHEST: i64 = 64;

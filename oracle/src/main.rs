@@ -20,11 +20,12 @@ mod swing;
 mod symbols;
 mod tally;
 mod units;
+mod units_list;
 
 use std::process::ExitCode;
 
 const USAGE: &str = "oracle examples | make-list | check-list | call | diff N [SEED] | leaf NAME N [SEED] | answers NAME |
-       compare N [SEED [THREADS]] | units N [SEED] | effect N [SEED] | swing N [SEED] | fuzz SECONDS [SEED]";
+       compare N [SEED [THREADS]] | units N [SEED] | make-units | effect N [SEED] | swing N [SEED] | fuzz SECONDS [SEED]";
 
 fn main() -> ExitCode {
     let words: Vec<String> = std::env::args().skip(1).collect();
@@ -43,6 +44,7 @@ fn main() -> ExitCode {
         ["effect", n, seed] => effect::run(number(n), number(seed)),
         ["units", n] => rescale::run(number(n), 1),
         ["units", n, seed] => rescale::run(number(n), number(seed)),
+        ["make-units"] => units_list::make(),
         ["fuzz", seconds] => fuzz::run(number(seconds), 1),
         ["fuzz", seconds, seed] => fuzz::run(number(seconds), number(seed)),
         ["answers", name] => leaf::answers(name),
