@@ -2,7 +2,7 @@
 use crate::entries::told;
 ghost use mathlib.Core.Path.{_≡_};
 ghost use Rattle.swing.specs.Period.{periodOf};
-ghost use Rattle.swing.specs.Steps.{stepsOf, stepsNumber, keptTotal};
+ghost use Rattle.steplog.specs.Steps.{stepsOf, stepsNumber, keptTotal};
 ghost use Rattle.gatewren.specs.Told.{numberOf, valueAfter, roundsAfter};
 
 #[no_mangle]
@@ -29,5 +29,5 @@ pub extern "C" fn gatewren_steps(total: &mut u64, readings: &[u16]) -> u32
     ensures { λ r. ⌜ r ≡ stepsNumber (stepsOf (now (total .entry)) (now (readings .entry))) ⌝ }
     ensures { λ r. ⌜ now (total .exit) ≡ keptTotal (stepsOf (now (total .entry)) (now (readings .entry))) (now (total .entry)) ⌝ }
 {
-    swing::steps::add_steps(total, readings)
+    steplog::add_steps(total, readings)
 }

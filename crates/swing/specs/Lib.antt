@@ -5,5 +5,3 @@ pub mod Compared
 pub mod Ratios
 pub mod Mean
 pub mod Bounded
-pub mod Steps
-pub mod StepLaws

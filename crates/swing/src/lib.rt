@@ -1,3 +1,2 @@
-// The swing time and the step log (document 02, 2026-01): the layer that a technician uses, above the entries.
+// The swing time (document 02, 2026-01): the layer that a technician uses, above the entries.
 pub mod period;
-pub mod steps;

@@ -12,8 +12,8 @@ use Rattle.writing.specs.Written.{Put}
 use Rattle.carlson.specs.declared.answer.Found.{Found}
 use Rattle.carlson.specs.declared.answer.Answer.{Answer}
 use Rattle.carlson.specs.declared.answer.Answer.the-variants.{Value, Refused}
-use Rattle.swing.specs.declared.steps.Steps.{Steps}
-use Rattle.swing.specs.declared.steps.Steps.the-variants.{Total, Refused as NoTotal}
+use Rattle.steplog.specs.declared.Steps.{Steps}
+use Rattle.steplog.specs.declared.Steps.the-variants.{Total, Refused as NoTotal}
 use Rattle.swing.specs.Period.{periodOf}
 use Rattle.swinglines.specs.Reading.{lineOf}
 use Rattle.swinglines.specs.Stream.{takes, swingSaid, stepsSaid, saidTo, said, saidAt, saidAtEnd}

@@ -9,8 +9,8 @@ use Rattle.writing.specs.Decimal.{decimal}
 use Rattle.carlson.specs.declared.answer.Found.{Found}
 use Rattle.carlson.specs.declared.answer.Answer.{Answer}
 use Rattle.carlson.specs.declared.answer.Answer.the-variants.{Value, Refused}
-use Rattle.swing.specs.declared.steps.Steps.{Steps}
-use Rattle.swing.specs.declared.steps.Steps.the-variants.{Total, Refused as NoTotal}
+use Rattle.steplog.specs.declared.Steps.{Steps}
+use Rattle.steplog.specs.declared.Steps.the-variants.{Total, Refused as NoTotal}
 
 -- "exactly rounded to 12 places": the nearest whole number of 10^-12 s, half to even
 unfoldable pub ticksOf : Float → ℕ

@@ -6,7 +6,7 @@ use mathlib.Core.List.{List, [], _∷_, _++_}
 use lib.Dec.{eqb, ltb}
 use Rattle.writing.specs.Written.{Put}
 use Rattle.swing.specs.Period.{periodOf}
-use Rattle.swing.specs.Steps.{logFrom, logAfter}
+use Rattle.steplog.specs.Steps.{logFrom, logAfter}
 use Rattle.swinglines.specs.Reading.{startOf, byteAfter, lineOf, readLine, atStart}
 use Rattle.swinglines.specs.Replies.{swingText, totalText, badText}
 use Rattle.swinglines.specs.declared.reading.Line.{Line}

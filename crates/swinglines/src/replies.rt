@@ -4,7 +4,7 @@ use crate::seconds::ticks;
 use binary64::split;
 use carlson::answer::Answer;
 use carlson::answer::Found;
-use swing::steps::Steps;
+use steplog::Steps;
 use writing::places;
 use writing::put_text;
 use writing::spell;

@@ -1,9 +1,8 @@
 -- `logged` meets its contract, step by step as its definition. Assumes nothing.
 use mathlib.Core.Path.{sym}
-use borrow.Author.Needs.{needs}
-use Rattle.swing.specs.Steps.{logAfter}
-use Rattle.swing.proofs.steps.logged.Statement.{statement}
-use Rattle.swing.proofs.steps.logged.Tie as tie
+use Rattle.steplog.specs.Steps.{logAfter}
+use Rattle.steplog.proofs.logged.Statement.{statement}
+use Rattle.steplog.proofs.logged.Tie as tie
 
 returns : tie.Need-returns
 unfolding logAfter

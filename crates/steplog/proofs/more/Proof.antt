@@ -4,10 +4,10 @@ use mathlib.Core.Path.{_≡_}
 use native.Mathlib.Omega.{arith}
 use borrow.Author.Needs.{needs}
 use borrow.Author.Tests.{lt-ltb, le-ltb}
-use Rattle.swing.specs.Steps.{added, addedTo, too-large}
-use Rattle.swing.specs.declared.steps.Steps.the-variants.{Total, Refused}
-use Rattle.swing.proofs.steps.more.Statement.{statement}
-use Rattle.swing.proofs.steps.more.Tie as tie
+use Rattle.steplog.specs.Steps.{added, addedTo, too-large}
+use Rattle.steplog.specs.declared.Steps.the-variants.{Total, Refused}
+use Rattle.steplog.proofs.more.Statement.{statement}
+use Rattle.steplog.proofs.more.Tie as tie
 
 passes : (total n : ℕ) → total < 2 ^ 64 → 2 ^ 64 - 1 - total < n → Refused too-large ≡ added total n
 unfolding added

@@ -3,9 +3,9 @@ use Prim.Native.Nat.{ℕ, _+_, _%_, _<_}
 use mathlib.Core.Path.{_≡_}
 use borrow.Author.Needs.{needs}
 use native.Mathlib.Omega.{arith}
-use Rattle.swing.specs.Steps.{advanceOf}
-use Rattle.swing.proofs.steps.between.Statement.{statement}
-use Rattle.swing.proofs.steps.between.Tie as tie
+use Rattle.steplog.specs.Steps.{advanceOf}
+use Rattle.steplog.proofs.between.Statement.{statement}
+use Rattle.steplog.proofs.between.Tie as tie
 
 wrapped : (earlier later r : ℕ) → earlier < 65536 → later < 65536 → r < 65536 → (r + earlier) % 65536 ≡ later → r ≡ advanceOf earlier later
 unfolding advanceOf

@@ -4,9 +4,9 @@ use mathlib.Core.Path.{_≡_}
 use mathlib.Core.Bool.{true, false, cond}
 use mathlib.Core.List.{List, [], _∷_}
 use lib.Dec.{ltb}
-use Rattle.swing.specs.declared.steps.Log.{Log}
-use Rattle.swing.specs.declared.steps.Steps.{Steps}
-use Rattle.swing.specs.declared.steps.Steps.the-variants.{Total, Refused}
+use Rattle.steplog.specs.declared.Log.{Log}
+use Rattle.steplog.specs.declared.Steps.{Steps}
+use Rattle.steplog.specs.declared.Steps.the-variants.{Total, Refused}
 
 -- "13 sum too large"
 abbrev pub too-large : ℕ

@@ -1,14 +1,13 @@
 -- `advance` meets its contract. The invariant: what is left of the readings, logged, gives what all of them give. Assumes nothing.
 use Prim.Native.Nat.{_-_, _≤_}
-use mathlib.Core.Path.{_≡_, refl, sym, ap, _∙_}
+use mathlib.Core.Path.{_≡_, sym, ap, _∙_}
 use native.Mathlib.Omega.{arith}
-use borrow.Author.Needs.{needs}
 use lib.ListN.{length, drop}
-use Rattle.swing.specs.Steps.{logFrom, logAll, stepsOf}
-use Rattle.swing.specs.StepLaws.{log-next, log-last, log-steps, steps-taken}
-use Rattle.swing.specs.declared.steps.Log.{Log}
-use Rattle.swing.proofs.steps.advance.Statement.{statement}
-use Rattle.swing.proofs.steps.advance.Tie as tie
+use Rattle.steplog.specs.Steps.{logFrom, logAll, stepsOf}
+use Rattle.steplog.specs.StepLaws.{log-next, log-last, log-steps, steps-taken}
+use Rattle.steplog.specs.declared.Log.{Log}
+use Rattle.steplog.proofs.advance.Statement.{statement}
+use Rattle.steplog.proofs.advance.Tie as tie
 
 abbrev Inv-loop : tie.InvT-loop
 Inv-loop total readings log₀ i₀ log i = (i ≤ length readings) × (logAll log (drop i readings) ≡ logAll (logFrom total) readings)

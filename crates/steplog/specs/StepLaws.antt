@@ -11,7 +11,7 @@ use borrow.Author.Tests.{lt-ltb, le-ltb}
 use lib.ListN.{length, getD, drop, drop-of-length-le}
 use lib.Seq.{drop-cons}
 use Rattle.algebra.specs.Order.{lt-or-le}
-use Rattle.swing.specs.Steps.{
+use Rattle.steplog.specs.Steps.{
   advanceOf,
   advancesFrom,
   advances,
@@ -28,9 +28,9 @@ use Rattle.swing.specs.Steps.{
   lastOf,
   StepsTaken,
 }
-use Rattle.swing.specs.declared.steps.Log.{Log}
-use Rattle.swing.specs.declared.steps.Steps.{Steps}
-use Rattle.swing.specs.declared.steps.Steps.the-variants.{Total, Refused}
+use Rattle.steplog.specs.declared.Log.{Log}
+use Rattle.steplog.specs.declared.Steps.{Steps}
+use Rattle.steplog.specs.declared.Steps.the-variants.{Total, Refused}
 
 -- ---- the steps taken
 -- between two counts: fewer than 65,536, so that the counters tell them

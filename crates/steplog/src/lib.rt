@@ -1,6 +1,6 @@
 // The step log (document 02, 2026-01): a total, and what the 16-bit counter went on between successive readings.
 ghost use mathlib.Core.Path.{_≡_};
-ghost use Rattle.swing.specs.Steps.{advanceOf, addedTo, logFrom, logAfter, stepsOf, StepsTaken, keptTotal, stepsNumber};
+ghost use Rattle.steplog.specs.Steps.{advanceOf, addedTo, logFrom, logAfter, stepsOf, StepsTaken, keptTotal, stepsNumber};
 
 // Document 02's number for no: the sum would pass 2^64 - 1.
 const TOO_LARGE: u32 = 13;

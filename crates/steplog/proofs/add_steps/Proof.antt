@@ -1,9 +1,9 @@
 -- `add_steps` meets its contract: it stores what `advance` answers. Assumes nothing.
 use mathlib.Core.Path.{sym, _∙_}
 use borrow.Author.Needs.{needs}
-use Rattle.swing.specs.Steps.{keptTotal, stepsNumber}
-use Rattle.swing.proofs.steps.add_steps.Statement.{statement}
-use Rattle.swing.proofs.steps.add_steps.Tie as tie
+use Rattle.steplog.specs.Steps.{keptTotal, stepsNumber}
+use Rattle.steplog.proofs.add_steps.Statement.{statement}
+use Rattle.steplog.proofs.add_steps.Tie as tie
 
 returns : tie.Need-returns
 unfolding keptTotal stepsNumber
