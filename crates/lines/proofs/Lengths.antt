@@ -11,7 +11,8 @@ use Rattle.writing.specs.Decimal.{decimal}
 use Rattle.writing.specs.Places.{places-most}
 use Rattle.calls.specs.CallLaws.{digits-length, word-length}
 use Rattle.calls.specs.Calls.{callOf}
-use Rattle.lines.specs.Answers.{answerOf, countText, valueText, refusalText, afterName, textOf, replyTo, replyOf}
+use Rattle.answers.specs.Answers.{answerOf}
+use Rattle.lines.specs.Text.{countText, valueText, refusalText, afterName, textOf, replyTo, replyOf}
 use Rattle.lines.specs.Stream.{saidAt, saidOf}
 use Rattle.calls.specs.declared.Call.{Call}
 use Rattle.calls.specs.declared.Line.{Line}

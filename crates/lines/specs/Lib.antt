@@ -1,3 +1,3 @@
-pub mod Answers
+pub mod Text
 pub mod Stream
 pub mod StreamLaws

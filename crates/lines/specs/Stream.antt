@@ -5,7 +5,7 @@ use mathlib.Core.Bool.{cond}
 use mathlib.Core.List.{List, [], _∷_, _++_}
 use lib.Dec.{eqb, ltb}
 use lib.ListN.{take}
-use Rattle.lines.specs.Answers.{replyOf}
+use Rattle.lines.specs.Text.{replyOf}
 use Rattle.writing.specs.Input.{lastLine, linesFrom}
 use Rattle.writing.specs.Written.{Put}
 

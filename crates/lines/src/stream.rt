@@ -1,5 +1,5 @@
 // The listing as its input comes: what is held of a line that has not ended, and the replies to those that have.
-use crate::answers::put_reply;
+use crate::text::put_reply;
 ghost use mathlib.Core.Path.{_≡_};
 ghost use mathlib.Core.List.{[], _∷_};
 ghost use Prim.Native.Nat.{_+_, _*_, _≤_, min};

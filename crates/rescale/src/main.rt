@@ -91,7 +91,7 @@ fn count(tally: Tally, entry: usize, verdict: Verdict) -> Tally {
 fn take_call(call: Call, tally: Tally) -> Tally {
     let entry = place(call);
     let mut t = count_call(tally, entry);
-    let first = lines::answer_of(call);
+    let first = answers::answer_of(call);
     let mut j: u64 = 0;
     while j <= 128 {
         t = count(t, entry, judge(call, first, j));

@@ -201,7 +201,7 @@ pub fn judge(call: Call, first: Answer, j: u64) -> Verdict
     }
     let other = scaled(call, j);
     if asked(other) {
-        let second = lines::answer_of(other);
+        let second = answers::answer_of(other);
         return compare(call, j, first, second);
     }
     Verdict::Outside

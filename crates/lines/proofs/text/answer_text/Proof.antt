@@ -8,8 +8,8 @@ use lib.Seq.{length-take-le}
 use denote.Ref.{now}
 use Rattle.writing.specs.Written.{put-length}
 use Rattle.lines.proofs.Lengths.{text-length}
-use Rattle.lines.proofs.answers.answer_text.Statement.{statement}
-use Rattle.lines.proofs.answers.answer_text.Tie as tie
+use Rattle.lines.proofs.text.answer_text.Statement.{statement}
+use Rattle.lines.proofs.text.answer_text.Tie as tie
 
 returns : tie.Need-returns
 returns c =

@@ -8,11 +8,11 @@ use borrow.Author.Needs.{needs}
 use lib.ListN.{set, length-set}
 use Rattle.carlson.specs.declared.answer.Answer.{Answer}
 use Rattle.calls.specs.Calls.{letterOf}
-use Rattle.lines.specs.Answers.{afterName, textOf}
+use Rattle.lines.specs.Text.{afterName, textOf}
 use Rattle.writing.specs.Written.{Put, put-more, put-length}
 use Rattle.calls.specs.declared.Call.{Call}
-use Rattle.lines.proofs.answers.put_answer.Statement.{statement}
-use Rattle.lines.proofs.answers.put_answer.Tie as tie
+use Rattle.lines.proofs.text.put_answer.Statement.{statement}
+use Rattle.lines.proofs.text.put_answer.Tie as tie
 
 name : (o : List ℕ) (at b : ℕ) → Put o at (82 ∷ b ∷ []) (set (set o at 82) (at + 1) b) (at + 2)
 name o at b = record { bytes = rw add-one; place = refl }

@@ -2,32 +2,16 @@
 -- or the number of the refusal. Definitions only.
 use Prim.Native.Nat.{ℕ}
 use mathlib.Core.List.{List, [], _∷_, _++_}
-use lib.Ieee.{Float, binary64, ofBits, toBits}
+use lib.Ieee.{binary64, toBits}
 use Rattle.carlson.specs.declared.answer.Found.{Found}
 use Rattle.carlson.specs.declared.answer.Answer.{Answer}
 use Rattle.carlson.specs.declared.answer.Answer.the-variants.{Value, Refused}
-use Rattle.elliprc.specs.Rc.{rc}
-use Rattle.elliprf.specs.Rf.{rf}
-use Rattle.elliprd.specs.Rd.{rd}
-use Rattle.elliprg.specs.Rg.{rg}
-use Rattle.elliprj.specs.Rj.{rj}
+use Rattle.answers.specs.Answers.{answerOf}
 use Rattle.writing.specs.Decimal.{decimal}
 use Rattle.calls.specs.Calls.{wordText, letterOf, callOf}
 use Rattle.calls.specs.declared.Call.{Call}
-use Rattle.calls.specs.declared.Call.the-variants.{Rc, Rf, Rd, Rg, Rj}
 use Rattle.calls.specs.declared.Line.{Line}
 use Rattle.calls.specs.declared.Line.the-variants.{Good, Bad}
-
--- ---- a call's answer: its entry's, at the f64s of the patterns
-abbrev pub number : ℕ → Float
-number b = ofBits binary64 b
-
-unfoldable pub answerOf : Call → Answer
-answerOf (Rc x y) = rc (number x) (number y)
-answerOf (Rf x y z) = rf (number x) (number y) (number z)
-answerOf (Rd x y z) = rd (number x) (number y) (number z)
-answerOf (Rg x y z) = rg (number x) (number y) (number z)
-answerOf (Rj x y z p) = rj (number x) (number y) (number z) (number p)
 
 -- ---- its text
 unfoldable pub countText : ℕ → List ℕ

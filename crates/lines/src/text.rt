@@ -1,16 +1,11 @@
-// A call to its answer, and an answer to its text.
-use binary64::join;
+// An answer to its text.
+use answers::answer_of;
 use binary64::split;
 use calls::Call;
 use calls::Line;
 use calls::call_of;
 use carlson::answer::Answer;
 use carlson::answer::Found;
-use elliprc::elliprc;
-use elliprd::elliprd;
-use elliprf::elliprf;
-use elliprg::elliprg;
-use elliprj::elliprj;
 use writing::places;
 use writing::put_text;
 use writing::spell;
@@ -19,21 +14,8 @@ ghost use Prim.Native.Nat.{_+_, _≤_};
 ghost use lib.ListN.{length};
 ghost use Rattle.io.specs.Counts.{Counts};
 ghost use Rattle.calls.specs.Calls.{letterOf};
-ghost use Rattle.lines.specs.Answers.{answerOf, countText, valueText, refusalText, textOf, replyOf};
+ghost use Rattle.lines.specs.Text.{countText, valueText, refusalText, textOf, replyOf};
 ghost use Rattle.writing.specs.Written.{Put};
-
-// What the entry of that name answers.
-pub fn answer_of(call: Call) -> Answer
-    ensures { λ r. ⌜ r ≡ answerOf call ⌝ }
-{
-    match call {
-        Call::Rc(x, y) => elliprc(join(x), join(y)),
-        Call::Rf(x, y, z) => elliprf(join(x), join(y), join(z)),
-        Call::Rd(x, y, z) => elliprd(join(x), join(y), join(z)),
-        Call::Rg(x, y, z) => elliprg(join(x), join(y), join(z)),
-        Call::Rj(x, y, z, p) => elliprj(join(x), join(y), join(z), join(p)),
-    }
-}
 
 fn letter(call: Call) -> u8
     ensures { λ r. ⌜ r ≡ letterOf call ⌝ }

@@ -1,9 +1,9 @@
 -- `put_refusal` meets its contract: the word, then the number. Assumes nothing.
 use borrow.Author.Needs.{needs}
-use Rattle.lines.specs.Answers.{refusalText}
+use Rattle.lines.specs.Text.{refusalText}
 use Rattle.writing.specs.Written.{put-more}
-use Rattle.lines.proofs.answers.put_refusal.Statement.{statement}
-use Rattle.lines.proofs.answers.put_refusal.Tie as tie
+use Rattle.lines.proofs.text.put_refusal.Statement.{statement}
+use Rattle.lines.proofs.text.put_refusal.Tie as tie
 
 returns : tie.Need-returns
 unfolding refusalText

@@ -1,8 +1,8 @@
 -- `answer_of` meets its contract: each arm is its entry, at the patterns' f64s. Assumes nothing.
 use borrow.Author.Needs.{needs}
-use Rattle.lines.specs.Answers.{answerOf}
-use Rattle.lines.proofs.answers.answer_of.Statement.{statement}
-use Rattle.lines.proofs.answers.answer_of.Tie as tie
+use Rattle.answers.specs.Answers.{answerOf}
+use Rattle.answers.proofs.answer_of.Statement.{statement}
+use Rattle.answers.proofs.answer_of.Tie as tie
 
 pub answer-of-spec : {M : Type 1} → statement M
 unfolding answerOf

@@ -5,12 +5,13 @@ use mathlib.Core.List.{List}
 use borrow.Author.Needs.{needs}
 use Rattle.carlson.specs.declared.answer.Answer.{Answer}
 use Rattle.calls.specs.Calls.{callOf}
-use Rattle.lines.specs.Answers.{answerOf, textOf, badText, replyTo, replyOf}
+use Rattle.answers.specs.Answers.{answerOf}
+use Rattle.lines.specs.Text.{textOf, badText, replyTo, replyOf}
 use Rattle.writing.specs.Written.{Put}
 use Rattle.calls.specs.declared.Call.{Call}
 use Rattle.calls.specs.declared.Line.the-variants.{Good, Bad}
-use Rattle.lines.proofs.answers.put_reply.Statement.{statement}
-use Rattle.lines.proofs.answers.put_reply.Tie as tie
+use Rattle.lines.proofs.text.put_reply.Statement.{statement}
+use Rattle.lines.proofs.text.put_reply.Tie as tie
 
 good : (l o out : List ℕ) (at next : ℕ) (c : Call) (a : Answer) → callOf l ≡ Good c → a ≡ answerOf c → Put o at (textOf c a) out next → Put o at (replyOf l) out next
 unfolding replyOf replyTo

@@ -10,11 +10,11 @@ use denote.Ref.{now}
 use Rattle.carlson.specs.declared.answer.Found.{Found}
 use Rattle.calls.specs.Digits.{digits}
 use Rattle.calls.specs.Calls.{wordText}
-use Rattle.lines.specs.Answers.{countText, valueText}
+use Rattle.lines.specs.Text.{countText, valueText}
 use Rattle.writing.specs.Written.{Put, put-more, put-length, put-byte}
 use Rattle.writing.specs.Places.{spelled-place}
-use Rattle.lines.proofs.answers.put_value.Statement.{statement}
-use Rattle.lines.proofs.answers.put_value.Tie as tie
+use Rattle.lines.proofs.text.put_value.Statement.{statement}
+use Rattle.lines.proofs.text.put_value.Tie as tie
 
 valued :
     (f : Found) (o o′ out : List ℕ) (at bits end next : ℕ) → bits ≡ toBits binary64 (f .value) → Put (set o at 32) (at + 1) (digits 16 16 bits) o′ end

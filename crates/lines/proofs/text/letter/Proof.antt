@@ -1,8 +1,8 @@
 -- `letter` meets its contract. Assumes nothing.
 use borrow.Author.Needs.{needs}
 use Rattle.calls.specs.Calls.{letterOf}
-use Rattle.lines.proofs.answers.letter.Statement.{statement}
-use Rattle.lines.proofs.answers.letter.Tie as tie
+use Rattle.lines.proofs.text.letter.Statement.{statement}
+use Rattle.lines.proofs.text.letter.Tie as tie
 
 pub letter-spec : {M : Type 1} → statement M
 unfolding letterOf

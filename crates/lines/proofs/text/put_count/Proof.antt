@@ -7,11 +7,11 @@ use borrow.Author.Needs.{needs}
 use lib.ListN.{set}
 use Rattle.calls.specs.Digits.{digits}
 use Rattle.writing.specs.Decimal.{placesOf, decimal}
-use Rattle.lines.specs.Answers.{countText}
+use Rattle.lines.specs.Text.{countText}
 use Rattle.writing.specs.Written.{Put, put-more, put-byte}
 use Rattle.writing.specs.Places.{places-most, spelled-place}
-use Rattle.lines.proofs.answers.put_count.Statement.{statement}
-use Rattle.lines.proofs.answers.put_count.Tie as tie
+use Rattle.lines.proofs.text.put_count.Statement.{statement}
+use Rattle.lines.proofs.text.put_count.Tie as tie
 
 counted : (o out : List ℕ) (at n k end : ℕ) → k ≡ placesOf 9 n → Put o at (digits 10 k n) out end → Put o at (countText n) (set out end 10) (end + 1)
 unfolding countText decimal
