@@ -1,8 +1,8 @@
 // a * b + c for three finite f64s, none of them a zero, by their patterns and their parts.
 use crate::parts::Parts;
 use crate::sum::total;
-use limbs::Wide;
-use limbs::product;
+use words::Wide;
+use words::product;
 ghost use mathlib.Core.Path.{_≡_};
 ghost use Prim.Native.Nat.{_%_, _^_};
 ghost use lib.Ieee.{binary64, ofBits};

@@ -1,5 +1,5 @@
 // A row of twelve coefficients, and Horner's rule over it.
-use limbs::high;
+use words::high;
 ghost use mathlib.Core.Path.{_≡_};
 ghost use Prim.Native.Nat.{_+_, _*_, _/_, _%_, _^_};
 ghost use Rattle.pieces.specs.Row.{listed, wrapped};

@@ -4,7 +4,7 @@
 // With m = n * 2 ^ z and g = d * 2 ^ 10, both of 64 digits where d has 54,
 //     x = ((g * g / 2 ^ 64) * ((m * m / 2 ^ 64) * m / 2 ^ 64)) / 2 ^ 64
 // is at most g² m³ / 2 ^ 256 and above it less 4: each quotient loses less than 1, times 2 ^ 64 at most.
-use limbs::high;
+use words::high;
 ghost use mathlib.Core.Path.{_≡_};
 ghost use Prim.Native.Nat.{ℕ, _+_, _*_, _^_, _<_};
 ghost use Rattle.power.specs.Parts.{against, Told};

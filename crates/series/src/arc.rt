@@ -2,8 +2,8 @@
 use crate::quotient::quotient;
 use crate::scaled::scaled;
 use binary64::split;
-use limbs::high;
 use pieces::euler;
+use words::high;
 ghost use mathlib.Core.Path.{_≡_};
 ghost use Prim.Native.Nat.{_^_, _≤_, _<_};
 ghost use lib.Dec.{eqb};

@@ -1,6 +1,6 @@
 // A period in whole units of 10^-12 s. The f64 is m / 2^s; m * 10^12 takes two words, and the quotient by 2^s is rounded once, half to even.
 use binary64::split;
-use limbs::product;
+use words::product;
 ghost use mathlib.Core.Path.{_≡_};
 ghost use Prim.Native.Nat.{_+_, _*_, _<_, _≤_, _^_};
 ghost use Prim.Native.Nat.{compare};
