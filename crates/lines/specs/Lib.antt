@@ -1,3 +1,3 @@
-pub mod Text
+pub mod Replies
 pub mod Stream
 pub mod StreamLaws

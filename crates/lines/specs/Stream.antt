@@ -3,9 +3,9 @@ use Prim.Native.Nat.{ℕ, _+_, _≤_}
 use mathlib.Core.Path.{_≡_}
 use mathlib.Core.Bool.{cond}
 use mathlib.Core.List.{List, [], _∷_, _++_}
-use lib.Dec.{eqb, ltb}
+use lib.Dec.{eqb}
 use lib.ListN.{take}
-use Rattle.lines.specs.Text.{replyOf}
+use Rattle.lines.specs.Replies.{replyOf}
 use Rattle.writing.specs.Input.{lastLine, linesFrom}
 use Rattle.writing.specs.Written.{Put}
 
@@ -36,10 +36,6 @@ saidOf held (b ∷ bs) = saidAt held b ++ saidOf (heldAfter held b) bs
 -- what is said at the input's end
 unfoldable pub saidLast : List ℕ → List ℕ
 saidLast held = repliesTo (lastLine held)
-
--- how many of `size` bytes are held after one more: a byte past the end is lost, and so is `set` there
-unfoldable pub pushed : ℕ → ℕ → ℕ
-pushed n size = cond (ltb n size) (n + 1) n
 
 -- ---- what a function that is fed some bytes does: n of the bytes in `after` are held, and what is said was put into `out`
 pub record Fed (held bytes after before : List ℕ) (at : ℕ) (out : List ℕ) (n next : ℕ) : Type 0 where

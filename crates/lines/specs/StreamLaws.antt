@@ -11,7 +11,7 @@ use lib.ListN.{length, take}
 use lib.Seq.{take-all, take-take, take-append-le, length-take-le}
 use Rattle.algebra.specs.Order.{lt-or-le}
 use Rattle.calls.specs.Calls.{callOf}
-use Rattle.lines.specs.Text.{replyTo, replyOf}
+use Rattle.lines.specs.Replies.{replyTo, replyOf}
 use Rattle.writing.specs.Written.{put-more}
 use Rattle.writing.specs.Input.{lastLine, linesFrom}
 use Rattle.lines.specs.Stream.{repliesTo, listingOf, heldAfter, saidAt, restOf, saidOf, saidLast, Fed}

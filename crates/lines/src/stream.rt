@@ -1,28 +1,18 @@
 // The listing as its input comes: what is held of a line that has not ended, and the replies to those that have.
-use crate::text::put_reply;
+use crate::replies::put_reply;
+use writing::push;
 ghost use mathlib.Core.Path.{_≡_};
 ghost use mathlib.Core.List.{[], _∷_};
 ghost use Prim.Native.Nat.{_+_, _*_, _≤_, min};
-ghost use lib.ListN.{length, take, set};
+ghost use lib.ListN.{length, take};
 ghost use Rattle.io.specs.Counts.{Counts};
 ghost use Rattle.writing.specs.Written.{Put};
-ghost use Rattle.lines.specs.Stream.{pushed, saidLast, Fed};
+ghost use Rattle.lines.specs.Stream.{saidLast, Fed};
 
 // How many bytes are held now, and how many were written.
 pub struct Progress {
     pub held: usize,
     pub used: usize,
-}
-
-// One byte more of a line, of which n bytes are held; what comes after a full `held` is lost.
-pub fn push(held: &mut [u8], n: usize, b: u8) -> usize
-    ensures { λ r. ⌜ (now (held .exit) ≡ set (now (held .entry)) n b) × (r ≡ pushed n (length (now (held .entry)))) ⌝ }
-{
-    if n < held.len() {
-        held[n] = b;
-        return n + 1;
-    }
-    n
 }
 
 fn least(a: usize, b: usize) -> usize

@@ -140,7 +140,7 @@ fn take_byte(b: u8, held: &mut [u8], tally: Tally) -> Tally {
         }
         return t;
     }
-    t.held = lines::push(held, n, b);
+    t.held = writing::push(held, n, b);
     t
 }
 

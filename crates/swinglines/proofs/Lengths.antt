@@ -20,7 +20,8 @@ use Rattle.swinglines.specs.Stream.{takes, swingSaid, stepsSaid, saidTo,
 use Rattle.swinglines.specs.declared.reading.Line.{Line}
 use Rattle.swinglines.specs.declared.reading.Line.the-variants.{One, Three, Bad}
 use Rattle.swinglines.specs.declared.stream.State.{State}
-use Rattle.swinglines.specs.Replies.{badText, ticksOf, numberText, secondsText, periodText, refusedText, swingText, totalText}
+use Rattle.writing.specs.Bad.{badText}
+use Rattle.swinglines.specs.Replies.{ticksOf, numberText, secondsText, periodText, refusedText, swingText, totalText}
 
 pub number-length : (n end : ℕ) → length (numberText n end) ≤ 21
 unfolding numberText decimal

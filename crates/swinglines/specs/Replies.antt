@@ -39,7 +39,3 @@ swingText (Refused n) = refusedText n
 unfoldable pub totalText : Steps → List ℕ
 totalText (Total t) = numberText t 10
 totalText (NoTotal n) = refusedText n
-
--- "bad line"
-abbrev pub badText : List ℕ
-badText = 98 ∷ 97 ∷ 100 ∷ 32 ∷ 108 ∷ 105 ∷ 110 ∷ 101 ∷ 10 ∷ []

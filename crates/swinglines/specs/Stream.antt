@@ -8,7 +8,8 @@ use Rattle.writing.specs.Written.{Put}
 use Rattle.swing.specs.Period.{periodOf}
 use Rattle.steplog.specs.Steps.{logFrom, logAfter}
 use Rattle.swinglines.specs.Reading.{startOf, byteAfter, lineOf, readLine, atStart}
-use Rattle.swinglines.specs.Replies.{swingText, totalText, badText}
+use Rattle.swinglines.specs.Replies.{swingText, totalText}
+use Rattle.writing.specs.Bad.{badText}
 use Rattle.swinglines.specs.declared.reading.Line.{Line}
 use Rattle.swinglines.specs.declared.reading.Line.the-variants.{One, Three, Bad}
 use Rattle.swinglines.specs.declared.stream.State.{State}

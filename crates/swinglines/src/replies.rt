@@ -5,9 +5,10 @@ use binary64::split;
 use carlson::answer::Answer;
 use carlson::answer::Found;
 use steplog::Steps;
-use writing::places;
+use writing::put_decimal;
+use writing::put_places;
 use writing::put_text;
-use writing::spell;
+use writing::put_word;
 ghost use Prim.Native.Nat.{_+_, _≤_};
 ghost use lib.ListN.{length};
 ghost use Rattle.swing.specs.Between.{Between};
@@ -21,7 +22,7 @@ fn put_number(n: u64, end: u8, out: &mut [u8], at: usize) -> usize
     requires { ⌜ at + 21 ≤ length (now out) ⌝ }
     ensures { λ r. ⌜ Put (now (out .entry)) at (numberText n end) (now (out .exit)) r ⌝ }
 {
-    let place = spell(n, 10, places(n, 19), out, at);
+    let place = put_decimal(n, 19, out, at);
     out[place] = end;
     place + 1
 }
@@ -32,7 +33,7 @@ fn put_seconds(t: u64, out: &mut [u8], at: usize) -> usize
     ensures { λ r. ⌜ Put (now (out .entry)) at (secondsText t) (now (out .exit)) r ⌝ }
 {
     let point = put_number(t / TRILLION, b'.', out, at);
-    spell(t, 10, 12, out, point)
+    put_places(t, 12, out, point)
 }
 
 fn put_period(found: Found, out: &mut [u8], at: usize) -> usize
@@ -40,7 +41,7 @@ fn put_period(found: Found, out: &mut [u8], at: usize) -> usize
     requires { ⌜ Between (power 1012) (power 1042) (found .value) ⌝ }
     ensures { λ r. ⌜ Put (now (out .entry)) at (periodText found) (now (out .exit)) r ⌝ }
 {
-    let blank = spell(split(found.value), 16, 16, out, at);
+    let blank = put_word(split(found.value), out, at);
     out[blank] = b' ';
     let end = put_seconds(ticks(found.value), out, blank + 1);
     out[end] = b'\n';

@@ -18,7 +18,7 @@ ghost use lib.ListN.{length, take};
 ghost use Rattle.io.specs.Counts.{Counts};
 ghost use Rattle.writing.specs.Written.{Put};
 ghost use mathlib.Core.Bool.{true};
-ghost use Rattle.swinglines.specs.Replies.{badText};
+ghost use Rattle.writing.specs.Bad.{badText};
 ghost use Rattle.swinglines.specs.Stream.{swingsFrom, stepsFrom, takes, noted, fresh, swingSaid, stepsAfter, stepsSaid};
 ghost use Rattle.swinglines.specs.Stream.{heard, said, stateAfter, saidAt, restOf, saidOf, saidAtEnd, saidLast, Told};
 

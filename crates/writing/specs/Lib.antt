@@ -3,3 +3,4 @@ pub mod Written
 pub mod Places
 pub mod Input
 pub mod Parts
+pub mod Bad

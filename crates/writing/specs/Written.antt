@@ -1,9 +1,12 @@
 -- Bytes written into a longer list, one run after the other. Assumes nothing.
-use Prim.Native.Nat.{ℕ, suc, _+_}
+use Prim.Native.Nat.{ℕ, suc, _+_, _≤_, _<_}
 use mathlib.Core.Path.{_≡_, refl, ap, _∙_}
+use mathlib.Core.Bool.{cond}
 use mathlib.Core.List.{List, [], _∷_, _++_}
 use native.Mathlib.Nat.{add-zero, add-suc, suc-add}
 use native.Mathlib.Omega.{arith}
+use borrow.Author.Tests.{le-leb, lt-leb}
+use lib.Dec.{leb, ltb}
 use lib.ListN.{length, set, length-append}
 use lib.Seq.{sets, length-sets, set-comm}
 
@@ -11,6 +14,30 @@ use lib.Seq.{sets, length-sets, set-comm}
 pub record Put (before : List ℕ) (at : ℕ) (text out : List ℕ) (next : ℕ) : Type 0 where
   pub bytes : out ≡ sets before at text
   pub place : next ≡ at + length text
+
+-- the same where `room` bytes fit after the first `at`; elsewhere nothing is written and the place stays
+pub record Tried (room : ℕ) (before : List ℕ) (at : ℕ) (text out : List ℕ) (next : ℕ) : Type 0 where
+  pub bytes : out ≡ cond (leb (at + room) (length before)) (sets before at text) before
+  pub place : next ≡ cond (leb (at + room) (length before)) (at + length text) at
+
+pub tried-put :
+    {room : ℕ} {before text out : List ℕ} {at next : ℕ} → at + room ≤ length before → Tried room before at text out next
+    → Put before at text out next
+tried-put {room} {before} {text} {out} {at} h t =
+    record { bytes = rw (le-leb (at + room) (length before) h) at (t .bytes); place = rw (le-leb (at + room) (length before) h) at (t .place) }
+
+pub put-tried :
+    {room : ℕ} {before text out : List ℕ} {at next : ℕ} → at + room ≤ length before → Put before at text out next
+    → Tried room before at text out next
+put-tried {room} {before} {text} {out} {at} h p =
+    record { bytes = rw (le-leb (at + room) (length before) h) (p .bytes); place = rw (le-leb (at + room) (length before) h) (p .place) }
+
+pub not-tried : (room : ℕ) (before text : List ℕ) (at : ℕ) → length before < at + room → Tried room before at text before at
+not-tried room before text at h = record { bytes = rw (lt-leb (at + room) (length before) h); place = rw (lt-leb (at + room) (length before) h) }
+
+-- how many of `size` bytes are held after one more: a byte past the end is lost, and so is `set` there
+unfoldable pub pushed : ℕ → ℕ → ℕ
+pushed n size = cond (ltb n size) (n + 1) n
 
 -- ---- a run after a run is one run
 sets-more : (vs ws l : List ℕ) (i : ℕ) → sets (sets l i vs) (i + length vs) ws ≡ sets l i (vs ++ ws)

@@ -1,7 +1,12 @@
-// Bytes written into a slice that the caller lends, one run after the other: numbers as digits, and texts as they stand.
+// Bytes written into a slice that the caller lends, one run after the other: numbers as digits, and texts as they stand. A run that
+// does not fit is left out whole, and the place stays.
 mod digits;
+mod room;
 mod text;
 
-pub use crate::digits::places;
-pub use crate::digits::spell;
+pub use crate::digits::put_decimal;
+pub use crate::digits::put_places;
+pub use crate::digits::put_word;
+pub use crate::room::has_room;
+pub use crate::text::push;
 pub use crate::text::put_text;

@@ -7,7 +7,7 @@ use borrow.Author.Needs.{needs}
 use denote.Ref.{now}
 use lib.ListN.{length, take}
 use lib.Seq.{length-take-le}
-use Rattle.lines.specs.Text.{replyOf}
+use Rattle.lines.specs.Replies.{replyOf}
 use Rattle.writing.specs.Input.{lastLine}
 use Rattle.lines.specs.Stream.{repliesTo, saidLast}
 use Rattle.writing.specs.Written.{Put}

@@ -12,9 +12,9 @@ use denote.Ref.{now}
 use lib.ListN.{length, take, set, length-append}
 use lib.Seq.{take-all, take-suc-set, length-take-le, set-out, take-append-le, take-length}
 use Rattle.algebra.specs.Order.{lt-or-le}
-use Rattle.lines.specs.Text.{replyOf}
-use Rattle.writing.specs.Written.{Put}
-use Rattle.lines.specs.Stream.{heldAfter, saidAt, restOf, saidOf, pushed, Fed}
+use Rattle.lines.specs.Replies.{replyOf}
+use Rattle.writing.specs.Written.{Put, pushed}
+use Rattle.lines.specs.Stream.{heldAfter, saidAt, restOf, saidOf, Fed}
 use Rattle.lines.proofs.stream.step.Statement.{statement}
 use Rattle.lines.proofs.stream.step.Tie as tie
 

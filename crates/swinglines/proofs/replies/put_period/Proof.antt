@@ -9,7 +9,7 @@ use lib.ListN.{length, set, length-set}
 use denote.Ref.{now}
 use Rattle.calls.specs.Digits.{digits}
 use Rattle.writing.specs.Places.{spelled-place}
-use Rattle.writing.specs.Written.{Put, put-more, put-length, put-byte}
+use Rattle.writing.specs.Written.{Put, tried-put, put-more, put-length, put-byte}
 use Rattle.carlson.specs.declared.answer.Found.{Found}
 use Rattle.swinglines.specs.Replies.{ticksOf, secondsText, periodText}
 use Rattle.swinglines.proofs.Lengths.{seconds-length, place-most}
@@ -23,12 +23,17 @@ timed :
 unfolding periodText
 timed f o half out at bits t blank end e g p q = put-more (put-more (rw e at p) (put-byte half blank 32)) (put-more (rw g at q) (put-byte out end 10))
 
--- the digits are sixteen, and the bytes are as many as before
-spelled : (c : tie.After-spell) → c .spell .result ≡ c .before .before .before .before .args .at + 16
-spelled c = spelled-place 16 16 _ (c .spell .ensures)
+-- there is room for the digits; they are sixteen, and the bytes are as many as before
+word : (c : tie.After-put-word)
+    → let s = c .before .before .before .before in
+    Put (now (s .args .out)) (s .args .at) (digits 16 16 (c .before .before .split .result)) (c .put-word .last .1 .0) (c .put-word .result)
+word c = tried-put (omega arith) (c .put-word .ensures)
 
-kept : (c : tie.After-spell) → length (c .spell .last .1 .1 .1 .0) ≡ length (now (c .before .before .before .before .args .out))
-kept c = put-length (c .spell .ensures)
+spelled : (c : tie.After-put-word) → c .put-word .result ≡ c .before .before .before .before .args .at + 16
+spelled c = spelled-place 16 16 _ (word c)
+
+kept : (c : tie.After-put-word) → length (c .put-word .last .1 .0) ≡ length (now (c .before .before .before .before .args .out))
+kept c = put-length (word c)
 
 -- the seconds are at most 33 bytes
 ended : (c : tie.After-put-seconds)
@@ -44,7 +49,7 @@ returns c =
     let p = c .before .before in
     let t = p .before .before in
     let s = t .before .before .before in
-    timed _ _ _ _ _ _ _ _ _ (s .before .before .split .ensures) (t .ticks .ensures) (s .spell .ensures) (p .put-seconds .ensures)
+    timed _ _ _ _ _ _ _ _ _ (s .before .before .split .ensures) (t .ticks .ensures) (word s) (p .put-seconds .ensures)
 
 pub put-period-spec : {M : Type 1} → statement M
 put-period-spec =

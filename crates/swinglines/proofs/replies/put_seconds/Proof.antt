@@ -1,20 +1,19 @@
 -- `put_seconds` meets its contract: whole seconds and the point, then twelve places. Assumes nothing.
 use native.Mathlib.Omega.{arith}
 use borrow.Author.Needs.{needs}
-use Rattle.writing.specs.Written.{put-more, put-length}
+use Rattle.writing.specs.Written.{tried-put, put-more, put-length}
 use Rattle.swinglines.specs.Replies.{secondsText}
 use Rattle.swinglines.proofs.Lengths.{number-length, place-most}
 use Rattle.swinglines.proofs.replies.put_seconds.Statement.{statement}
 use Rattle.swinglines.proofs.replies.put_seconds.Tie as tie
 
-spell-requires : tie.Need-spell-requires
-spell-requires c κs =
-    let p = c .before .before .before .put-number .ensures in
-    (omega arith, (omega arith, omega (arith, place-most 21 p (number-length _ _), put-length p)))
-
+-- the whole seconds leave room for twelve places
 returns : tie.Need-returns
 unfolding secondsText
-returns c = put-more (c .before .before .before .before .before .before .put-number .ensures) (c .before .before .spell .ensures)
+returns c =
+    let d = c .before .before in
+    let p = d .before .before .before .before .put-number .ensures in
+    put-more p (tried-put (omega (arith, place-most 21 p (number-length _ _), put-length p)) (d .put-places .ensures))
 
 pub put-seconds-spec : {M : Type 1} → statement M
-put-seconds-spec = tie.close (tie.spec (λ c κs. search needs) spell-requires (λ c. put-length (returns c)) returns)
+put-seconds-spec = tie.close (tie.spec (λ c κs. search needs) (λ c κs. search needs) (λ c. put-length (returns c)) returns)

@@ -1,8 +1,9 @@
 -- `closing` meets its contract: the step log's total, if one was given. Assumes nothing.
 use mathlib.Core.Path.{refl, sym}
 use native.Mathlib.Nat.{add-zero}
+use native.Mathlib.Omega.{arith}
 use borrow.Author.Needs.{needs}
-use Rattle.writing.specs.Written.{put-length}
+use Rattle.writing.specs.Written.{tried-put, put-length}
 use Rattle.swinglines.specs.Stream.{saidAtEnd}
 use Rattle.swinglines.proofs.stream.closing.Statement.{statement}
 use Rattle.swinglines.proofs.stream.closing.Tie as tie
@@ -15,7 +16,7 @@ returns-2 : tie.Need-returns-2
 unfolding saidAtEnd
 returns-2 c =
     let k = c .before .before in
-    rw (k .before .before .before .before .if1 .taken, k .before .before .before .if2 .left) (k .put-text .ensures)
+    rw (k .before .before .before .before .if1 .taken, k .before .before .before .if2 .left) (tried-put (omega arith) (k .put-text .ensures))
 
 returns-3 : tie.Need-returns-3
 unfolding saidAtEnd

@@ -7,7 +7,7 @@ use native.Mathlib.Nat.{add-zero}
 use native.Mathlib.Omega.{arith}
 use borrow.Author.Needs.{needs}
 use Rattle.writing.specs.Written.{put-length}
-use Rattle.swinglines.specs.Replies.{badText}
+use Rattle.writing.specs.Bad.{badText}
 use Rattle.swinglines.specs.Stream.{fresh, takes, noted, stepsAfter, stepsSaid, Told}
 use Rattle.swinglines.specs.declared.reading.Line.{Line}
 use Rattle.swinglines.specs.declared.reading.Line.the-variants.{One}
