@@ -11,13 +11,13 @@ use Rattle.carlson.specs.Answer.{closedAt, infiniteAt, settled}
 use Rattle.carlson.specs.declared.answer.Answer.{Answer}
 use Rattle.carlson.specs.declared.answer.Answer.the-variants.{Value, Refused}
 use Rattle.elliprd.specs.Rd.{overScale}
-use Rattle.elliprj.specs.declared.nearzero.Near.{Near}
-use Rattle.elliprj.specs.declared.nearzero.Near.the-variants.{Taylor, Far}
+use Rattle.rjpositive.specs.Positive.{rjPositive}
+use Rattle.rjnegative.specs.declared.nearzero.Near.{Near}
+use Rattle.rjnegative.specs.declared.nearzero.Near.the-variants.{Taylor, Far}
+use Rattle.rjnegative.specs.NearZero.{nearZero}
+use Rattle.rjnegative.specs.Reduction.{rising, reduceOf, reducedAnswer}
 use Rattle.elliprj.specs.declared.plan.Plan.{Plan}
 use Rattle.elliprj.specs.declared.plan.Plan.the-variants.{Done, Rescale, Reduce}
-use Rattle.elliprj.specs.Reduction.{rising, reduceOf, reducedAnswer}
-use Rattle.elliprj.specs.NearZero.{nearZero}
-use Rattle.elliprj.specs.Positive.{rjPositive}
 
 -- ---- what a call does: it is done, or calls itself at rescaled arguments, or at the reduction's
 -- past the rescaling

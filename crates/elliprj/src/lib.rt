@@ -1,14 +1,8 @@
 // RJ, the symmetric elliptic integral of the third kind (elliprj.rs; DLMF 19.16.2).
-mod duplicate;
-mod helper;
-mod nearzero;
 mod plan;
-mod positive;
-mod reduction;
 
 use crate::plan::Plan;
 use crate::plan::planned;
-use crate::reduction::carried;
 use carlson::answer::Answer;
 use carlson::answer::infinite;
 use carlson::answer::settle;
@@ -23,6 +17,7 @@ use carlson::constants::TOO_DEEP;
 use carlson::constants::ZERO_GIVEN;
 use carlson::constants::ZEROS;
 use elliprd::over_scale;
+use rjnegative::carried;
 ghost use mathlib.Core.Path.{_≡_};
 ghost use Rattle.elliprj.specs.Rj.{planOf, rjRun, rjUnchecked, rjSettled, rj};
 

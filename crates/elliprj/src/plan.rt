@@ -1,16 +1,16 @@
 // What a call of RJ does, before it calls itself.
-use crate::nearzero::Near;
-use crate::nearzero::elliprj_pv_near_zero;
-use crate::positive::positive;
-use crate::reduction::Reduced;
-use crate::reduction::Triple;
-use crate::reduction::reduce;
-use crate::reduction::risen;
 use carlson::answer::Answer;
 use carlson::answer::taylor;
 use carlson::rescaling::beyond;
 use carlson::rescaling::scale4;
 use carlson::rescaling::stay4;
+use rjnegative::Near;
+use rjnegative::Reduced;
+use rjnegative::Triple;
+use rjnegative::elliprj_pv_near_zero;
+use rjnegative::reduce;
+use rjnegative::risen;
+use rjpositive::positive::positive;
 ghost use mathlib.Core.Path.{_≡_};
 ghost use Rattle.elliprj.specs.Rj.{planUnscaled, planScaled, planNear, planOf};
 

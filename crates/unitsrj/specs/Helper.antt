@@ -17,7 +17,7 @@ use Rattle.series.specs.Ln.{ln}
 use Rattle.carlson.specs.Constants.{zero, one, two, half}
 use Rattle.elliprc.specs.Rc.{rcUnchecked}
 use Rattle.polynomial.specs.Polynomial.{horner}
-use Rattle.elliprj.specs.Helper.{byAtan1p, byLogs1p, byRc1p, byLn1p, rc1p}
+use Rattle.rjpositive.specs.Helper.{byAtan1p, byLogs1p, byRc1p, byLn1p, rc1p}
 use Rattle.scaling.specs.Kind.{Kind, last, floor-le, mulK, mulOk, divK, divOk, plusK, plusOk, nudgeK, nudgeOk, within}
 use Rattle.scaling.specs.Units.{Is, lt-units}
 use Rattle.scaling.specs.Two.{Two, mul-two, div-two, plus-two, nudge-two}

@@ -9,8 +9,8 @@ use lib.Dec.{T, lit<}
 use lib.Ieee.{Float, binary64}
 use Rattle.carlson.specs.Answer.{countedAt}
 use Rattle.carlson.specs.Loop.{capped}
-use Rattle.elliprj.specs.Duplicate.{rjMean, rjStart, rjBegin, rjStep, rjClose, rjFound, rjSpent, rjDuplication}
-use Rattle.elliprj.specs.declared.duplicate.Round.{Round}
+use Rattle.rjpositive.specs.Duplicate.{rjMean, rjStart, rjBegin, rjStep, rjClose, rjFound, rjSpent, rjDuplication}
+use Rattle.rjpositive.specs.declared.duplicate.Round.{Round}
 use Rattle.scaling.specs.Kind.{Kind}
 use Rattle.scaling.specs.Two.{Two}
 use Rattle.units.specs.Runs.{Fair, Same, both, lost, spent-both, loops-two}

@@ -13,8 +13,8 @@ use Rattle.carlson.specs.Constants.{zero, one, three}
 use Rattle.carlson.specs.declared.answer.Answer.{Answer}
 use Rattle.carlson.specs.declared.answer.Answer.the-variants.{Value}
 use Rattle.elliprc.specs.Rc.{rcUnchecked}
-use Rattle.elliprj.specs.Duplicate.{rjDuplication}
-use Rattle.elliprj.specs.Positive.{wellApart, rjAll, rjThree, rjTwo, rjLast, rjPair, rjCases, rjPositive}
+use Rattle.rjpositive.specs.Duplicate.{rjDuplication}
+use Rattle.rjpositive.specs.Positive.{wellApart, rjAll, rjThree, rjTwo, rjLast, rjPair, rjCases, rjPositive}
 use Rattle.scaling.specs.Kind.{Kind, last, mulK, mulOk, divK, divOk, sumK, sumOk, within}
 use Rattle.scaling.specs.Units.{eq-units}
 use Rattle.scaling.specs.Two.{Two, mul-two, div-two, lt-two}

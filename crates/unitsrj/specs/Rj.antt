@@ -12,7 +12,7 @@ use Rattle.carlson.specs.Rescaling.{beyondLimits, scaleOf4}
 use Rattle.carlson.specs.Answer.{infiniteAt}
 use Rattle.carlson.specs.declared.answer.Answer.{Answer}
 use Rattle.carlson.specs.declared.answer.Answer.the-variants.{Refused}
-use Rattle.elliprj.specs.Positive.{rjPositive}
+use Rattle.rjpositive.specs.Positive.{rjPositive}
 use Rattle.elliprj.specs.Rj.{planUnscaled, planScaled, planOf, rjRun, rjUnchecked, rjSettled, rj}
 use Rattle.scaling.specs.Kind.{Kind}
 use Rattle.scaling.specs.Units.{Is, lt-units}

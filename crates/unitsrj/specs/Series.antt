@@ -14,8 +14,8 @@ use Rattle.algebra.specs.Ring.{con, _:*_, _≈_, _⊩_, _times_≼_, Order, by-
 use Rattle.binary64.specs.Leaves.{absolute}
 use Rattle.binary64.specs.Operators.{_⊕_, _⊖_, _⊗_, bits}
 use Rattle.carlson.specs.Constants.{two, three, four}
-use Rattle.elliprj.specs.Duplicate.{rjStart, rjCorrection, rjFactor, rjSeries}
-use Rattle.elliprj.specs.declared.duplicate.Round.{Round}
+use Rattle.rjpositive.specs.Duplicate.{rjStart, rjCorrection, rjFactor, rjSeries}
+use Rattle.rjpositive.specs.declared.duplicate.Round.{Round}
 use Rattle.scaling.specs.Near.{near, digits, near-mono, near-exact}
 use Rattle.scaling.specs.Units.{lt-units}
 use Rattle.scaling.specs.Half.{half-less}

@@ -15,7 +15,7 @@ use Rattle.binary64.specs.Operators.{_⊕_, _⊖_, _⊗_, _⊘_, bits}
 use Rattle.root.specs.Root.{root}
 use Rattle.carlson.specs.Constants.{one, two, four}
 use Rattle.carlson.specs.Common.{lambdaOf}
-use Rattle.elliprj.specs.Duplicate.{rjMean, rjBegin, rjStep}
+use Rattle.rjpositive.specs.Duplicate.{rjMean, rjBegin, rjStep}
 use Rattle.scaling.specs.Near.{near, near-zero}
 use Rattle.scaling.specs.Cross.{addN}
 use Rattle.scaling.specs.Units.{neg-units}

@@ -16,10 +16,10 @@ use Rattle.root.specs.Root.{root}
 use Rattle.carlson.specs.Constants.{one, four, half}
 use Rattle.carlson.specs.Common.{lambdaOf}
 use Rattle.elliprc.specs.Rc.{rcUnchecked}
-use Rattle.elliprj.specs.Helper.{rc1p}
-use Rattle.elliprj.specs.Duplicate.{rjDenominator, rjRatio, rjMiddle, rjTerm, rjMoved, rjWith, rjStep}
-use Rattle.elliprj.specs.declared.duplicate.Round.{Round}
-use Rattle.elliprj.specs.declared.duplicate.Roots.{Roots}
+use Rattle.rjpositive.specs.Helper.{rc1p}
+use Rattle.rjpositive.specs.Duplicate.{rjDenominator, rjRatio, rjMiddle, rjTerm, rjMoved, rjWith, rjStep}
+use Rattle.rjpositive.specs.declared.duplicate.Round.{Round}
+use Rattle.rjpositive.specs.declared.duplicate.Roots.{Roots}
 use Rattle.scaling.specs.Near.{near, near-same, near-zero}
 use Rattle.scaling.specs.Kind.{Kind, In, and₃, last, floor-le, mulK, mulOk, divK, divOk, plusK, plusOk, within, sameK}
 use Rattle.scaling.specs.Last.{Digits, digits-of}

@@ -1,0 +1,2 @@
+pub mod NearZero
+pub mod Reduction

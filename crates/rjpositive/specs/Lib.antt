@@ -1,0 +1,3 @@
+pub mod Helper
+pub mod Duplicate
+pub mod Positive
