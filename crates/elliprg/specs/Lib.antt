@@ -1,4 +1,2 @@
 pub mod Sorting
-pub mod Means
-pub mod Joint
 pub mod Rg

@@ -10,9 +10,9 @@ use Rattle.carlson.specs.Answer.{closedAt, settledLate}
 use Rattle.carlson.specs.declared.answer.Answer.{Answer}
 use Rattle.carlson.specs.declared.answer.Answer.the-variants.{Value, Refused}
 use Rattle.elliprc.specs.Rc.{rcUnchecked}
+use Rattle.rgmeans.specs.Means.{rgAgmOf}
+use Rattle.rgjoint.specs.Joint.{rgJoint}
 use Rattle.elliprg.specs.Sorting.{sortedOf}
-use Rattle.elliprg.specs.Means.{rgAgmOf}
-use Rattle.elliprg.specs.Joint.{rgJoint}
 
 -- ---- special cases (DLMF 19.20(ii))
 -- RG(x, x, x)

@@ -1,10 +1,6 @@
 // RG, the symmetric elliptic integral of the second kind (elliprg.rs; DLMF 19.16.2_5).
-mod joint;
-mod means;
 mod sorting;
 
-use crate::joint::joined;
-use crate::means::agm_of;
 use crate::sorting::Triple;
 use crate::sorting::sorted;
 use carlson::answer::Answer;
@@ -20,6 +16,8 @@ use carlson::rescaling::beyond;
 use carlson::rescaling::scale3;
 use carlson::rescaling::stay3;
 use elliprc::elliprc_unchecked;
+use rgjoint::joined;
+use rgmeans::agm_of;
 use root::sqrt;
 ghost use mathlib.Core.Path.{_≡_};
 ghost use mathlib.Core.Bool.{false};

@@ -12,9 +12,9 @@ use Rattle.carlson.specs.Constants.{two, three}
 use Rattle.carlson.specs.Answer.{countedAt}
 use Rattle.elliprf.specs.Duplicate.{meanOf}
 use Rattle.elliprd.specs.Duplicate.{rdMean}
-use Rattle.elliprg.specs.Joint.{jointBegun, jointMoved, jointNext, allDone, rfRdOf, jointOf, rgValue, rgJoint}
-use Rattle.elliprg.specs.declared.joint.Joint.{Joint}
-use Rattle.elliprg.specs.declared.joint.RfRd.{RfRd}
+use Rattle.rgjoint.specs.Joint.{jointBegun, jointMoved, jointNext, allDone, rfRdOf, jointOf, rgValue, rgJoint}
+use Rattle.rgjoint.specs.declared.joint.Joint.{Joint}
+use Rattle.rgjoint.specs.declared.joint.RfRd.{RfRd}
 use Rattle.scaling.specs.Kind.{Kind, last, mulK, mulOk, divK, divOk, sumK, sumOk, within}
 use Rattle.scaling.specs.Two.{Two, mul-two, div-two, sum-two}
 use Rattle.scaling.specs.One.{lit-two, litOk, widen-two, sub-two}

@@ -12,8 +12,8 @@ use Rattle.binary64.specs.Operators.{_⊕_, _⊖_, _⊗_, _⊘_, bits}
 use Rattle.root.specs.Root.{root}
 use Rattle.carlson.specs.Constants.{two, pi}
 use Rattle.carlson.specs.Loop.{capped}
-use Rattle.elliprg.specs.Means.{rgBegin, rgMoved, rgNext, rgMeanValue, rgTogether, rgAgmFound, rgAgmSpent, rgAgmOf}
-use Rattle.elliprg.specs.declared.means.Sums.{Sums}
+use Rattle.rgmeans.specs.Means.{rgBegin, rgMoved, rgNext, rgMeanValue, rgTogether, rgAgmFound, rgAgmSpent, rgAgmOf}
+use Rattle.rgmeans.specs.declared.means.Sums.{Sums}
 use Rattle.scaling.specs.Kind.{Kind, mulK, mulOk, divK, divOk, plusK, plusOk, sumK, sumOk, negK, within}
 use Rattle.scaling.specs.Two.{Two, mul-two, div-two, plus-two}
 use Rattle.scaling.specs.One.{lit-two, litOk, widen-two, neg-two, sub-two}

@@ -10,8 +10,8 @@ use Rattle.root.specs.Root.{root}
 use Rattle.carlson.specs.Common.{lambdaOf}
 use Rattle.elliprd.specs.Duplicate as rd
 use Rattle.elliprd.specs.declared.duplicate.Round.{Round}
-use Rattle.elliprg.specs.Joint.{rdBegun, rdMoved, rdEnded, rdNext}
-use Rattle.elliprg.specs.declared.joint.RdPart.{RdPart}
+use Rattle.rgjoint.specs.Joint.{rdBegun, rdMoved, rdEnded, rdNext}
+use Rattle.rgjoint.specs.declared.joint.RdPart.{RdPart}
 use Rattle.scaling.specs.Kind.{within}
 use Rattle.scaling.specs.Two.{Two}
 use Rattle.scaling.specs.One.{widen-two}

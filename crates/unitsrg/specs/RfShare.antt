@@ -14,8 +14,8 @@ use Rattle.carlson.specs.Constants.{four}
 use Rattle.carlson.specs.Common.{lambdaOf}
 use Rattle.elliprf.specs.Duplicate.{meanOf, rfBegin, rfStep, rfClose}
 use Rattle.elliprf.specs.declared.duplicate.Round.{Round}
-use Rattle.elliprg.specs.Joint.{rfBegun, rfMoved, rfEnded, rfNext}
-use Rattle.elliprg.specs.declared.joint.RfPart.{RfPart}
+use Rattle.rgjoint.specs.Joint.{rfBegun, rfMoved, rfEnded, rfNext}
+use Rattle.rgjoint.specs.declared.joint.RfPart.{RfPart}
 use Rattle.scaling.specs.Two.{Two}
 use Rattle.scaling.specs.Pick.{choose}
 use Rattle.units.specs.Kinds.{meanK}
