@@ -15,10 +15,10 @@ use Rattle.carlson.specs.declared.answer.Answer.the-variants.{Value, Refused}
 use Rattle.steplog.specs.declared.Steps.{Steps}
 use Rattle.steplog.specs.declared.Steps.the-variants.{Total, Refused as NoTotal}
 use Rattle.swing.specs.Period.{periodOf}
-use Rattle.swinglines.specs.Reading.{lineOf}
+use Rattle.swingreading.specs.Reading.{lineOf}
 use Rattle.swinglines.specs.Stream.{takes, swingSaid, stepsSaid, saidTo, said, saidAt, saidAtEnd}
-use Rattle.swinglines.specs.declared.reading.Line.{Line}
-use Rattle.swinglines.specs.declared.reading.Line.the-variants.{One, Three, Bad}
+use Rattle.swingreading.specs.declared.Line.{Line}
+use Rattle.swingreading.specs.declared.Line.the-variants.{One, Three, Bad}
 use Rattle.swinglines.specs.declared.stream.State.{State}
 use Rattle.writing.specs.Bad.{badText}
 use Rattle.swinglines.specs.Replies.{ticksOf, numberText, secondsText, periodText, refusedText, swingText, totalText}

@@ -1,5 +1,3 @@
-pub mod Reading
 pub mod Replies
 pub mod Stream
 pub mod StreamLaws
-pub mod ReadingLaws

@@ -7,11 +7,11 @@ use lib.Dec.{eqb, ltb}
 use Rattle.writing.specs.Written.{Put}
 use Rattle.swing.specs.Period.{periodOf}
 use Rattle.steplog.specs.Steps.{logFrom, logAfter}
-use Rattle.swinglines.specs.Reading.{startOf, byteAfter, lineOf, readLine, atStart}
+use Rattle.swingreading.specs.Reading.{startOf, byteAfter, lineOf, readLine, atStart}
 use Rattle.swinglines.specs.Replies.{swingText, totalText}
 use Rattle.writing.specs.Bad.{badText}
-use Rattle.swinglines.specs.declared.reading.Line.{Line}
-use Rattle.swinglines.specs.declared.reading.Line.the-variants.{One, Three, Bad}
+use Rattle.swingreading.specs.declared.Line.{Line}
+use Rattle.swingreading.specs.declared.Line.the-variants.{One, Three, Bad}
 use Rattle.swinglines.specs.declared.stream.State.{State}
 
 -- before the first byte: the swing's lines, or the step log's

@@ -7,7 +7,7 @@ use borrow.Author.Tests.{eqb-true}
 use lib.Dec.{eqb, ltb}
 use Rattle.writing.specs.Input.{lastLine, linesFrom}
 use Rattle.writing.specs.Written.{put-more}
-use Rattle.swinglines.specs.Reading.{startOf, spoiltOf, blankAfter, roomFor, digitAfter, byteAfter, bytesAfter, lineOf, readLine, atStart}
+use Rattle.swingreading.specs.Reading.{startOf, spoiltOf, blankAfter, roomFor, digitAfter, byteAfter, bytesAfter, lineOf, readLine, atStart}
 use Rattle.swinglines.specs.Stream.{
   fresh,
   takes,
@@ -28,9 +28,9 @@ use Rattle.swinglines.specs.Stream.{
   repliesFrom,
   Told,
 }
-use Rattle.swinglines.specs.declared.reading.Reading.{Reading}
-use Rattle.swinglines.specs.declared.reading.Line.{Line}
-use Rattle.swinglines.specs.declared.reading.Line.the-variants.{One, Three, Bad}
+use Rattle.swingreading.specs.declared.Reading.{Reading}
+use Rattle.swingreading.specs.declared.Line.{Line}
+use Rattle.swingreading.specs.declared.Line.the-variants.{One, Three, Bad}
 use Rattle.swinglines.specs.declared.stream.State.{State}
 
 -- ---- wherever the bytes are cut

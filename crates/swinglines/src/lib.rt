@@ -1,5 +1,4 @@
-// The swing's and the step log's lines (document 02, 2026-01): a line to its numbers, an answer to its text, the input as it comes.
-mod reading;
+// The swing's and the step log's lines (document 02, 2026-01): an answer to its text, the input as it comes.
 mod replies;
 mod seconds;
 mod stream;

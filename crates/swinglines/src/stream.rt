@@ -1,16 +1,16 @@
 // The input as it comes, in constant memory: each line is read byte by byte and answered at its end.
-use crate::reading::Line;
-use crate::reading::Reading;
-use crate::reading::close;
-use crate::reading::nothing;
-use crate::reading::start;
-use crate::reading::step;
 use crate::replies::put_swing;
 use crate::replies::put_total;
 use steplog::Log;
 use steplog::log_from;
 use steplog::logged;
 use swing::period::period;
+use swingreading::Line;
+use swingreading::Reading;
+use swingreading::close;
+use swingreading::nothing;
+use swingreading::start;
+use swingreading::step;
 use writing::put_text;
 ghost use mathlib.Core.Path.{_≡_};
 ghost use Prim.Native.Nat.{_+_, _*_, _≤_, min};

@@ -6,9 +6,9 @@ use native.Mathlib.Nat.{add-zero}
 use borrow.Author.Needs.{needs}
 use borrow.Author.Tests.{eq-eqb, ne-eqb}
 use Rattle.writing.specs.Written.{put-length}
-use Rattle.swinglines.specs.Reading.{byteAfter}
+use Rattle.swingreading.specs.Reading.{byteAfter}
 use Rattle.swinglines.specs.Stream.{stateAfter, saidAt, Told}
-use Rattle.swinglines.specs.declared.reading.Reading.{Reading}
+use Rattle.swingreading.specs.declared.Reading.{Reading}
 use Rattle.swinglines.specs.declared.stream.State.{State}
 use Rattle.swinglines.proofs.stream.byte.Statement.{statement}
 use Rattle.swinglines.proofs.stream.byte.Tie as tie

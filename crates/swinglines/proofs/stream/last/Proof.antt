@@ -5,7 +5,7 @@ use mathlib.Core.Bool.{Bool, true, false, cond}
 use mathlib.Core.List.{List, _++_}
 use native.Mathlib.Omega.{arith}
 use Rattle.writing.specs.Written.{Put, put-more, put-length}
-use Rattle.swinglines.specs.Reading.{atStart}
+use Rattle.swingreading.specs.Reading.{atStart}
 use Rattle.swinglines.specs.Stream.{heard, said, saidAtEnd, saidLast, Told}
 use Rattle.swinglines.specs.declared.stream.State.{State}
 use Rattle.swinglines.proofs.Lengths.{said-length, said-end-length, place-most}

@@ -5,9 +5,9 @@ use mathlib.Core.Bool.{Bool, true, false, cond}
 use mathlib.Core.List.{List}
 use borrow.Author.Needs.{needs}
 use Rattle.writing.specs.Written.{Put, put-length}
-use Rattle.swinglines.specs.Reading.{lineOf}
+use Rattle.swingreading.specs.Reading.{lineOf}
 use Rattle.swinglines.specs.Stream.{fresh, swingSaid, stepsAfter, stepsSaid, afterLine, saidTo, heard, said, Told}
-use Rattle.swinglines.specs.declared.reading.Line.{Line}
+use Rattle.swingreading.specs.declared.Line.{Line}
 use Rattle.swinglines.specs.declared.stream.State.{State}
 use Rattle.swinglines.proofs.stream.line_end.Statement.{statement}
 use Rattle.swinglines.proofs.stream.line_end.Tie as tie

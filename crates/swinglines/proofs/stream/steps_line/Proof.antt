@@ -9,8 +9,8 @@ use borrow.Author.Needs.{needs}
 use Rattle.writing.specs.Written.{put-length}
 use Rattle.writing.specs.Bad.{badText}
 use Rattle.swinglines.specs.Stream.{fresh, takes, noted, stepsAfter, stepsSaid, Told}
-use Rattle.swinglines.specs.declared.reading.Line.{Line}
-use Rattle.swinglines.specs.declared.reading.Line.the-variants.{One}
+use Rattle.swingreading.specs.declared.Line.{Line}
+use Rattle.swingreading.specs.declared.Line.the-variants.{One}
 use Rattle.swinglines.specs.declared.stream.State.{State}
 use Rattle.swinglines.proofs.stream.steps_line.Statement.{statement}
 use Rattle.swinglines.proofs.stream.steps_line.Tie as tie

@@ -10,8 +10,8 @@ use Rattle.swing.specs.Period.{periodOf}
 use Rattle.swing.specs.Bounded.{Bounded, period-bounded}
 use Rattle.swinglines.specs.Replies.{swingText}
 use Rattle.swinglines.specs.Stream.{fresh, swingSaid, Told}
-use Rattle.swinglines.specs.declared.reading.Line.{Line}
-use Rattle.swinglines.specs.declared.reading.Line.the-variants.{Three}
+use Rattle.swingreading.specs.declared.Line.{Line}
+use Rattle.swingreading.specs.declared.Line.the-variants.{Three}
 use Rattle.swinglines.specs.declared.stream.State.{State}
 use Rattle.swinglines.proofs.stream.swing_line.Statement.{statement}
 use Rattle.swinglines.proofs.stream.swing_line.Tie as tie

@@ -6,9 +6,9 @@ use native.Mathlib.Omega.{arith}
 use borrow.Author.Needs.{needs}
 use lib.Dec.{T, eqb, ltb, ltb→lt}
 use lib.Ieee.Fits.{and-r}
-use Rattle.swinglines.specs.Reading.{roomFor, digitAfter}
-use Rattle.swinglines.proofs.reading.digit.Statement.{statement}
-use Rattle.swinglines.proofs.reading.digit.Tie as tie
+use Rattle.swingreading.specs.Reading.{roomFor, digitAfter}
+use Rattle.swingreading.proofs.digit.Statement.{statement}
+use Rattle.swingreading.proofs.digit.Tie as tie
 
 fits : (begun r : Bool) (value d : ℕ) → r ≡ roomFor begun value d → r ≡ true → value * 10 + d < 2 ^ 64
 unfolding roomFor

@@ -3,9 +3,9 @@ use Prim.Native.Nat.{ℕ, _+_, _-_, _*_, _^_}
 use mathlib.Core.Bool.{Bool, true, false, not, _&&_, cond}
 use mathlib.Core.List.{List, [], _∷_}
 use lib.Dec.{eqb, ltb}
-use Rattle.swinglines.specs.declared.reading.Reading.{Reading}
-use Rattle.swinglines.specs.declared.reading.Line.{Line}
-use Rattle.swinglines.specs.declared.reading.Line.the-variants.{One, Three, Bad}
+use Rattle.swingreading.specs.declared.Reading.{Reading}
+use Rattle.swingreading.specs.declared.Line.{Line}
+use Rattle.swingreading.specs.declared.Line.the-variants.{One, Three, Bad}
 
 -- nothing has come
 unfoldable pub startOf : Reading

@@ -6,9 +6,9 @@ use native.Mathlib.Omega.{arith}
 use borrow.Author.Tests.{eq-eqb, ne-eqb, lt-ltb, le-ltb}
 use lib.Dec.{ltb}
 use Rattle.algebra.specs.Order.{same-ltb}
-use Rattle.swinglines.specs.Reading.{roomFor}
-use Rattle.swinglines.proofs.reading.room.Statement.{statement}
-use Rattle.swinglines.proofs.reading.room.Tie as tie
+use Rattle.swingreading.specs.Reading.{roomFor}
+use Rattle.swingreading.proofs.room.Statement.{statement}
+use Rattle.swingreading.proofs.room.Tie as tie
 
 -- a first zero
 module _ (value d : ℕ) (h : d < 10) where

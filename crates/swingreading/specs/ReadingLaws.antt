@@ -13,9 +13,9 @@ use lib.Ieee.Fits.{and-r}
 use Rattle.algebra.specs.Order.{lt-or-le}
 use Rattle.calls.specs.Digits.{glyphOf, digits}
 use Rattle.writing.specs.Decimal.{placesOf, decimal}
-use Rattle.swinglines.specs.Reading.{startOf, spoiltOf, blankAfter, roomFor, digitAfter, byteAfter, bytesAfter, lineOf, readLine}
-use Rattle.swinglines.specs.declared.reading.Reading.{Reading}
-use Rattle.swinglines.specs.declared.reading.Line.the-variants.{One, Three, Bad}
+use Rattle.swingreading.specs.Reading.{startOf, spoiltOf, blankAfter, roomFor, digitAfter, byteAfter, bytesAfter, lineOf, readLine}
+use Rattle.swingreading.specs.declared.Reading.{Reading}
+use Rattle.swingreading.specs.declared.Line.the-variants.{One, Three, Bad}
 
 pub bytes-more : (xs : List ℕ) (r : Reading) (ys : List ℕ) → bytesAfter r (xs ++ ys) ≡ bytesAfter (bytesAfter r xs) ys
 unfolding bytesAfter

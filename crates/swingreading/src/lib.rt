@@ -1,7 +1,7 @@
 // A line as it comes: one number, or three with one blank between. A number is decimal, a u64, with no zero in front and no sign.
 ghost use mathlib.Core.Path.{_≡_};
 ghost use Prim.Native.Nat.{_<_};
-ghost use Rattle.swinglines.specs.Reading.{startOf, spoiltOf, blankAfter, roomFor, digitAfter, byteAfter, lineOf, atStart};
+ghost use Rattle.swingreading.specs.Reading.{startOf, spoiltOf, blankAfter, roomFor, digitAfter, byteAfter, lineOf, atStart};
 
 // What is known of a line that has not ended. Three numbers ended say that it is bad, whatever comes.
 pub struct Reading {

@@ -1,8 +1,8 @@
 -- `blank` meets its contract: its tests are those of the definition, in its order. Assumes nothing.
 use borrow.Author.Tests.{eq-eqb, ne-eqb}
-use Rattle.swinglines.specs.Reading.{blankAfter}
-use Rattle.swinglines.proofs.reading.blank.Statement.{statement}
-use Rattle.swinglines.proofs.reading.blank.Tie as tie
+use Rattle.swingreading.specs.Reading.{blankAfter}
+use Rattle.swingreading.proofs.blank.Statement.{statement}
+use Rattle.swingreading.proofs.blank.Tie as tie
 
 pub blank-spec : {M : Type 1} → statement M
 unfolding blankAfter

@@ -1,7 +1,7 @@
 -- `nothing` meets its contract, step by step as its definition. Assumes nothing.
-use Rattle.swinglines.specs.Reading.{atStart}
-use Rattle.swinglines.proofs.reading.nothing.Statement.{statement}
-use Rattle.swinglines.proofs.reading.nothing.Tie as tie
+use Rattle.swingreading.specs.Reading.{atStart}
+use Rattle.swingreading.proofs.nothing.Statement.{statement}
+use Rattle.swingreading.proofs.nothing.Tie as tie
 
 pub nothing-spec : {M : Type 1} → statement M
 unfolding atStart

@@ -1,9 +1,9 @@
 -- `step` meets its contract: its tests are those of the definition, in its order. Assumes nothing.
 use borrow.Author.Needs.{needs}
 use borrow.Author.Tests.{eq-eqb, ne-eqb, lt-ltb, le-ltb}
-use Rattle.swinglines.specs.Reading.{byteAfter}
-use Rattle.swinglines.proofs.reading.step.Statement.{statement}
-use Rattle.swinglines.proofs.reading.step.Tie as tie
+use Rattle.swingreading.specs.Reading.{byteAfter}
+use Rattle.swingreading.proofs.step.Statement.{statement}
+use Rattle.swingreading.proofs.step.Tie as tie
 
 pub step-spec : {M : Type 1} → statement M
 unfolding byteAfter

@@ -1,8 +1,8 @@
 -- `close` meets its contract: its tests are those of the definition, in its order. Assumes nothing.
 use borrow.Author.Tests.{eq-eqb, ne-eqb}
-use Rattle.swinglines.specs.Reading.{lineOf}
-use Rattle.swinglines.proofs.reading.close.Statement.{statement}
-use Rattle.swinglines.proofs.reading.close.Tie as tie
+use Rattle.swingreading.specs.Reading.{lineOf}
+use Rattle.swingreading.proofs.close.Statement.{statement}
+use Rattle.swingreading.proofs.close.Tie as tie
 
 pub close-spec : {M : Type 1} → statement M
 unfolding lineOf
