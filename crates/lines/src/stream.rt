@@ -1,9 +1,10 @@
 // The listing as its input comes: what is held of a line that has not ended, and the replies to those that have.
 use crate::replies::put_reply;
+use writing::least;
 use writing::push;
 ghost use mathlib.Core.Path.{_≡_};
 ghost use mathlib.Core.List.{[], _∷_};
-ghost use Prim.Native.Nat.{_+_, _*_, _≤_, min};
+ghost use Prim.Native.Nat.{_+_, _*_, _≤_};
 ghost use lib.ListN.{length, take};
 ghost use Rattle.io.specs.Counts.{Counts};
 ghost use Rattle.writing.specs.Written.{Put};
@@ -13,12 +14,6 @@ ghost use Rattle.lines.specs.Stream.{saidLast, Fed};
 pub struct Progress {
     pub held: usize,
     pub used: usize,
-}
-
-fn least(a: usize, b: usize) -> usize
-    ensures { λ r. ⌜ (r ≤ a) × (r ≤ b) × (r ≡ min a b) ⌝ }
-{
-    if a < b { a } else { b }
 }
 
 fn step(b: u8, held: &mut [u8], n: usize, out: &mut [u8], used: usize) -> Progress

@@ -1,13 +1,13 @@
 -- The difference of two floats above zero that a test has shown unequal: it is not zero, whichever is the larger.
-use mathlib.Core.Path.{_≡_, sym, ap, ap₂, _∙_, subst, subst₂}
+use mathlib.Core.Path.{_≡_, sym, _∙_, subst, subst₂}
 use mathlib.Core.Logic.{_⊎_, inl, inr}
 use Prim.Native.Nat.{ℕ, _-_, _≤_, _<_}
 use native.Mathlib.Nat.{lt-irrefl}
 use native.Mathlib.Omega.{arith}
-use mathlib.Core.Bool.{Bool, true, false, not, _&&_, _||_, cond}
+use mathlib.Core.Bool.{Bool, true, false, not, _||_, cond}
 use lib.Dec.{T, T-not, ltb, eqb, ltb→lt, nltb→le}
 use lib.Ieee.{Float, Format, sub, eq, level}
-use lib.Ieee.Fits.{and-l, and-r, and-i, eq→eqb}
+use lib.Ieee.Fits.{and-i, eq→eqb}
 use Rattle.algebra.specs.Order.{lt-or-le}
 use Rattle.scaling.specs.Near.{near}
 use Rattle.scaling.specs.Cross.{addN}

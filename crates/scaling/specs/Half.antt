@@ -1,15 +1,15 @@
 -- Rounding changes a fraction in the normal range, and every whole number, by less than a factor of two, either way. Crude, and enough wherever only
 -- a bound is wanted.
 use mathlib.Core.Path.{_≡_, sym, ap, _∙_}
-use Prim.Native.Nat.{ℕ, suc, _+_, _-_, _*_, _^_, _≤_, _<_}
+use Prim.Native.Nat.{ℕ, suc, _-_, _*_, _^_, _≤_, _<_}
 use mathlib.Core.Logic.{inl, inr}
-use native.Mathlib.Nat.{le-trans, le-of-eq, mul-one, mul-pos, zero-lt-suc, le-of-mul-le-mul-left, lt-of-lt-of-le}
+use native.Mathlib.Nat.{le-trans, le-of-eq, mul-one, zero-lt-suc, le-of-mul-le-mul-left, lt-of-lt-of-le}
 use native.Mathlib.Omega.{arith}
 use mathlib.Core.List.{[], _∷_}
 use lib.Pow.{pow-pos, pow-mono}
 use lib.Ieee.{Format, prec}
-use Rattle.algebra.specs.Ring.{con, nxt, _:+_, _:*_, _≈_, _⊩_, _times_≼_, Order, by-below}
-use Rattle.scaling.specs.Near.{near, digits, near-exact, either}
+use Rattle.algebra.specs.Ring.{con, nxt, _:*_, _≈_, _⊩_, _times_≼_, Order, by-below}
+use Rattle.scaling.specs.Near.{near, near-exact, either}
 use Rattle.scaling.specs.Error.{near-not-less, near-not-more}
 
 twice : (T a b : ℕ) → 0 < T → T * a ≤ suc T * b → a ≤ 2 * b

@@ -1,5 +1,5 @@
 -- A NaN goes through every operation.
-use mathlib.Core.Path.{_≡_, refl, ap, _∙_}
+use mathlib.Core.Path.{_≡_, refl}
 use lib.Ieee.{Float, nan, inf, fin, Format, neg, add, sub, mul, div}
 
 pub mul-nan : (f : Format) (x : Float) → mul f x nan ≡ nan

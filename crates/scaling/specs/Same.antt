@@ -1,6 +1,6 @@
 -- A float's units are its own.
 use mathlib.Core.Path.{_≡_, sym, _∙_}
-use Prim.Native.Nat.{ℕ, _*_}
+use Prim.Native.Nat.{ℕ}
 use native.Mathlib.Nat.{eq-of-mul-eq-mul-right}
 use mathlib.Core.Bool.{Bool}
 use lib.Ieee.{Float, Format}

@@ -1,12 +1,12 @@
 -- The larger of two floats of either sign, and the smaller: each run takes the same one. The part above zero of either is no more than the larger's.
-use mathlib.Core.Path.{_≡_, refl, sym, ap, ap₂, _∙_, subst, subst₂}
-use Prim.Native.Nat.{ℕ, _+_, _≤_, _<_, zero-le}
+use mathlib.Core.Path.{_≡_, sym, ap, _∙_, subst, subst₂}
+use Prim.Native.Nat.{ℕ, _+_, _≤_, zero-le}
 use native.Mathlib.Nat.{le-refl, le-of-lt}
 use native.Mathlib.Omega.{arith}
 use mathlib.Core.Bool.{Bool, true, false, not, cond}
-use lib.Dec.{T, ltb, ltb→lt, nltb→le}
-use lib.Ieee.{Float, Format, lt, isNan, below}
-use Rattle.binary64.specs.Leaves.{maximum, minimum}
+use lib.Dec.{T, ltb→lt, nltb→le}
+use lib.Ieee.{Float, Format, lt, below}
+use Rattle.binary64.specs.Leaves.{maximum}
 use Rattle.scaling.specs.Units.{Is, lt-units}
 use Rattle.scaling.specs.Kind.{Kind, level?}
 use Rattle.scaling.specs.One.{number}

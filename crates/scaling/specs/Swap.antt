@@ -1,9 +1,9 @@
 -- A sum of two floats is the same in either order, where it does not overflow.
-use mathlib.Core.Path.{_≡_, refl, sym, ap, ap₂, _∙_, subst, subst₂}
-use mathlib.Core.Logic.{_⊎_, inl, inr}
+use mathlib.Core.Path.{_≡_, refl, sym, ap, _∙_, subst, subst₂}
+use mathlib.Core.Logic.{inl, inr}
 use Prim.Native.Nat.{ℕ, _+_, _-_, _≤_, _<_}
 use native.Mathlib.Omega.{arith}
-use mathlib.Core.Bool.{Bool, true, false, not, _&&_, Bool·beq, cond}
+use mathlib.Core.Bool.{Bool, true, false, not, _&&_, cond}
 use borrow.Author.Tests.{lt-ltb, le-ltb}
 use lib.Dec.{T, ltb}
 use lib.Ieee.{Float, Format, add}
@@ -12,7 +12,7 @@ use Rattle.algebra.specs.Order.{lt-or-le}
 use Rattle.scaling.specs.Near.{near}
 use Rattle.scaling.specs.Cross.{addN, addS}
 use Rattle.scaling.specs.Units.{Is, unique, add-units}
-use Rattle.scaling.specs.Kind.{Kind, In, floor, and₃, level?, nudgeK, nudgeOk}
+use Rattle.scaling.specs.Kind.{Kind, floor, and₃, level?, nudgeK, nudgeOk}
 use Rattle.scaling.specs.Within.{nudge-in}
 use Rattle.scaling.specs.Two.{Two, nudge-two, summed, under}
 

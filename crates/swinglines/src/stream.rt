@@ -11,9 +11,10 @@ use swingreading::close;
 use swingreading::nothing;
 use swingreading::start;
 use swingreading::step;
+use writing::least;
 use writing::put_text;
 ghost use mathlib.Core.Path.{_≡_};
-ghost use Prim.Native.Nat.{_+_, _*_, _≤_, min};
+ghost use Prim.Native.Nat.{_+_, _*_, _≤_};
 ghost use lib.ListN.{length, take};
 ghost use Rattle.io.specs.Counts.{Counts};
 ghost use Rattle.writing.specs.Written.{Put};
@@ -193,12 +194,6 @@ fn feed_all(block: &[u8], s: State, out: &mut [u8]) -> Progress
         i += 1;
     }
     Progress { state, used }
-}
-
-fn least(a: usize, b: usize) -> usize
-    ensures { λ r. ⌜ (r ≤ a) × (r ≤ b) × (r ≡ min a b) ⌝ }
-{
-    if a < b { a } else { b }
 }
 
 // Feeds a block: the replies to the lines that end in it are put at the start of `out`. Of a block longer than 1,024 bytes only so many

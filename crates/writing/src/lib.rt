@@ -8,5 +8,6 @@ pub use crate::digits::put_decimal;
 pub use crate::digits::put_places;
 pub use crate::digits::put_word;
 pub use crate::room::has_room;
+pub use crate::room::least;
 pub use crate::text::push;
 pub use crate::text::put_text;

@@ -1,6 +1,6 @@
-// Whether there is room in a lent slice.
+// How much there is room for.
 ghost use mathlib.Core.Path.{_≡_};
-ghost use Prim.Native.Nat.{_+_};
+ghost use Prim.Native.Nat.{_+_, _≤_, min};
 ghost use lib.Dec.{leb};
 
 // Whether `room` more bytes fit into `length` bytes after the first `at`.
@@ -11,4 +11,11 @@ pub fn has_room(length: usize, at: usize, room: usize) -> bool
         return false;
     }
     room <= length - at
+}
+
+// The lesser of two sizes.
+pub fn least(a: usize, b: usize) -> usize
+    ensures { λ r. ⌜ (r ≤ a) × (r ≤ b) × (r ≡ min a b) ⌝ }
+{
+    if a < b { a } else { b }
 }

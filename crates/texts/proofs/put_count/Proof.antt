@@ -1,11 +1,11 @@
 -- `put_count` meets its contract: the digits, then the line's end. Assumes nothing.
-use Prim.Native.Nat.{ℕ, suc, _+_, _≤_}
+use Prim.Native.Nat.{ℕ, _+_, _≤_}
 use mathlib.Core.List.{List}
 use native.Mathlib.Omega.{arith}
 use borrow.Author.Needs.{needs}
 use lib.ListN.{length, set}
 use Rattle.calls.specs.CallLaws.{digits-length}
-use Rattle.writing.specs.Decimal.{placesOf, decimal}
+use Rattle.writing.specs.Decimal.{decimal}
 use Rattle.writing.specs.Places.{places-most}
 use Rattle.writing.specs.Written.{Put, Tried, tried-put, put-more, put-byte}
 use Rattle.texts.specs.Text.{countText}

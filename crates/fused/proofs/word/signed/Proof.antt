@@ -4,7 +4,8 @@ use native.Mathlib.Omega.{arith}
 use Prim.Native.Nat.{_+_, _^_}
 use mathlib.Core.Path.{_∙_}
 use Rattle.binary64.specs.Tests.{bits-number}
-use Rattle.fused.specs.Signs.{bits-neg, sign-set, sign-clear}
+use Rattle.rounding.specs.Sign.{bits-neg}
+use Rattle.fused.specs.Signs.{sign-set, sign-clear}
 use Rattle.fused.proofs.word.signed.Statement.{statement}
 use Rattle.fused.proofs.word.signed.Tie as tie
 
