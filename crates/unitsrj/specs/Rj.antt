@@ -3,7 +3,7 @@
 use mathlib.Core.Path.{_≡_, refl, sym, ap₂, subst, subst₂}
 use Prim.Native.Nat.{ℕ, _+_, _*_, _<_}
 use native.Mathlib.Omega.{arith}
-use mathlib.Core.Bool.{Bool, true, false, not, cond}
+use mathlib.Core.Bool.{Bool, true, false, not, cond, _||_}
 use lib.Dec.{T, not-T, ltb→lt, lt→ltb}
 use lib.Ieee.{Float, binary64, eq, le, lt, below}
 use Rattle.carlson.specs.Constants.{zero, no-result}
