@@ -28,18 +28,24 @@ fits at more l e f = omega (arith, leb-true (at + (more + 1)) l (sym e ∙ f))
 lacks : (at more l : ℕ) {t : Bool} → t ≡ leb (at + (more + 1)) l → t ≡ false → l < at + suc more
 lacks at more l e f = omega (arith, leb-false (at + (more + 1)) l (sym e ∙ f))
 
+-- there is room for as many digits as are allowed
+room : (c : tie.Then2) → let a = c .before .before .before .before .args in a .at + suc (a .more) ≤ length (now (a .out))
+room c =
+    let a = c .before .before .before .before .args in
+    fits (a .at) (a .more) (length (now (a .out))) (c .before .has-room .ensures) (c .if2 .taken)
+
 spell-requires : tie.Need-spell-requires
 spell-requires c κs =
     let k = c .before in
     let a = k .before .before .before .before .before .args in
-    (omega arith, (omega arith, omega (arith, k .places .ensures, places-most (a .more) (a .n), fits (a .at) (a .more) (length (now (a .out))) (k .before .before .has-room .ensures) (k .before .if2 .taken))))
+    (omega arith, (omega arith, omega (arith, k .places .ensures, places-most (a .more) (a .n), room (k .before))))
 
 returns : tie.Need-returns
 returns c =
     let w = c .before .before in
     let k = w .before .before in
     let a = k .before .before .before .before .before .args in
-    spelled (a .n) _ (a .more) (k .places .ensures) (fits (a .at) (a .more) (length (now (a .out))) (k .before .before .has-room .ensures) (k .before .if2 .taken)) (w .spell .ensures)
+    spelled (a .n) _ (a .more) (k .places .ensures) (room (k .before)) (w .spell .ensures)
 
 returns-2 : tie.Need-returns-2
 returns-2 c =
