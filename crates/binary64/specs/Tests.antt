@@ -120,7 +120,8 @@ above-all x f l h =
 zero-not : (m : ℕ) (e : ℤ) (s : Bool)
     → (eqb (suc m * up e * 1) (0 * 1 * down e) && (Bool·beq s false || eqb (suc m * up e * 1) 0)) ≡ true → ⊥
 zero-not m e s h =
-    true≢false (sym h ∙ not-level (suc m * up e * 1) (0 * 1 * down e) (mul-pos (mul-pos (zero-lt-suc m) (up-pos e)) (zero-lt-suc 0)) (zero-mul (down e)))
+    true≢false (sym h ∙ not-level (suc m * up e * 1) (0 * 1 * down e) (mul-pos (mul-pos (zero-lt-suc m) (up-pos e)) (zero-lt-suc 0))
+    (zero-mul (down e)))
   where
     not-level : (a b : ℕ) → 0 < a → b ≡ 0 → (eqb a b && (Bool·beq s false || eqb a 0)) ≡ false
     not-level a b h e = rw (ne-eqb a b (λ z. omega arith))

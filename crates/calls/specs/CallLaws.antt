@@ -58,7 +58,11 @@ Patterns (x ∷ xs) = (x < 2 ^ 64) × Patterns xs
 word-back : (p q : List ℕ) (x : ℕ) → x < 2 ^ 64 → wordAt (p ++ (wordText x ++ q)) (length p) ≡ Is x
 unfolding wordAt wordText
 word-back p q x h =
-    rw (getD-append-seam p 32 (digits 16 16 x ++ q) 0, drop-append-add p (32 ∷ (digits 16 16 x ++ q)) 1, take-at (digits 16 16 x) q 16 (digits-length 16 16 x))
+    rw (
+      getD-append-seam p 32 (digits 16 16 x ++ q) 0,
+      drop-append-add p (32 ∷ (digits 16 16 x ++ q)) 1,
+      take-at (digits 16 16 x) q 16 (digits-length 16 16 x),
+    )
     (read-written 16 (lit< tt) (lit≤ tt) 16 0 x h ∙ ap Is (omega arith))
 
 words-back : (xs p : List ℕ) → Patterns xs → wordsAt (length xs) (p ++ wordTexts xs) (length p) ≡ all xs
@@ -111,7 +115,8 @@ bad c e = let z : _≡_ {A = ℕ} 0 1 = cc in absurd (omega arith)
 abbrev Fits : ℕ → Words → Call → Type 0
 Fits k ws c = (k ≡ letterOf c) × (ws ≡ all (argumentsOf c))
 
-tested : (k m : ℕ) (a c : Call) (ws : Words) (rest : Line) → Fits m ws a → (rest ≡ Good c → Fits k ws c) → cond (eqb k m) (Good a) rest ≡ Good c → Fits k ws c
+tested : (k m : ℕ) (a c : Call) (ws : Words) (rest : Line) → Fits m ws a → (rest ≡ Good c → Fits k ws c) → cond (eqb k m) (Good a) rest ≡ Good c
+    → Fits k ws c
 tested k m a c ws rest f g e = go (eqb k m) refl e
   where
     go : (t : Bool) → eqb k m ≡ t → cond t (Good a) rest ≡ Good c → Fits k ws c
@@ -178,7 +183,8 @@ write-back l c e = go (eqb (length l) 36) (eqb (length l) 53) (eqb (length l) 70
   where
     go :
         (t u v : Bool) → eqb (length l) 36 ≡ t → eqb (length l) 53 ≡ u → eqb (length l) 70 ≡ v
-        → cond t (named (initialOf l) (wordsAt 2 l 2)) (cond u (named (initialOf l) (wordsAt 3 l 2)) (cond v (named (initialOf l) (wordsAt 4 l 2)) Bad)) ≡ Good c
+        → cond t (named (initialOf l) (wordsAt 2 l 2))
+        (cond u (named (initialOf l) (wordsAt 3 l 2)) (cond v (named (initialOf l) (wordsAt 4 l 2)) Bad)) ≡ Good c
         → lineOf c ≡ l
     go true u v p q r e = line-is 2 l c (sym (eqb-true (length l) 36 p)) e
     go false true v p q r e = line-is 3 l c (sym (eqb-true (length l) 53 q)) e

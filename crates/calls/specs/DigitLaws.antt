@@ -37,7 +37,12 @@ digit-of-glyph d h = go (ltb d 10) refl
         rw (le-ltb (48 + d) 48 (omega arith), lt-ltb (48 + d) 58 (omega arith)) (omega arith)
     go false e =
         let k : 10 ≤ d = ltb-false d 10 e in
-        rw (le-ltb (55 + d) 48 (omega arith), le-ltb (55 + d) 58 (omega arith), le-ltb (55 + d) 65 (omega arith), lt-ltb (55 + d) 71 (omega arith)) (omega arith)
+        rw (
+          le-ltb (55 + d) 48 (omega arith),
+          le-ltb (55 + d) 58 (omega arith),
+          le-ltb (55 + d) 65 (omega arith),
+          lt-ltb (55 + d) 71 (omega arith),
+        ) (omega arith)
 
 pub glyph-of-digit : (b : ℕ) → digitOf b < 16 → glyphOf (digitOf b) ≡ b
 unfolding digitOf glyphOf
@@ -93,7 +98,8 @@ module _ (base : ℕ) (low : 1 < base) (high : base ≤ 16) where
       let z : n < 1 = rw pow-zero at h in
       ap Is (rw pow-zero (omega arith))
   read-written (suc k) v n h =
-      read-last v (digits base k (n / base)) (glyphOf (n % base)) ∙ ap (λ (w : Word). after w (glyphOf (n % base))) (read-written k v (n / base) (shorter k n h))
+      read-last v (digits base k (n / base)) (glyphOf (n % base))
+      ∙ ap (λ (w : Word). after w (glyphOf (n % base))) (read-written k v (n / base) (shorter k n h))
       ∙ next-digit (v * base ^ k + n / base) n ∙ ap Is (rw pow-suc (grouped v (base ^ k) n))
 
   -- the first of the digits, and the rest

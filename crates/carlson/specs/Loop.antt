@@ -6,7 +6,8 @@ use native.Mathlib.Numerals.{add-one}
 use native.Mathlib.Omega.{arith}
 
 module _ {S A : Type 0} (step : S → S) (stop : S → Bool) (found spent : S → ℕ → A) where
-  -- So many passes are left; whether the state may stop the loop; the state; the passes made. Stopped, the state is `found`; with no pass left, `spent`.
+  -- So many passes are left; whether the state may stop the loop; the state; the passes made. Stopped, the state is `found`; with no pass
+  -- left, `spent`.
   unfoldable pub capped : ℕ → Bool → S → ℕ → A
   capped zero true s n = found s n
   capped zero false s n = spent s n

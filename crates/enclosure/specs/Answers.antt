@@ -20,7 +20,8 @@ use Rattle.enclosure.specs.Sizes.{exact-floor}
 
 -- ---- atan of t = tau * 2 ^ -(62 + j)
 pub atan-within : (j tau : ℕ) → tau ≤ 2 ^ 62
-    → Within (atan-lower (units (62 + j) tau)) (atan-upper (units (62 + j) tau)) (units (62 + j) (atan-answer j tau)) (units (62 + j) 10) (units (62 + j) 30)
+    → Within (atan-lower (units (62 + j) tau)) (atan-upper (units (62 + j) tau)) (units (62 + j) (atan-answer j tau)) (units (62 + j) 10)
+    (units (62 + j) 30)
 atan-within j tau high = atan-near (units (62 + j) tau) j tau (exact-floor j tau high)
 
 -- ---- atan of t > 1
@@ -79,7 +80,8 @@ loss-within j m proper fits small =
     double-near (loss a proper) (loss-proper a proper) j (loss-seed j m) (loss-seeds j m proper fits small)
 
 -- ---- the same number written otherwise, and wider distances
-pub within-same : {lower upper : ℕ → Quotient} {v w down up down' up' : Quotient} → Within lower upper v down up → w ≼ v → v ≼ w → down ≼ down' → up ≼ up'
+pub within-same : {lower upper : ℕ → Quotient} {v w down up down' up' : Quotient} → Within lower upper v down up → w ≼ v → v ≼ w → down ≼ down'
+    → up ≼ up'
     → Within lower upper w down' up'
 within-same near below above d u = record {
   low = λ n. ≼-trans below (≼-trans (near .low n) (⊞-mono ≼-refl d));
@@ -92,7 +94,8 @@ pub within-rounded : {lower upper : ℕ → Quotient} (k v down up y h unit : �
 within-rounded {lower} {upper} k v down up y h unit near below above d u =
     let rounded : units k y ≼ units k v ⊞ units k h = ≼-trans (units-mono k y (v + h) below) (units-split k v h) in
     let back : units k v ≼ units k y ⊞ units k h = ≼-trans (units-mono k v (y + h) above) (units-split k y h) in
-    let gathered : (a b : ℕ) → a + b ≤ unit → units k a ⊞ units k b ≼ units k unit = λ a b e. ≼-trans (units-join k a b) (units-mono k (a + b) unit e) in
+    let gathered : (a b : ℕ) → a + b ≤ unit → units k a ⊞ units k b
+    ≼ units k unit = λ a b e. ≼-trans (units-join k a b) (units-mono k (a + b) unit e) in
     record {
       low = λ n.
           let end = ≼-trans (⊞-under (upper n) (units k down) (units k h)) (⊞-mono ≼-refl (gathered down h d)) in

@@ -47,7 +47,8 @@ share-low : Order 5 (λ f r u N D.
 share-low = by-below tt
 
 share-high : Order 5 (λ f r u N D.
-    (con 4 :* r times con (2 ^ 61) :* N ≼ (u :+ con 2) :* D) ∷ (con 4 :* D times nxt (u :* con (2 ^ 62)) ≼ f :* (con (2 ^ 61) :+ u) :+ (con (2 ^ 61) :+ u))
+    (con 4 :* r times con (2 ^ 61) :* N ≼ (u :+ con 2) :* D)
+    ∷ (con 4 :* D times nxt (u :* con (2 ^ 62)) ≼ f :* (con (2 ^ 61) :+ u) :+ (con (2 ^ 61) :+ u))
     ∷ (con 4 :* D :* (u :+ con 2) times f :+ r :+ con 5 ≼ con (2 ^ 62)) ∷ (con (2 ^ 63) :* N times con (2 ^ 62) ≼ f :+ r :+ con 5) ∷ []
     ⊩ N :* con (2 ^ 64) :* con (2 ^ 61) ≈ (con 4 :* f :+ con 20) :* (D :+ N) :* con (2 ^ 61))
 share-high = by-below tt
@@ -150,7 +151,8 @@ module _ (t : Quotient) (j tau : ℕ) (floor : Floor t j tau) where
       div-le-of-le-mul (2 ^ 61 + u) (share-half .law u square-small)
 
   -- (of any f that is the quotient)
-  near-at : (f : ℕ) → f ≤ 2 ^ 61 → f * (2 ^ 61 + u) ≤ u * 2 ^ 62 → u * 2 ^ 62 < f * (2 ^ 61 + u) + (2 ^ 61 + u) → Near euler (euler-ratio t) (4 * f) 0 20
+  near-at : (f : ℕ) → f ≤ 2 ^ 61 → f * (2 ^ 61 + u) ≤ u * 2 ^ 62 → u * 2 ^ 62 < f * (2 ^ 61 + u) + (2 ^ 61 + u)
+      → Near euler (euler-ratio t) (4 * f) 0 20
   near-at f fits fl fh =
       let r = 2 ^ 62 - f in
       let a : f + r ≤ 2 ^ 62 = omega arith in
@@ -161,7 +163,8 @@ module _ (t : Quotient) (j tau : ℕ) (floor : Floor t j tau) where
       let D = d * d in
       let N = n * n in
       let ul : u * D ≤ 2 ^ 61 * N =
-      le-of-mul-le-mul-right (square-low .law n d tau u Q W (div-mul-le-self (tau * tau) W) (floor .low) (le-of-eq (scale j))) (pow-pos (63 + 2 * j)) in
+      le-of-mul-le-mul-right (square-low .law n d tau u Q W (div-mul-le-self (tau * tau) W) (floor .low) (le-of-eq (scale j)))
+      (pow-pos (63 + 2 * j)) in
       let uh : 2 ^ 61 * N ≤ (u + 2) * D =
       le-of-mul-le-mul-right
       (square-high .law n d tau u Q W (lt-div-mul-add (pow-pos (63 + 2 * j))) (floor .high) tau-high W-large (le-of-eq (sym (scale j))))
@@ -233,7 +236,8 @@ module _ (t : Quotient) (j tau : ℕ) (floor : Floor t j tau) where
   pub atan-near : Within (atan-lower t) (atan-upper t) (units (62 + j) (atan-answer j tau)) (units (62 + j) 10) (units (62 + j) 30)
   unfolding atan-answer atan-lower atan-upper
   atan-near =
-      let at-low : units (62 + j) A ≼ atan-lower t (terms euler) ⊞ units (62 + j) 10 = ≼-trans partial-low (⊞-mono (euler-expansion t (terms euler) .0) ≼-refl) in
+      let at-low : units (62 + j) A ≼ atan-lower t (terms euler) ⊞ units (62 + j) 10 = ≼-trans partial-low
+      (⊞-mono (euler-expansion t (terms euler) .0) ≼-refl) in
       let at-high : atan-upper t (terms euler) ≼ units (62 + j) A ⊞ units (62 + j) 30 =
       gathered (62 + j) A 29 1 (≼-trans (euler-expansion t (terms euler) .1) partial-high) tail-high in
       near-all (atan-nested t) (terms euler) at-low at-high

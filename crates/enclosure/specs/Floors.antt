@@ -28,7 +28,8 @@ abbrev pub all-fit : List ℕ → Bool
 all-fit [] = true
 all-fit (r ∷ rs) = leb r (15 * 2 ^ 60) && all-fit rs
 
-product-fits : Order 2 (λ d h. (h times d ≼ con (2 ^ 60)) ∷ (con (2 ^ 60) times nxt h ≼ con (2 ^ 64)) ∷ [] ⊩ nxt (d :* h) ≈ con (2 ^ 60) :* con (2 ^ 64))
+product-fits : Order 2 (λ d h. (h times d ≼ con (2 ^ 60)) ∷ (con (2 ^ 60) times nxt h ≼ con (2 ^ 64)) ∷ []
+    ⊩ nxt (d :* h) ≈ con (2 ^ 60) :* con (2 ^ 64))
 product-fits = by-below tt
 
 pub horner-fits : (d : ℕ) (rs : List ℕ) → d ≤ 2 ^ 60 → T (all-fit rs) → horner d rs < 2 ^ 64
@@ -102,5 +103,6 @@ module _ (W : ℕ) (pos : 0 < W) (p : ℕ) (inside : p ≤ 2 ^ 58) where
   floors-high (suc k) g (b ∷ bs) =
       let h = horner (4 * p) (entries k W (16 * g) bs) in
       rw (horner-step (4 * p) (entry W g b) (entries k W (16 * g) bs), pow-succ' (2 ^ 58) (length bs))
-      (le-of-mul-le-mul-right (step-high .law W g b p ((2 ^ 58) ^ length bs) (evaluate bs p (2 ^ 58)) (entry W g b) h (4 * p * h / 2 ^ 64) (left-out k bs)
+      (le-of-mul-le-mul-right (step-high .law W g b p ((2 ^ 58) ^ length bs) (evaluate bs p (2 ^ 58)) (entry W g b) h (4 * p * h / 2 ^ 64)
+      (left-out k bs)
       (entry-high g b) (lt-div-mul-add (pow-pos 64)) (floors-high k (16 * g) bs) inside) (pow-pos 64))

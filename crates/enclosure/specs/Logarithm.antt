@@ -34,7 +34,8 @@ square-low : Order 6 (λ p q Q G g w.
 square-low = by-below tt
 
 square-high : Order 6 (λ p q Q G g w.
-    (q :* q times nxt (g :* g) ≼ w :* G :+ G) ∷ (p :* Q :+ (g :+ con 3) :* q times p :* Q ≼ (g :+ con 3) :* q) ∷ (con 6 :* q :* q times g ≼ con (2 ^ 62))
+    (q :* q times nxt (g :* g) ≼ w :* G :+ G) ∷ (p :* Q :+ (g :+ con 3) :* q times p :* Q ≼ (g :+ con 3) :* q)
+    ∷ (con 6 :* q :* q times g ≼ con (2 ^ 62))
     ∷ (con 25 :* q :* q times con (2 ^ 60) ≼ G) ∷ (p :* p times con (2 ^ 64) :* G ≼ Q :* Q) ∷ []
     ⊩ p :* p :* con (2 ^ 64) :* G ≈ (w :+ con 26) :* (q :* q) :* G)
 square-high = by-below tt
@@ -53,7 +54,8 @@ square-fits = by-below tt
 answer-low : Order 8 (λ B g h p q Q e d.
     (q :* d :* Q times B :* con (2 ^ 63) ≼ g :* h) ∷ (h :* d :* Q times g :* q ≼ p :* Q :+ q)
     ∷ (p :* Q :* Q times h :* d ≼ e :* con (2 ^ 63) :+ con 2 :* con 9 :* d)
-    ∷ (q :* d :* Q times nxt h ≼ con (2 ^ 64)) ∷ (con 18 :* d :* Q times p :* Q ≼ (g :+ con 3) :* q) ∷ (con 18 :* q :* d :* Q times g ≼ con (2 ^ 62)) ∷ []
+    ∷ (q :* d :* Q times nxt h ≼ con (2 ^ 64)) ∷ (con 18 :* d :* Q times p :* Q ≼ (g :+ con 3) :* q)
+    ∷ (con 18 :* q :* d :* Q times g ≼ con (2 ^ 62)) ∷ []
     ⊩ B :* (q :* d :* Q) :* con (2 ^ 63) ≈ (p :* e :* Q :+ con 12 :* (q :* d)) :* Q :* con (2 ^ 63))
 answer-low = by-below tt
 
@@ -153,7 +155,8 @@ module _ (s : Quotient) (proper : s .num < s .den) (j sg : ℕ) (seed : Seed s j
   pub T-near : Within (T-lower s) (T-upper s proper) (units (62 + j) (T-answer j sg)) (units (62 + j) 12) (units (62 + j) 39)
   unfolding T-answer T-lower T-upper
   T-near =
-      let at-low : units (62 + j) B ≼ T-lower s (terms odd) ⊞ units (62 + j) 12 = ≼-trans partial-low (⊞-mono (T-expansion s (terms odd) .0) ≼-refl) in
+      let at-low : units (62 + j) B ≼ T-lower s (terms odd) ⊞ units (62 + j) 12 = ≼-trans partial-low
+      (⊞-mono (T-expansion s (terms odd) .0) ≼-refl) in
       let at-high : T-upper s proper (terms odd) ≼ units (62 + j) B ⊞ units (62 + j) 39 =
       gathered (62 + j) B 37 2 (≼-trans (T-expansion s (terms odd) .1) partial-high) tail-high in
       near-all (T-nested s proper) (terms odd) at-low at-high

@@ -36,12 +36,14 @@ ln-seeds m low high =
 
 -- ---- ln_1p above 0. J = 2 ^ j, a = m / (2 ^ 53 J), c its part, g the seed
 gain-low : Order 4 (λ m J c g.
-    (g times nxt (m :* con (2 ^ 7)) ≼ c :* J :+ J) ∷ (J times g :* (con (2 ^ 61) :+ c) ≼ m :* con (2 ^ 7) :* con (2 ^ 62)) ∷ (J times g ≼ con (2 ^ 61)) ∷ []
+    (g times nxt (m :* con (2 ^ 7)) ≼ c :* J :+ J) ∷ (J times g :* (con (2 ^ 61) :+ c) ≼ m :* con (2 ^ 7) :* con (2 ^ 62))
+    ∷ (J times g ≼ con (2 ^ 61)) ∷ []
     ⊩ g :* (con 2 :* (con (2 ^ 53) :* J) :+ m) :* con (2 ^ 7) ≈ (m :* (con (2 ^ 62) :* J) :+ (con 2 :* (con (2 ^ 53) :* J) :+ m)) :* con (2 ^ 7))
 gain-low = by-below tt
 
 gain-high : Order 4 (λ m J c g.
-    (g :+ con 1 times c :* J ≼ m :* con (2 ^ 7)) ∷ (J times nxt (m :* con (2 ^ 7) :* con (2 ^ 62)) ≼ g :* (con (2 ^ 61) :+ c) :+ (con (2 ^ 61) :+ c)) ∷ []
+    (g :+ con 1 times c :* J ≼ m :* con (2 ^ 7)) ∷ (J times nxt (m :* con (2 ^ 7) :* con (2 ^ 62))
+    ≼ g :* (con (2 ^ 61) :+ c) :+ (con (2 ^ 61) :+ c)) ∷ []
     ⊩ m :* (con (2 ^ 62) :* J) :* con (2 ^ 7) ≈ (g :+ con 3) :* (con 2 :* (con (2 ^ 53) :* J) :+ m) :* con (2 ^ 7))
 gain-high = by-below tt
 
@@ -141,7 +143,8 @@ rests (suc i) m q h a e =
       fits = omega arith;
     }
 
-pub loss-seeds : (j m : ℕ) (proper : m < 2 ^ (53 + j)) → m ≤ 2 ^ 53 → 4 * m ≤ 3 * 2 ^ (53 + j) → Seed (loss (units (53 + j) m) proper) j (loss-seed j m)
+pub loss-seeds : (j m : ℕ) (proper : m < 2 ^ (53 + j)) → m ≤ 2 ^ 53 → 4 * m ≤ 3 * 2 ^ (53 + j)
+    → Seed (loss (units (53 + j) m) proper) j (loss-seed j m)
 loss-seeds j m proper h a =
     let J = 2 ^ j in
     let q = 2 * 2 ^ (53 + j) - m in
@@ -154,7 +157,8 @@ loss-seeds j m proper h a =
     let pos : 0 < 2 ^ 61 - c = omega (arith, r .held) in
     let up : 2 ^ 61 ≤ 2 ^ 61 - c + c = omega arith in
     let down : 2 ^ 61 - c + c ≤ 2 ^ 61 = omega (arith, r .held) in
-    let l = loss-low .law m J c g q (2 ^ 61 - c) (le-of-eq s) (div-mul-le-self (m * 2 ^ 7) J) up (div-mul-le-self (m * 2 ^ 7 * 2 ^ 62) (2 ^ 61 - c)) in
+    let l = loss-low .law m J c g q (2 ^ 61 - c) (le-of-eq s) (div-mul-le-self (m * 2 ^ 7) J) up
+    (div-mul-le-self (m * 2 ^ 7 * 2 ^ 62) (2 ^ 61 - c)) in
     let u = loss-high .law m J c g q (2 ^ 61 - c) (r .up-to) (lt-div-mul-add pos) down (le-of-eq (sym s)) (r .rest) (r .few) in
     record {
       low = rw (pow-add 2 62 j) (le-of-mul-le-mul-right l (pow-pos 7));

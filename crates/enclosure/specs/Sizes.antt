@@ -24,7 +24,8 @@ exact-floor j tau h = record {
 }
 
 -- (a product of p ≤ 2 ^ 62 with a word)
-product-fits : Order 2 (λ p h. (h times p ≼ con (2 ^ 62)) ∷ (con (2 ^ 62) times nxt h ≼ con (2 ^ 64)) ∷ [] ⊩ nxt (p :* h) ≈ con (2 ^ 63) :* con (2 ^ 63))
+product-fits : Order 2 (λ p h. (h times p ≼ con (2 ^ 62)) ∷ (con (2 ^ 62) times nxt h ≼ con (2 ^ 64)) ∷ []
+    ⊩ nxt (p :* h) ≈ con (2 ^ 63) :* con (2 ^ 63))
 product-fits = by-below tt
 
 -- ---- atan

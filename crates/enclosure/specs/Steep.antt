@@ -76,10 +76,12 @@ spread : (g u : Quotient) (y v a : ℕ) → y + v ≤ a → units 62 y ⊞ (g �
 spread g u y v a h = record { cross = spread-out .law y v a (g .num) (g .den) (u .num) (u .den) (2 ^ 62) h }
 
 -- ---- what is near atan(r), r ≤ 1, is at most 2 ^ 62 + 10 units
-at-most-one : Order 2 (λ n d. (con (2 ^ 124) times n ≼ d) ∷ [] ⊩ (n :* con (2 ^ 62) :+ con 10 :* d) :* con (2 ^ 62) ≈ con (2 ^ 62 + 10) :* (d :* con (2 ^ 62)))
+at-most-one : Order 2 (λ n d. (con (2 ^ 124) times n ≼ d) ∷ []
+    ⊩ (n :* con (2 ^ 62) :+ con 10 :* d) :* con (2 ^ 62) ≈ con (2 ^ 62 + 10) :* (d :* con (2 ^ 62)))
 at-most-one = by-below tt
 
-pub within-one : (r : Quotient) (v : ℕ) (up : Quotient) → r .num ≤ r .den → Within (atan-lower r) (atan-upper r) (units 62 v) (units 62 10) up → v ≤ 2 ^ 62 + 10
+pub within-one : (r : Quotient) (v : ℕ) (up : Quotient) → r .num ≤ r .den → Within (atan-lower r) (atan-upper r) (units 62 v) (units 62 10) up
+    → v ≤ 2 ^ 62 + 10
 within-one r v up one w =
     let most : r ⊞ units 62 10 ≼ units 62 (2 ^ 62 + 10) = record { cross = at-most-one .law (r .num) (r .den) one } in
     let h : units 62 v ≼ units 62 (2 ^ 62 + 10) = ≼-trans (≼-trans (w .low 1) (⊞-mono (atan-first-high r) ≼-refl)) most in

@@ -12,7 +12,8 @@ use Rattle.enclosure.specs.Logarithm.{small-square}
 
 -- ---- atan: t - t^3 is at most the first lower end, and the first upper end at most t
 first-low : Order 2 (λ n d. n :* (con 1 :* (d :* (d :* d :+ n :* n)) :* (d :* (d :* d)))
-    ≈ ((con 0 :* (d :* (d :* d :+ n :* n)) :+ n :* (d :* d) :* con 1) :* (d :* (d :* d)) :+ n :* (n :* n) :* (con 1 :* (d :* (d :* d :+ n :* n)))) :* d)
+    ≈ ((con 0 :* (d :* (d :* d :+ n :* n)) :+ n :* (d :* d) :* con 1) :* (d :* (d :* d)) :+ n :* (n :* n) :*
+    (con 1 :* (d :* (d :* d :+ n :* n)))) :* d)
 first-low = by-below tt
 
 first-high : Order 2 (λ n d.
@@ -104,6 +105,7 @@ loss-tiny a h small =
     let close = loss-most .law n d q whole-two large small more-than in
     let most : whole 2 ⊠ (s ⊞ s ⊠ (s ⊠ s)) ≼ a ⊞ a ⊠ a = record { cross = le-of-mul-le-mul-right close (omega arith) } in
     record {
-      low = λ i. ≼-trans (≼-trans least (⊠-mono ≼-refl (T-tiny-low s (loss-proper a h) i))) (≼-more (whole 2 ⊠ T-upper s (loss-proper a h) i) (whole 0));
+      low = λ i. ≼-trans (≼-trans least (⊠-mono ≼-refl (T-tiny-low s (loss-proper a h) i)))
+          (≼-more (whole 2 ⊠ T-upper s (loss-proper a h) i) (whole 0));
       high = λ i. ≼-trans (⊠-mono ≼-refl (T-tiny-high s (loss-proper a h) (omega arith) i)) most;
     }

@@ -122,7 +122,8 @@ point-high : Order 4 (λ x be n d. (con (2 ^ 64) times n :* con (2 ^ 64) ≼ (x 
 point-high = by-below tt
 
 -- (units of 2 ^ -64 taken four times are units of 2 ^ -63 taken twice)
-sum-low : Order 4 (λ v a n d. (con 1 times v :* (d :* (con 1 :* con (2 ^ 64))) ≼ (n :* (con 1 :* con (2 ^ 64)) :+ con 4 :* a :* d) :* con (2 ^ 63)) ∷ []
+sum-low : Order 4 (λ v a n d. (con 1 times v :* (d :* (con 1 :* con (2 ^ 64)))
+    ≼ (n :* (con 1 :* con (2 ^ 64)) :+ con 4 :* a :* d) :* con (2 ^ 63)) ∷ []
     ⊩ v :* d :* con (2 ^ 64) ≈ (n :* con (2 ^ 63) :+ con 2 :* a :* d) :* con (2 ^ 64))
 sum-low = by-below tt
 

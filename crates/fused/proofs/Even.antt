@@ -63,7 +63,8 @@ half-is k l =
     rw e (mod-eq-of-lt p)
 
 pub some-kept : (v k : ℕ) → v < 2 ^ 64 → 11 < k → k < 64
-    → nearest (v / 2 ^ k) (compare (v - v / 2 ^ k * 2 ^ k % 2 ^ 64) (1 * 2 ^ (k - 1) % 2 ^ 64)) ≡ nearest (v / 2 ^ k) (compare (v % 2 ^ k * 2) (2 ^ k))
+    → nearest (v / 2 ^ k) (compare (v - v / 2 ^ k * 2 ^ k % 2 ^ 64) (1 * 2 ^ (k - 1) % 2 ^ 64))
+    ≡ nearest (v / 2 ^ k) (compare (v % 2 ^ k * 2) (2 ^ k))
 some-kept v k l g h = rw (rest-is v k l, half-is k h) (near-half (v / 2 ^ k) (v % 2 ^ k) k (omega arith))
 
 -- ---- how large it is

@@ -45,7 +45,8 @@ unscaled : (s t : Bool) (P Q e f : ℕ) → f ≤ e
 unscaled s t P Q e f h =
     let d = e - f in
     let i : e ≡ f + d = omega arith in
-    sum-same s t (P * 2 ^ d * 2 ^ e) (Q * 2 ^ e) (2 ^ d * 2 ^ 2296) (P * 2 ^ e) (Q * 2 ^ f) (2 ^ 2296) (mul-pos (pow-pos d) (pow-pos 2296)) (pow-pos 2296)
+    sum-same s t (P * 2 ^ d * 2 ^ e) (Q * 2 ^ e) (2 ^ d * 2 ^ 2296) (P * 2 ^ e) (Q * 2 ^ f) (2 ^ 2296) (mul-pos (pow-pos d) (pow-pos 2296))
+    (pow-pos 2296)
     (scale-one P (2 ^ d) (2 ^ e))
     (ap (λ (z : ℕ). Q * z * 2 ^ 2296) (ap (λ (z : ℕ). 2 ^ z) i ∙ pow-add 2 f d) ∙ scale-two Q (2 ^ d) (2 ^ f))
 

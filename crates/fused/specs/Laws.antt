@@ -1,4 +1,5 @@
--- What `fused` is at finite numbers: `round` of the exact fraction a * b + c, with IEEE 754's sign; the f64 nearest to it, and no other. Assumes nothing.
+-- What `fused` is at finite numbers: `round` of the exact fraction a * b + c, with IEEE 754's sign; the f64 nearest to it, and no other.
+-- Assumes nothing.
 use Prim.Native.Nat.{ℕ, suc, _+_, _-_, _*_, _^_, _≤_, _<_}
 use mathlib.Core.Path.{_≡_, refl, sym, ap, ap₂, _∙_}
 use mathlib.Core.Bool.{Bool, true, false, _&&_, Bool·beq, cond}

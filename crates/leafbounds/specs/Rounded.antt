@@ -37,14 +37,16 @@ module _ (f : Format) (s : Bool) (A t lo hi i j : ℕ) (least : 2 ^ i ≤ A) (mo
       le-trans (le-of-eq (sym (power f lo)))
       (near-mono f (1 * 2 ^ lo * 1) 1 (A * 2 ^ low f) (2 ^ t) (zero-lt-suc 0) (pow-pos t)
       (rw (plain lo, mul-one)
-      (le-trans (le-of-eq (sym (pow-add 2 lo t))) (le-trans (pow-mono down) (le-trans (le-of-eq (pow-add 2 i (low f))) (mul-le-mul-right (2 ^ low f) least))))))
+      (le-trans (le-of-eq (sym (pow-add 2 lo t))) (le-trans (pow-mono down)
+      (le-trans (le-of-eq (pow-add 2 i (low f))) (mul-le-mul-right (2 ^ low f) least))))))
 
   under : n ≤ 2 ^ hi
   under =
       le-trans
       (near-mono f (A * 2 ^ low f) (2 ^ t) (1 * 2 ^ hi * 1) 1 (pow-pos t) (zero-lt-suc 0)
       (rw (plain hi, mul-one)
-      (le-trans (mul-le-mul-right (2 ^ low f) most) (le-trans (le-of-eq (sym (pow-add 2 j (low f)))) (le-trans (pow-mono up) (le-of-eq (pow-add 2 hi t)))))))
+      (le-trans (mul-le-mul-right (2 ^ low f) most) (le-trans (le-of-eq (sym (pow-add 2 j (low f))))
+      (le-trans (pow-mono up) (le-of-eq (pow-add 2 hi t)))))))
       (le-of-eq (power f hi))
 
   pub rounded-between : Between f s lo hi (round f s A (2 ^ t))

@@ -96,7 +96,8 @@ crossed p q w n y e s =
     regroup = ring 6 (λ p k w q f x. (f times p :* k ≼ w :* q) ∷ (q times w :* f ≼ x) ∷ [] ⊩ p :* (k :* f) ≈ x :* q) tt
 
 -- THE LAW
-pub power-pattern : {b n y : ℕ} (r : ℕ) → (0 < b) × (b < infinity) → Scaled b n y → Answer (cutAt n y) r → power (ofBits binary64 b) ≡ ofBits binary64 r
+pub power-pattern : {b n y : ℕ} (r : ℕ) → (0 < b) × (b < infinity) → Scaled b n y → Answer (cutAt n y) r
+    → power (ofBits binary64 b) ≡ ofBits binary64 r
 power-pattern {b} {n} {y} r h s a =
     power-is (ofBits binary64 b) (ofBits binary64 r) (value b) (value-is b (h .1)) (omega (arith, value-lt 0 b (h .0)))
     (λ p q Q e. ap rounded (same-power p q (n * four y) (four 1048) Q (four-pos 1048) (crossed p q (value b) n y e (s .same))) ∙ at)

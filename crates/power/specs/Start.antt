@@ -22,7 +22,8 @@ eighthOf p q a b = compare (a ^ 8 * p) (q * b ^ 8)
 pub eighth-number : (p q : ℕ) → 0 < p → Number (eighthOf p q)
 eighth-number p q P = record {
   below = λ a b c d B D h t.
-      fraction-number q p P .below (a ^ 8) (b ^ 8) (c ^ 8) (d ^ 8) (eighth-pos b B) (eighth-pos d D) (powers a b c d (pow-lt-pow-left h (λ z. omega arith))) t;
+      fraction-number q p P .below (a ^ 8) (b ^ 8) (c ^ 8) (d ^ 8) (eighth-pos b B) (eighth-pos d D)
+      (powers a b c d (pow-lt-pow-left h (λ z. omega arith))) t;
 }
   where
     eighth-pos : (b : ℕ) → 0 < b → 0 < b ^ 8
@@ -63,7 +64,8 @@ nearest-at v num n h e =
     let near = found .2 in
     let m = found .0 in
     let l : m ≤ infinity = near .held in
-    let same : m ≡ n = sym (bits-back m (omega arith) (omega arith)) ∙ ap (toBits binary64) (sym (found .1) ∙ e) ∙ bits-back n (omega arith) (omega arith) in
+    let same : m ≡ n = sym (bits-back m (omega arith) (omega arith)) ∙ ap (toBits binary64) (sym (found .1) ∙ e)
+    ∙ bits-back n (omega arith) (omega arith) in
     subst (λ (k : ℕ). Nearest v k) same near
 
 pub three-nearest : Nearest (eighthOf 3 (2 ^ 52)) 0x4053_b957_8eb0_bf54
@@ -82,4 +84,5 @@ a-fifth = refl
 pub fifth-nearest : Nearest (eighthOf 0xc_cccc_cccc_cccd (2 ^ 106)) 0x405b_ab78_e4d1_420d
 unfolding div
 fifth-nearest =
-    nearest-at (eighthOf 0xc_cccc_cccc_cccd (2 ^ 106)) (eighth-number 0xc_cccc_cccc_cccd (2 ^ 106) (omega arith)) 0x405b_ab78_e4d1_420d (omega arith) of-fifth
+    nearest-at (eighthOf 0xc_cccc_cccc_cccd (2 ^ 106)) (eighth-number 0xc_cccc_cccc_cccd (2 ^ 106) (omega arith)) 0x405b_ab78_e4d1_420d
+    (omega arith) of-fifth

@@ -1,4 +1,5 @@
--- At a fraction p / q, `rounded` is the library's `round`, by which every operator on f64 is defined: one notion of rounding serves both. Assumes nothing.
+-- At a fraction p / q, `rounded` is the library's `round`, by which every operator on f64 is defined: one notion of rounding serves both.
+-- Assumes nothing.
 use Prim.Native.Nat.{ℕ, zero, suc, _+_, _-_, _*_, _/_, _%_, _^_, _≤_, _<_, compare, Ordering, Ordering·lt, Ordering·eq, Ordering·gt}
 use mathlib.Core.Path.{_≡_, refl, sym, ap, _∙_, subst}
 use mathlib.Core.Bool.{true, false, not, true≢false}
@@ -26,10 +27,14 @@ abbrev pub fraction : ℕ → ℕ → Cut
 fraction p q a b = compare (a * q) (p * b)
 
 order : (a b c d p q : ℕ) → a * d < c * b → c * q ≤ p * d → 0 < q → a * q * d < p * b * d
-order = below 6 (λ a b c d p q. (q times nxt (a :* d) ≼ c :* b) ∷ (b times c :* q ≼ p :* d) ∷ (con 1 times con 1 ≼ q) ∷ [] ⊩ nxt (a :* q :* d) ≈ p :* b :* d) tt
+order = below 6 (λ a b c d p q. (q times nxt (a :* d) ≼ c :* b) ∷ (b times c :* q ≼ p :* d) ∷ (con 1 times con 1 ≼ q) ∷ []
+    ⊩ nxt (a :* q :* d) ≈ p :* b :* d) tt
 
 pub fraction-number : (p q : ℕ) → 0 < q → Number (fraction p q)
-fraction-number p q Q = record { below = λ a b c d B D h t. lt-compare (a * q) (p * b) (lt-of-mul-lt-mul-right d (order a b c d p q h (leb→le (c * q) (p * d) t) Q)) }
+fraction-number p q Q = record {
+  below = λ a b c d B D h t. lt-compare (a * q) (p * b)
+      (lt-of-mul-lt-mul-right d (order a b c d p q h (leb→le (c * q) (p * d) t) Q));
+}
 
 -- ---- two f64s of one value are one: the pattern is computed from the value
 bits-of : (x : Float) (v : ℕ) → HasValue x false v (2 ^ 1074) → toBits binary64 x ≡ (size v - 53) * 2 ^ 52 + v / 2 ^ (size v - 53)
@@ -39,26 +44,34 @@ bits-of (inf s) v h = absurd h
 bits-of (fin true m e) v h = absurd (true≢false (h .0))
 bits-of (fin false m e) v h =
     let d : m * up e * 2 ^ 1074 / down e ≡ v = ap (λ (z : ℕ). z / down e) (h .1) ∙ mul-div-cancel v (down-pos e) in
-    ap (λ (n : ℕ). 0 + (size n - 53) * 2 ^ 52 + n / 2 ^ (size n - 53)) d ∙ ap (λ (z : ℕ). z + v / 2 ^ (size v - 53)) (zero-add ((size v - 53) * 2 ^ 52))
+    ap (λ (n : ℕ). 0 + (size n - 53) * 2 ^ 52 + n / 2 ^ (size n - 53)) d
+    ∙ ap (λ (z : ℕ). z + v / 2 ^ (size v - 53)) (zero-add ((size v - 53) * 2 ^ 52))
 
-pub one-float : (x y : Float) (v : ℕ) → T (fits binary64 x) → T (fits binary64 y) → HasValue x false v (2 ^ 1074) → HasValue y false v (2 ^ 1074) → x ≡ y
-one-float x y v f g h k = sym (ofBits-toBits binary64 x f) ∙ ap (λ (b : ℕ). ofBits binary64 b) (bits-of x v h ∙ sym (bits-of y v k)) ∙ ofBits-toBits binary64 y g
+pub one-float : (x y : Float) (v : ℕ) → T (fits binary64 x) → T (fits binary64 y) → HasValue x false v (2 ^ 1074) → HasValue y false v (2 ^ 1074)
+    → x ≡ y
+one-float x y v f g h k = sym (ofBits-toBits binary64 x f) ∙ ap (λ (b : ℕ). ofBits binary64 b) (bits-of x v h ∙ sym (bits-of y v k))
+    ∙ ofBits-toBits binary64 y g
 
 -- ---- p / q is w * Y units and t / q more, with Y = 2 ^ k and t below q * Y
 under : (A w Y t p q : ℕ) → A < 2 * (w * Y) → w * (q * Y) + t ≤ p * 2 ^ 1074 → 0 < q → A * q < p * 2 ^ 1075
-under = below 6 (λ A w Y t p q. (q times nxt A ≼ con 2 :* (w :* Y)) ∷ (con 2 times w :* (q :* Y) :+ t ≼ p :* con (2 ^ 1074)) ∷ (con 1 times con 1 ≼ q) ∷ [] ⊩ nxt (A :* q) ≈ p :* con (2 ^ 1075)) tt
+under = below 6 (λ A w Y t p q. (q times nxt A ≼ con 2 :* (w :* Y)) ∷ (con 2 times w :* (q :* Y) :+ t ≼ p :* con (2 ^ 1074))
+    ∷ (con 1 times con 1 ≼ q) ∷ [] ⊩ nxt (A :* q) ≈ p :* con (2 ^ 1075)) tt
 
 over : (A w Y t p q : ℕ) → 2 * ((w + 1) * Y) < A → p * 2 ^ 1074 ≤ w * (q * Y) + t → t < q * Y → p * 2 ^ 1075 < A * q
-over = below 6 (λ A w Y t p q. (q times nxt (con 2 :* ((w :+ con 1) :* Y)) ≼ A) ∷ (con 2 times p :* con (2 ^ 1074) ≼ w :* (q :* Y) :+ t) ∷ (con 2 times nxt t ≼ q :* Y) ∷ [] ⊩ nxt (p :* con (2 ^ 1075)) ≈ A :* q) tt
+over = below 6 (λ A w Y t p q. (q times nxt (con 2 :* ((w :+ con 1) :* Y)) ≼ A) ∷ (con 2 times p :* con (2 ^ 1074) ≼ w :* (q :* Y) :+ t)
+    ∷ (con 2 times nxt t ≼ q :* Y) ∷ [] ⊩ nxt (p :* con (2 ^ 1075)) ≈ A :* q) tt
 
 mid-gt : (w Y t p q : ℕ) → p * 2 ^ 1074 ≤ w * (q * Y) + t → t * 2 < q * Y → p * 2 ^ 1075 < (w * Y + (w + 1) * Y) * q
-mid-gt = below 5 (λ w Y t p q. (con 2 times p :* con (2 ^ 1074) ≼ w :* (q :* Y) :+ t) ∷ (con 1 times nxt (t :* con 2) ≼ q :* Y) ∷ [] ⊩ nxt (p :* con (2 ^ 1075)) ≈ (w :* Y :+ (w :+ con 1) :* Y) :* q) tt
+mid-gt = below 5 (λ w Y t p q. (con 2 times p :* con (2 ^ 1074) ≼ w :* (q :* Y) :+ t) ∷ (con 1 times nxt (t :* con 2) ≼ q :* Y) ∷ []
+    ⊩ nxt (p :* con (2 ^ 1075)) ≈ (w :* Y :+ (w :+ con 1) :* Y) :* q) tt
 
 mid-lt : (w Y t p q : ℕ) → w * (q * Y) + t ≤ p * 2 ^ 1074 → q * Y < t * 2 → (w * Y + (w + 1) * Y) * q < p * 2 ^ 1075
-mid-lt = below 5 (λ w Y t p q. (con 2 times w :* (q :* Y) :+ t ≼ p :* con (2 ^ 1074)) ∷ (con 1 times nxt (q :* Y) ≼ t :* con 2) ∷ [] ⊩ nxt ((w :* Y :+ (w :+ con 1) :* Y) :* q) ≈ p :* con (2 ^ 1075)) tt
+mid-lt = below 5 (λ w Y t p q. (con 2 times w :* (q :* Y) :+ t ≼ p :* con (2 ^ 1074)) ∷ (con 1 times nxt (q :* Y) ≼ t :* con 2) ∷ []
+    ⊩ nxt ((w :* Y :+ (w :+ con 1) :* Y) :* q) ≈ p :* con (2 ^ 1075)) tt
 
 mid-eq : (w Y t p q : ℕ) → w * (q * Y) + t ≡ p * 2 ^ 1074 → q * Y ≡ t * 2 → (w * Y + (w + 1) * Y) * q ≡ p * 2 ^ 1075
-mid-eq = ring 5 (λ w Y t p q. (con 2 times w :* (q :* Y) :+ t ≼ p :* con (2 ^ 1074)) ∷ (con 1 times q :* Y ≼ t :* con 2) ∷ [] ⊩ (w :* Y :+ (w :+ con 1) :* Y) :* q ≈ p :* con (2 ^ 1075)) tt
+mid-eq = ring 5 (λ w Y t p q. (con 2 times w :* (q :* Y) :+ t ≼ p :* con (2 ^ 1074)) ∷ (con 1 times q :* Y ≼ t :* con 2) ∷ []
+    ⊩ (w :* Y :+ (w :+ con 1) :* Y) :* q ≈ p :* con (2 ^ 1075)) tt
 
 -- ---- from 2 ^ 1024 on, which the infinity counts as, `units` is the infinity
 value-infinity : value infinity ≡ 2 ^ 2098
@@ -124,17 +137,21 @@ module _ (p q k w t : ℕ) (Q : 0 < q) (K : (k ≡ 0) ⊎ (2 ^ 52 ≤ w)) (W : w
 
   pub pick : (o : Ordering) → Compared o (t * 2) (q * 2 ^ k) → P < infinity → rounded v ≡ ofBits binary64 (k * 2 ^ 52 + nearest w o)
   pick Ordering·lt c u =
-      here (gt-passed v P (gt-compare (middle P (suc P) * q) (p * 2 ^ 1075) (rw (value-P, value-next) (mid-gt w (2 ^ k) t p q (le-of-eq (sym E)) c)))) (omega arith)
+      here (gt-passed v P (gt-compare (middle P (suc P) * q) (p * 2 ^ 1075)
+      (rw (value-P, value-next) (mid-gt w (2 ^ k) t p q (le-of-eq (sym E)) c)))) (omega arith)
   pick Ordering·gt c u =
       let f : suc P ≡ k * 2 ^ 52 + suc w = omega arith in
-      next (lt-passed v P (lt-compare (middle P (suc P) * q) (p * 2 ^ 1075) (rw (value-P, value-next) (mid-lt w (2 ^ k) t p q (le-of-eq E) c)))) u ∙ ap (λ (z : ℕ). ofBits binary64 z) f
+      next (lt-passed v P (lt-compare (middle P (suc P) * q) (p * 2 ^ 1075)
+      (rw (value-P, value-next) (mid-lt w (2 ^ k) t p q (le-of-eq E) c)))) u ∙ ap (λ (z : ℕ). ofBits binary64 z) f
   pick Ordering·eq c u =
-      let m : v (middle P (suc P)) (2 ^ 1075) ≡ Ordering·eq = eq-compare (middle P (suc P) * q) (p * 2 ^ 1075) (rw (value-P, value-next) (mid-eq w (2 ^ k) t p q E (sym c))) in
+      let m : v (middle P (suc P)) (2 ^ 1075) ≡ Ordering·eq = eq-compare (middle P (suc P) * q) (p * 2 ^ 1075)
+      (rw (value-P, value-next) (mid-eq w (2 ^ k) t p q E (sym c))) in
       elim (lt-or-le (w % 2) 1) [
         | inl l ↦
             let z : P % 2 ≡ 0 = omega (arith, parity) in
             let f : P ≡ k * 2 ^ 52 + (w + w % 2) = omega arith in
-            here (subst (λ (o : Ordering). T (not (nearer o P))) (sym m) (subst (λ (r : ℕ). T (not (eqb r 1))) (sym z) tt)) (omega arith) ∙ ap (λ (z : ℕ). ofBits binary64 z) f
+            here (subst (λ (o : Ordering). T (not (nearer o P))) (sym m) (subst (λ (r : ℕ). T (not (eqb r 1))) (sym z) tt)) (omega arith)
+            ∙ ap (λ (z : ℕ). ofBits binary64 z) f
         | inr l ↦
             let z : P % 2 ≡ 1 = omega (arith, parity) in
             let f : suc P ≡ k * 2 ^ 52 + (w + w % 2) = omega arith in
@@ -147,16 +164,19 @@ module _ (p q k w t : ℕ) (Q : 0 < q) (K : (k ≡ 0) ⊎ (2 ^ 52 ≤ w)) (W : w
 
   -- ---- `units`, by which `round` writes its result, has the same pattern
   overflow : (r : ℕ) → w ≤ r → infinity ≤ P → units binary64 false r k ≡ inf false
-  overflow r h u = units-over r k (subst (λ (z : ℕ). z ≤ r * 2 ^ k) value-infinity (le-trans (value-le infinity P u) (le-trans (le-of-eq value-P) (mul-le-mul-right (2 ^ k) h))))
+  overflow r h u = units-over r k (subst (λ (z : ℕ). z ≤ r * 2 ^ k) value-infinity
+      (le-trans (value-le infinity P u) (le-trans (le-of-eq value-P) (mul-le-mul-right (2 ^ k) h))))
 
-  same : (r : ℕ) → w ≤ r → r ≤ suc w → P < infinity → T (fits binary64 (units binary64 false r k)) → ofBits binary64 (k * 2 ^ 52 + r) ≡ units binary64 false r k
+  same : (r : ℕ) → w ≤ r → r ≤ suc w → P < infinity → T (fits binary64 (units binary64 false r k))
+      → ofBits binary64 (k * 2 ^ 52 + r) ≡ units binary64 false r k
   same r a b u f =
       let n = k * 2 ^ 52 + r in
       let e : value n ≡ r * 2 ^ k = value-in n r refl a (omega arith) in
       elim (lt-or-le n infinity) [
         | inl l ↦
             one-float (ofBits binary64 n) (units binary64 false r k) (r * 2 ^ k) (ofBits-fits binary64 n) f (rw e at (value-is n l))
-            (units-val binary64 false r k (subst (λ (z : ℕ). r * 2 ^ k < z) value-infinity (subst (λ (z : ℕ). z < value infinity) e (value-lt n infinity l))))
+            (units-val binary64 false r k (subst (λ (z : ℕ). r * 2 ^ k < z) value-infinity
+            (subst (λ (z : ℕ). z < value infinity) e (value-lt n infinity l))))
         | inr l ↦
             let i : n ≡ infinity = omega arith in
             ap (λ (z : ℕ). ofBits binary64 z) i ∙ infinity-is ∙ sym (units-over r k (le-of-eq (sym value-infinity ∙ ap value (sym i) ∙ e)))
@@ -173,7 +193,8 @@ rounded-fraction p q Q =
     let d : N / q / 2 ^ k ≡ w = div-div-eq-div-mul N q (2 ^ k) in
     let K : (k ≡ 0) ⊎ (2 ^ 52 ≤ w) = elim (eq-zero-or-pos k) [
       | inl z ↦ inl z
-      | inr h ↦ inr (subst (λ (z : ℕ). 2 ^ 52 ≤ z) d (le-div-iff-mul-le (pow-pos k) .1 (le-trans (le-of-eq (sym (pow-add 2 52 k))) (size-reaches (N / q) (52 + k) (room (size (N / q)) h)))))
+      | inr h ↦ inr (subst (λ (z : ℕ). 2 ^ 52 ≤ z) d (le-div-iff-mul-le (pow-pos k) .1
+          (le-trans (le-of-eq (sym (pow-add 2 52 k))) (size-reaches (N / q) (52 + k) (room (size (N / q)) h)))))
     ] in
     let W : w < 2 ^ 53 = subst (λ (z : ℕ). z < 2 ^ 53) d (kept-lt 53 (N / q)) in
     let E : w * u + N % u ≡ p * 2 ^ 1074 = div-add-mod' N u in
@@ -182,7 +203,8 @@ rounded-fraction p q Q =
     elim (lt-or-le (k * 2 ^ 52 + w) infinity) [
       | inl l ↦
           pick p q k w (N % u) Q K W E L o (compared (N % u * 2) u) l
-          ∙ same p q k w (N % u) Q K W E L (nearest w o) (nearest-ge w o) (nearest-le w o) l (subst (λ (z : Float). T (fits binary64 z)) is (round-fits binary64 false p q))
+          ∙ same p q k w (N % u) Q K W E L (nearest w o) (nearest-ge w o) (nearest-le w o) l
+          (subst (λ (z : Float). T (fits binary64 z)) is (round-fits binary64 false p q))
           ∙ sym is
       | inr l ↦ beyond p q k w (N % u) Q K W E L l ∙ sym (is ∙ overflow p q k w (N % u) Q K W E L (nearest w o) (nearest-ge w o) l)
     ]

@@ -8,7 +8,8 @@ use native.Mathlib.Omega.{arith}
 use Rattle.algebra.specs.Ring.{con, nxt, _:+_, _:*_, _≈_, _⊩_, _times_≼_, ring, below}
 use Rattle.algebra.specs.Order.{lt-or-le, same-compare, scaled-compare}
 
--- w stands for X / Y: it is equal, or w is odd and X / Y lies between the even numbers beside it. So w and X / Y compare alike with every even number.
+-- w stands for X / Y: it is equal, or w is odd and X / Y lies between the even numbers beside it. So w and X / Y compare alike with every
+-- even number.
 pub data Jam (X Y w : ℕ) : Type 0 where
   exact : w * Y ≡ X → Jam X Y w
   between : (h : ℕ) → w ≡ 2 * h + 1 → 2 * h * Y < X → X < (2 * h + 2) * Y → Jam X Y w
@@ -41,13 +42,16 @@ jam-add X Y w n (between h e l u) =
 
 -- the even number 2 * n less X / Y: the difference is D / Y
 pub from-exact : (X Y w v D n : ℕ) → X ≡ w * Y → v + w ≡ 2 * n → 2 * n * Y ≡ D + X → v * Y ≡ D
-from-exact = ring 6 (λ X Y w v D n. (con 1 times X ≼ w :* Y) ∷ (Y times v :+ w ≼ con 2 :* n) ∷ (con 1 times con 2 :* n :* Y ≼ D :+ X) ∷ [] ⊩ v :* Y ≈ D) tt
+from-exact = ring 6 (λ X Y w v D n. (con 1 times X ≼ w :* Y) ∷ (Y times v :+ w ≼ con 2 :* n) ∷ (con 1 times con 2 :* n :* Y ≼ D :+ X) ∷ []
+    ⊩ v :* Y ≈ D) tt
 
 from-low : (g h X Y D n : ℕ) → X < (2 * h + 2) * Y → g + h + 1 ≤ n → 2 * n * Y ≤ D + X → 2 * g * Y < D
-from-low = below 6 (λ g h X Y D n. (con 1 times nxt X ≼ (con 2 :* h :+ con 2) :* Y) ∷ (con 2 :* Y times g :+ h :+ con 1 ≼ n) ∷ (con 1 times con 2 :* n :* Y ≼ D :+ X) ∷ [] ⊩ nxt (con 2 :* g :* Y) ≈ D) tt
+from-low = below 6 (λ g h X Y D n. (con 1 times nxt X ≼ (con 2 :* h :+ con 2) :* Y) ∷ (con 2 :* Y times g :+ h :+ con 1 ≼ n)
+    ∷ (con 1 times con 2 :* n :* Y ≼ D :+ X) ∷ [] ⊩ nxt (con 2 :* g :* Y) ≈ D) tt
 
 from-high : (g h X Y D n : ℕ) → 2 * h * Y < X → n ≤ g + h + 1 → D + X ≤ 2 * n * Y → D < (2 * g + 2) * Y
-from-high = below 6 (λ g h X Y D n. (con 1 times nxt (con 2 :* h :* Y) ≼ X) ∷ (con 2 :* Y times n ≼ g :+ h :+ con 1) ∷ (con 1 times D :+ X ≼ con 2 :* n :* Y) ∷ [] ⊩ nxt D ≈ (con 2 :* g :+ con 2) :* Y) tt
+from-high = below 6 (λ g h X Y D n. (con 1 times nxt (con 2 :* h :* Y) ≼ X) ∷ (con 2 :* Y times n ≼ g :+ h :+ con 1)
+    ∷ (con 1 times D :+ X ≼ con 2 :* n :* Y) ∷ [] ⊩ nxt D ≈ (con 2 :* g :+ con 2) :* Y) tt
 
 pub jam-from : (X Y w v D n : ℕ) → Jam X Y w → v + w ≡ 2 * n → 2 * n * Y ≡ D + X → Jam D Y v
 jam-from X Y w v D n (exact e) a b = exact (from-exact X Y w v D n (sym e) a b)
@@ -58,13 +62,16 @@ jam-from X Y w v D n (between h e l u) a b =
 
 -- X / Y less the even number 2 * n
 pub less-exact : (X Y w v D n : ℕ) → w * Y ≡ X → v + 2 * n ≡ w → X ≡ D + 2 * n * Y → v * Y ≡ D
-less-exact = ring 6 (λ X Y w v D n. (con 1 times w :* Y ≼ X) ∷ (Y times v :+ con 2 :* n ≼ w) ∷ (con 1 times X ≼ D :+ con 2 :* n :* Y) ∷ [] ⊩ v :* Y ≈ D) tt
+less-exact = ring 6 (λ X Y w v D n. (con 1 times w :* Y ≼ X) ∷ (Y times v :+ con 2 :* n ≼ w) ∷ (con 1 times X ≼ D :+ con 2 :* n :* Y) ∷ []
+    ⊩ v :* Y ≈ D) tt
 
 less-low : (g h X Y D n : ℕ) → 2 * h * Y < X → g + n ≤ h → X ≤ D + 2 * n * Y → 2 * g * Y < D
-less-low = below 6 (λ g h X Y D n. (con 1 times nxt (con 2 :* h :* Y) ≼ X) ∷ (con 2 :* Y times g :+ n ≼ h) ∷ (con 1 times X ≼ D :+ con 2 :* n :* Y) ∷ [] ⊩ nxt (con 2 :* g :* Y) ≈ D) tt
+less-low = below 6 (λ g h X Y D n. (con 1 times nxt (con 2 :* h :* Y) ≼ X) ∷ (con 2 :* Y times g :+ n ≼ h)
+    ∷ (con 1 times X ≼ D :+ con 2 :* n :* Y) ∷ [] ⊩ nxt (con 2 :* g :* Y) ≈ D) tt
 
 less-high : (g h X Y D n : ℕ) → X < (2 * h + 2) * Y → h ≤ g + n → D + 2 * n * Y ≤ X → D < (2 * g + 2) * Y
-less-high = below 6 (λ g h X Y D n. (con 1 times nxt X ≼ (con 2 :* h :+ con 2) :* Y) ∷ (con 2 :* Y times h ≼ g :+ n) ∷ (con 1 times D :+ con 2 :* n :* Y ≼ X) ∷ [] ⊩ nxt D ≈ (con 2 :* g :+ con 2) :* Y) tt
+less-high = below 6 (λ g h X Y D n. (con 1 times nxt X ≼ (con 2 :* h :+ con 2) :* Y) ∷ (con 2 :* Y times h ≼ g :+ n)
+    ∷ (con 1 times D :+ con 2 :* n :* Y ≼ X) ∷ [] ⊩ nxt D ≈ (con 2 :* g :+ con 2) :* Y) tt
 
 pub jam-less : (X Y w v D n : ℕ) → Jam X Y w → w ≡ v + 2 * n → X ≡ D + 2 * n * Y → Jam D Y v
 jam-less X Y w v D n (exact e) a b = exact (less-exact X Y w v D n e (sym a) b)
@@ -159,7 +166,8 @@ order-c : (r Y K : ℕ) → 0 < Y → K < r * 2 → Y * K < r * Y * 2
 order-c = below 3 (λ r Y K. (con 1 times con 1 ≼ Y) ∷ (Y times nxt K ≼ r :* con 2) ∷ [] ⊩ nxt (Y :* K) ≈ r :* Y :* con 2) tt
 
 order-d : (T Y s J : ℕ) → T < (2 * s + 2) * Y → s + 1 ≤ J → T * 2 < Y * (4 * J)
-order-d = below 4 (λ T Y s J. (con 2 times nxt T ≼ (con 2 :* s :+ con 2) :* Y) ∷ (con 4 :* Y times s :+ con 1 ≼ J) ∷ [] ⊩ nxt (T :* con 2) ≈ Y :* (con 4 :* J)) tt
+order-d = below 4 (λ T Y s J. (con 2 times nxt T ≼ (con 2 :* s :+ con 2) :* Y) ∷ (con 4 :* Y times s :+ con 1 ≼ J) ∷ []
+    ⊩ nxt (T :* con 2) ≈ Y :* (con 4 :* J)) tt
 
 order-e : (T Y s J : ℕ) → 2 * s * Y < T → J ≤ s → Y * (4 * J) < T * 2
 order-e = below 4 (λ T Y s J. (con 2 times nxt (con 2 :* s :* Y) ≼ T) ∷ (con 4 :* Y times J ≼ s) ∷ [] ⊩ nxt (Y :* (con 4 :* J)) ≈ T :* con 2) tt
@@ -171,7 +179,8 @@ rest-low : (X Y h q s K : ℕ) → h * Y < X → q * K + s ≤ h → q * (Y * K)
 rest-low = below 6 (λ X Y h q s K. (con 1 times nxt (h :* Y) ≼ X) ∷ (Y times q :* K :+ s ≼ h) ∷ [] ⊩ nxt (q :* (Y :* K) :+ s :* Y) ≈ X) tt
 
 rest-high : (X Y h q s K : ℕ) → X < (h + 2) * Y → h ≤ q * K + s → X < q * (Y * K) + (s + 2) * Y
-rest-high = below 6 (λ X Y h q s K. (con 1 times nxt X ≼ (h :+ con 2) :* Y) ∷ (Y times h ≼ q :* K :+ s) ∷ [] ⊩ nxt X ≈ q :* (Y :* K) :+ (s :+ con 2) :* Y) tt
+rest-high = below 6 (λ X Y h q s K. (con 1 times nxt X ≼ (h :+ con 2) :* Y) ∷ (Y times h ≼ q :* K :+ s) ∷ []
+    ⊩ nxt X ≈ q :* (Y :* K) :+ (s :+ con 2) :* Y) tt
 
 under-half : (r s J : ℕ) → r ≡ 2 * s + 1 → r * 2 < 4 * J → s + 1 ≤ J
 under-half r s J e h = omega arith
@@ -187,7 +196,8 @@ jam-digits X Y w q r J p (exact e) f l = record {
   rest = r * Y;
   whole = rest-exact X Y w q r (4 * J) e f;
   small = below-scaled r Y (4 * J) p l;
-  half = same-compare (r * 2) (4 * J) (r * Y * 2) (Y * (4 * J)) (λ h. order-a r Y (4 * J) p h) (λ h. order-b r Y (4 * J) h) (λ h. order-c r Y (4 * J) p h);
+  half = same-compare (r * 2) (4 * J) (r * Y * 2) (Y * (4 * J)) (λ h. order-a r Y (4 * J) p h) (λ h. order-b r Y (4 * J) h)
+      (λ h. order-c r Y (4 * J) p h);
 }
 jam-digits X Y w q r J p (between h e a b) f l =
     let s = r / 2 in
@@ -202,5 +212,6 @@ jam-digits X Y w q r J p (between h e a b) f l =
       rest = T;
       whole = omega arith;
       small = lt-of-lt-of-le n (at-most-scaled (2 * s + 2) Y (4 * J) (omega arith));
-      half = same-compare (r * 2) (4 * J) (T * 2) (Y * (4 * J)) (λ g. order-d T Y s J n (under-half r s J o g)) (λ g. absurd (not-half r s J o g)) (λ g. order-e T Y s J m (over-half r s J o g));
+      half = same-compare (r * 2) (4 * J) (T * 2) (Y * (4 * J)) (λ g. order-d T Y s J n (under-half r s J o g))
+          (λ g. absurd (not-half r s J o g)) (λ g. order-e T Y s J m (over-half r s J o g));
     }

@@ -1,4 +1,5 @@
--- What `rounded` answers: the pattern whose value is nearest to v, the even one of two that are equally near; and it is the only one. Assumes nothing.
+-- What `rounded` answers: the pattern whose value is nearest to v, the even one of two that are equally near; and it is the only one.
+-- Assumes nothing.
 use Prim.Native.Nat.{ℕ, zero, suc, _+_, _*_, _%_, _^_, _≤_, _<_, Ordering, Ordering·lt, Ordering·eq, Ordering·gt}
 use mathlib.Core.Path.{_≡_, refl, sym, ap, subst}
 use mathlib.Core.Bool.{Bool, true, false, not, cond}
@@ -21,7 +22,8 @@ pub record Number (v : Cut) : Type 0 where
 abbrev pub middle : ℕ → ℕ → ℕ
 middle i j = value i + value j
 
--- The pattern n is nearest to v, of all up to the infinity's: v is not below the middle between n and a lower one, and not above that between n and a higher one.
+-- The pattern n is nearest to v, of all up to the infinity's: v is not below the middle between n and a lower one, and not above that
+-- between n and a higher one.
 -- Where it is at such a middle, n is even.
 pub record Nearest (v : Cut) (n : ℕ) : Type 0 where
   pub held : n ≤ infinity
@@ -91,7 +93,8 @@ module _ (v : Cut) (num : Number v) where
   before (suc b) t =
       let r = reached-suc v (suc b) t in
       let h : b < infinity = omega (arith, r .0) in
-      reach v b h (lt-passed v b (under (middle b (suc b)) (middle (suc b) (suc (suc b))) (omega (arith, value-lt b (suc (suc b)) (omega arith))) (nearer-le (v (middle (suc b) (suc (suc b))) (2 ^ 1075)) (suc b) (r .1))))
+      reach v b h (lt-passed v b (under (middle b (suc b)) (middle (suc b) (suc (suc b))) (omega (arith, value-lt b (suc (suc b)) (omega arith)))
+      (nearer-le (v (middle (suc b) (suc (suc b))) (2 ^ 1075)) (suc b) (r .1))))
 
   pub all-before : (j n : ℕ) → j ≤ n → T (reached v n) → T (reached v j)
   all-before j zero h t = let e : j ≡ zero = omega arith in subst (λ (z : ℕ). T (reached v z)) (sym e) t
@@ -115,7 +118,8 @@ module _ (v : Cut) (num : Number v) where
   rounded-at n a b = ap (λ (z : ℕ). ofBits binary64 z) (found-at n a b)
 
   -- (where v is at no middle: between the middles beside a pattern that is not 0)
-  pub rounded-between : (b : ℕ) → b < infinity → v (middle b (suc b)) (2 ^ 1075) ≡ Ordering·lt → v (middle (suc b) (suc (suc b))) (2 ^ 1075) ≡ Ordering·gt → rounded v ≡ ofBits binary64 (suc b)
+  pub rounded-between : (b : ℕ) → b < infinity → v (middle b (suc b)) (2 ^ 1075) ≡ Ordering·lt
+      → v (middle (suc b) (suc (suc b))) (2 ^ 1075) ≡ Ordering·gt → rounded v ≡ ofBits binary64 (suc b)
   rounded-between b h p q = rounded-at (suc b) (reach v b h (lt-passed v b p)) (unreached v (suc b) (gt-passed v (suc b) q))
 
   -- ---- THE LAW FOR READERS: that pattern is nearest, and nothing else is
@@ -154,7 +158,8 @@ module _ (v : Cut) (num : Number v) where
   even-lower (suc b) a j h e =
       let r = reached-suc v b a .1 in
       elim (lt-or-le j b) [
-        | inl l ↦ absurd (not-both (v (middle j (suc b)) (2 ^ 1075)) (under (middle j (suc b)) (middle b (suc b)) (omega (arith, value-lt j b l)) (nearer-le (v (middle b (suc b)) (2 ^ 1075)) b r)) e)
+        | inl l ↦ absurd (not-both (v (middle j (suc b)) (2 ^ 1075))
+            (under (middle j (suc b)) (middle b (suc b)) (omega (arith, value-lt j b l)) (nearer-le (v (middle b (suc b)) (2 ^ 1075)) b r)) e)
         | inr l ↦
             let f : j ≡ b = omega arith in
             let o : b % 2 ≡ 1 = eqb→eq (b % 2) 1 (subst T (at-tie b (rw f at e)) r) in
@@ -193,7 +198,8 @@ module _ (v : Cut) (num : Number v) where
 
   nearest-reached : (n : ℕ) → Nearest v n → T (reached v n)
   nearest-reached zero r = unfold reached in tt
-  nearest-reached (suc b) r = reach v b (r .held) (go (v (middle b (suc b)) (2 ^ 1075)) (r .lower b (omega arith)) (r .even b (omega (arith, r .held)) (λ e. omega arith)))
+  nearest-reached (suc b) r = reach v b (r .held) (go (v (middle b (suc b)) (2 ^ 1075)) (r .lower b (omega arith))
+      (r .even b (omega (arith, r .held)) (λ e. omega arith)))
     where
       go : (o : Ordering) → T (isLe o) → (o ≡ Ordering·eq → suc b % 2 ≡ 0) → T (nearer o b)
       go Ordering·lt t q = tt
@@ -201,7 +207,9 @@ module _ (v : Cut) (num : Number v) where
       go Ordering·gt t q = t
 
   nearest-last : (n : ℕ) → Nearest v n → T (not (reached v (suc n)))
-  nearest-last n r = not-T (reached v (suc n)) (λ a. let p = reached-suc v n a in go (v (middle n (suc n)) (2 ^ 1075)) (p .1) (r .higher (suc n) (omega arith) (p .0)) (λ e. r .even (suc n) (p .0) (λ q. omega arith) (rw add-comm at e)))
+  nearest-last n r = not-T (reached v (suc n)) (λ a. let p = reached-suc v n a in
+      go (v (middle n (suc n)) (2 ^ 1075)) (p .1) (r .higher (suc n) (omega arith) (p .0))
+      (λ e. r .even (suc n) (p .0) (λ q. omega arith) (rw add-comm at e)))
     where
       go : (o : Ordering) → T (nearer o n) → (o ≡ Ordering·lt → ⊥) → (o ≡ Ordering·eq → n % 2 ≡ 0) → ⊥
       go Ordering·lt t h e = h refl

@@ -41,7 +41,11 @@ value-at y c l u =
 
 -- a pattern up to 2 ^ 53 is its own value
 pub value-small : (b : ℕ) → b ≤ 2 ^ 53 → value b ≡ b
-value-small b h = elim (lt-or-le b (2 ^ 52)) [ inl l ↦ value-low b l | inr l ↦ let e : b ≡ 0 * 2 ^ 52 + b = omega arith in ap value e ∙ value-at 0 b l h ∙ mul-one b ]
+value-small b h = elim (lt-or-le b (2 ^ 52)) [
+  | inl l ↦ value-low b l
+  | inr l ↦ let e : b ≡ 0 * 2 ^ 52 + b = omega arith in ap value e
+      ∙ value-at 0 b l h ∙ mul-one b
+]
 
 -- ---- from a pattern to the next
 pub value-suc : (b : ℕ) → value (suc b) ≡ value b + 2 ^ (b / 2 ^ 52 - 1)
@@ -53,7 +57,8 @@ value-suc b = elim (lt-or-le b (2 ^ 52)) [
       let y = b / 2 ^ 52 - 1 in
       let c = 2 ^ 52 + b % 2 ^ 52 in
       let e : suc b ≡ y * 2 ^ 52 + (c + 1) = omega arith in
-      ap value e ∙ value-at y (c + 1) (omega arith) (omega arith) ∙ add-mul c 1 (2 ^ y) ∙ ap (λ (z : ℕ). c * 2 ^ y + z) (one-mul (2 ^ y)) ∙ ap (λ (z : ℕ). z + 2 ^ y) (sym (value-high b l))
+      ap value e ∙ value-at y (c + 1) (omega arith) (omega arith) ∙ add-mul c 1 (2 ^ y) ∙ ap (λ (z : ℕ). c * 2 ^ y + z) (one-mul (2 ^ y))
+      ∙ ap (λ (z : ℕ). z + 2 ^ y) (sym (value-high b l))
 ]
 
 pub value-up : (b : ℕ) → value b < value (suc b)
@@ -61,7 +66,11 @@ value-up b = omega (arith, value-suc b, pow-pos (b / 2 ^ 52 - 1))
 
 pub value-lt : (j n : ℕ) → j < n → value j < value n
 value-lt j zero h = omega arith
-value-lt j (suc n) h = elim (lt-or-le j n) [ inl l ↦ omega (arith, value-lt j n l, value-up n) | inr l ↦ let e : j ≡ n = omega arith in subst (λ (z : ℕ). value z < value (suc n)) (sym e) (value-up n) ]
+value-lt j (suc n) h = elim (lt-or-le j n) [
+  | inl l ↦ omega (arith, value-lt j n l, value-up n)
+  | inr l ↦ let e : j ≡ n = omega arith in
+      subst (λ (z : ℕ). value z < value (suc n)) (sym e) (value-up n)
+]
 
 -- ---- the f64 of the pattern
 ofBits-is : (b : ℕ) → ofBits binary64 b ≡ ofFields binary64 (leb (2 ^ 63) b) (b % 2 ^ 63 / 2 ^ 52) (b % 2 ^ 52)
@@ -87,7 +96,8 @@ value-is b h =
           rw (e, f, fields-low, value-low b l) (rw mul-one at (odd-sign 53 false b 0 1074))
       | inr l ↦
           let e : b / 2 ^ 52 ≡ suc (b / 2 ^ 52 - 1) = omega arith in
-          rw (e, fields-high (b / 2 ^ 52 - 1) (b % 2 ^ 52) (omega arith), value-high b l) (odd-sign 53 false (2 ^ 52 + b % 2 ^ 52) (b / 2 ^ 52 - 1) 1074)
+          rw (e, fields-high (b / 2 ^ 52 - 1) (b % 2 ^ 52) (omega arith), value-high b l)
+          (odd-sign 53 false (2 ^ 52 + b % 2 ^ 52) (b / 2 ^ 52 - 1) 1074)
     ])
 
 pub infinity-is : ofBits binary64 infinity ≡ inf false

@@ -29,7 +29,8 @@ module _ (f : Format) (n d : ℕ) (D : 0 < d) (normal : 2 ^ (prec f - 1) * d ≤
 pub whole-more : (f : Format) (n : ℕ) → near f n 1 ≤ 2 * n
 whole-more f n = elim (either (2 ^ (prec f - 1)) n) [
   | inl h ↦ le-trans (le-of-eq (sym (mul-one (near f n 1)))) (half-more f n 1 (zero-lt-suc 0) (le-trans (le-of-eq (mul-one (2 ^ (prec f - 1)))) h))
-  | inr h ↦ le-trans (le-of-eq (exact n (lt-of-lt-of-le h (pow-mono (let r : prec f - 1 ≤ prec f = omega arith in r))))) (let r : n ≤ 2 * n = omega arith in r)
+  | inr h ↦ le-trans (le-of-eq (exact n (lt-of-lt-of-le h (pow-mono (let r : prec f - 1 ≤ prec f = omega arith in r)))))
+      (let r : n ≤ 2 * n = omega arith in r)
 ]
   where
     exact : (n : ℕ) → n < 2 ^ prec f → near f n 1 ≡ n

@@ -56,7 +56,8 @@ module _ {f : Format} {k : ℕ} {A B : Kind} {x x' y y' : Float} (o : 0 < overfl
       none (no-product-last o z a (r .0) (r .1) (r .2))
   mul-maybe (some a) (some b) s t = some (mul-two a b t)
 
-  pub mul-some : (a : Maybe f k A x x') (b : Maybe f k B y y') (s : T (solid? f A)) (t : T (mulOk f A B)) → some? (mul-maybe a b s t) ≡ some? a && some? b
+  pub mul-some : (a : Maybe f k A x x') (b : Maybe f k B y y') (s : T (solid? f A)) (t : T (mulOk f A B))
+      → some? (mul-maybe a b s t) ≡ some? a && some? b
   unfolding mul-maybe
   mul-some (none z) (none w) s t = refl
   mul-some (none z) (some b) s t = refl
@@ -64,7 +65,8 @@ module _ {f : Format} {k : ℕ} {A B : Kind} {x x' y y' : Float} (o : 0 < overfl
   mul-some (some a) (some b) s t = refl
 
   -- ---- a sum, of a kind C that holds either part and both together
-  pub add-maybe : (C : Kind) → Maybe f k A x x' → Maybe f k B y y' → T (solid? f A && solid? f B) → T (plusOk f A B) → T (within A C) → T (within B C) → T (within (plusK f A B) C)
+  pub add-maybe : (C : Kind) → Maybe f k A x x' → Maybe f k B y y' → T (solid? f A && solid? f B) → T (plusOk f A B) → T (within A C)
+      → T (within B C) → T (within (plusK f A B) C)
       → Maybe f k C (add f x y) (add f x' y')
   unfolding solid?
   add-maybe C (none z) (none w) s t p q r = none (no-sum o z w)
@@ -76,7 +78,8 @@ module _ {f : Format} {k : ℕ} {A B : Kind} {x x' y y' : Float} (o : 0 < overfl
       some (widen-two (skip-last o z a (h .0) (h .1) (h .2)) p)
   add-maybe C (some a) (some b) s t p q r = some (widen-two (plus-two a b t) r)
 
-  pub add-some : (C : Kind) (a : Maybe f k A x x') (b : Maybe f k B y y') (s : T (solid? f A && solid? f B)) (t : T (plusOk f A B)) (p : T (within A C)) (q : T (within B C))
+  pub add-some : (C : Kind) (a : Maybe f k A x x') (b : Maybe f k B y y') (s : T (solid? f A && solid? f B)) (t : T (plusOk f A B))
+      (p : T (within A C)) (q : T (within B C))
       (r : T (within (plusK f A B) C)) → some? (add-maybe C a b s t p q r) ≡ some? a || some? b
   unfolding add-maybe
   add-some C (none z) (none w) s t p q r = refl
@@ -102,7 +105,8 @@ only-last : (a b c : ℕ) → a ≡ 0 → c ≡ b → Sum a b c
 only-last a b c e g = (omega arith, omega arith, omega arith)
 
 module _ {f : Format} {k : ℕ} {A B : Kind} {x x' y y' : Float} (o : 0 < overflow f) (C : Kind) where
-  pub add-law : (a : Maybe f k A x x') (b : Maybe f k B y y') (s : T (solid? f A && solid? f B)) (t : T (plusOk f A B)) (p : T (within A C)) (q : T (within B C))
+  pub add-law : (a : Maybe f k A x x') (b : Maybe f k B y y') (s : T (solid? f A && solid? f B)) (t : T (plusOk f A B)) (p : T (within A C))
+      (q : T (within B C))
       (r : T (within (plusK f A B) C))
       → Sum (units a) (units b) (units (add-maybe o C a b s t p q r)) × Sum (units' a) (units' b) (units' (add-maybe o C a b s t p q r))
   unfolding add-maybe solid? widen-two plus-two summed plusOk
@@ -139,7 +143,8 @@ normal? f A B = leb (2 ^ (prec f - 1) * 2 ^ low f) (floor A * floor B)
 
 module _ {f : Format} {k : ℕ} {A B : Kind} {x x' y y' : Float} (o : 0 < overflow f) where
   pub mul-law : (a : Maybe f k A x x') (b : Maybe f k B y y') (s : T (solid? f A)) (t : T (mulOk f A B)) → T (normal? f A B)
-      → Product (2 ^ low f) (units a) (units b) (units (mul-maybe o a b s t)) × Product (2 ^ low f) (units' a) (units' b) (units' (mul-maybe o a b s t))
+      → Product (2 ^ low f) (units a) (units b) (units (mul-maybe o a b s t))
+      × Product (2 ^ low f) (units' a) (units' b) (units' (mul-maybe o a b s t))
   unfolding mul-maybe mul-two normal?
   mul-law (none z) (none w) s t n = (no-product-law _ 0 0 0 refl refl, no-product-law _ 0 0 0 refl refl)
   mul-law (none z) (some b) s t n = (no-product-law _ 0 (b .m) 0 refl (zero-mul (b .m)), no-product-law _ 0 (b .n) 0 refl (zero-mul (b .n)))

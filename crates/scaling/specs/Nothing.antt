@@ -95,7 +95,12 @@ two-zeros f {x} {y} {s} {t} X Y o =
 -- ---- the rules
 module _ {f : Format} (o : 0 < overflow f) {x y : Float} (z : Nothing f x y) where
   pub no-product-first : {k : ℕ} {K : Kind} {w w' : Float} → Two f k K w w' → Nothing f (mul f x w) (mul f y w')
-  no-product-first a = record { s = unlike (z .s) (a .s); first = no-product f (z .first) (a .first) o; second = no-product f (z .second) (a .second) o }
+  no-product-first a = record {
+    s = unlike (z .s) (a .s);
+    first = no-product f (z .first) (a .first) o;
+    second = no-product f (z .second)
+        (a .second) o;
+  }
 
   pub no-products : {x' y' : Float} → Nothing f x' y' → Nothing f (mul f x x') (mul f y y')
   no-products w = record { s = unlike (z .s) (w .s); first = no-product f (z .first) (w .first) o; second = no-product f (z .second) (w .second) o }
@@ -103,7 +108,8 @@ module _ {f : Format} (o : 0 < overflow f) {x y : Float} (z : Nothing f x y) whe
   pub no-sum : {x' y' : Float} → Nothing f x' y' → Nothing f (add f x x') (add f y y')
   no-sum w = record { s = addS (z .s) 0 (w .s) 0; first = two-zeros f (z .first) (w .first) o; second = two-zeros f (z .second) (w .second) o }
 
-  module _ {k : ℕ} {K : Kind} {w w' : Float} (a : Two f k K w w') (plus : T (not (K .any))) (some : T (ltb 0 (floor K))) (small : T (ltb (K .hi) (overflow f))) where
+  module _ {k : ℕ} {K : Kind} {w w' : Float} (a : Two f k K w w') (plus : T (not (K .any))) (some : T (ltb 0 (floor K)))
+      (small : T (ltb (K .hi) (overflow f))) where
     S : a .s ≡ false
     S = a .in-first .sign plus
 
@@ -166,7 +172,8 @@ root-itself {x} {s} a = let r = form a in go (r .m) (r .e) (r .is) (r .units)
     go : (m : ℕ) (e : ℤ) → x ≡ fin s m e → m * up e * 2 ^ low binary64 ≡ 0 * down e → root x ≡ x
     go zero e i u = ap root i ∙ kept e ∙ sym i
     go (suc m) e i u =
-        absurd (lt-irrefl 0 (subst (λ (n : ℕ). 0 < n) (u ∙ zero-mul (down e)) (mul-pos (mul-pos (zero-lt-suc m) (up-pos e)) (pow-pos (low binary64)))))
+        absurd (lt-irrefl 0 (subst (λ (n : ℕ). 0 < n) (u ∙ zero-mul (down e))
+        (mul-pos (mul-pos (zero-lt-suc m) (up-pos e)) (pow-pos (low binary64)))))
 
 pub root-nothing : {x y : Float} → Nothing binary64 x y → Nothing binary64 (root x) (root y)
 root-nothing {x} {y} z = record {

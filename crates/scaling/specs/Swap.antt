@@ -59,17 +59,20 @@ same-sign false false m n = refl
 same-sign true false m n = unlike-signs true false m n
 same-sign false true m n = unlike-signs false true m n
 
-pub add-swap : {f : Format} {x y : Float} {s t : Bool} {m n : ℕ} → Is f x s m → Is f y t n → near f (addN s m t n) 1 < overflow f → add f x y ≡ add f y x
+pub add-swap : {f : Format} {x y : Float} {s t : Bool} {m n : ℕ} → Is f x s m → Is f y t n → near f (addN s m t n) 1 < overflow f
+    → add f x y ≡ add f y x
 add-swap {f} {x} {y} {s} {t} {m} {n} X Y h =
     unique (add-units X Y h)
     (subst₂ (Is f (add f y x)) (sym (same-sign s t m n)) (ap (λ (i : ℕ). near f i 1) (sym (same-size s t m n)))
     (add-units Y X (subst (λ (i : ℕ). near f i 1 < overflow f) (same-size s t m n) h)))
 
 -- the sum of a small float of either sign and of one above zero that is larger
-pub nudge-last-two : {f : Format} {k : ℕ} {A B : Kind} {x y x' y' : Float} → Two f k B x x' → Two f k A y y' → T (nudgeOk f A B) → Two f k (nudgeK f A B) (add f x y) (add f x' y')
+pub nudge-last-two : {f : Format} {k : ℕ} {A B : Kind} {x y x' y' : Float} → Two f k B x x' → Two f k A y y' → T (nudgeOk f A B)
+    → Two f k (nudgeK f A B) (add f x y) (add f x' y')
 unfolding nudgeK nudgeOk nudge-two summed
 nudge-last-two {f} {k} {A} {B} {x} {y} {x'} {y'} b a ok =
     let t = nudge-two a b ok in
     let o = and₃ (level? A B) (ltb (nudgeK f A B .hi) (overflow f)) (not (A .any) && ltb (B .hi) (floor A)) ok in
     let j = nudge-in f (a .in-second) (b .in-second) ok in
-    subst₂ (Two f k (nudgeK f A B)) (add-swap (a .first) (b .first) (under f (t .in-first) (o .1))) (add-swap (a .second) (b .second) (under f j (o .1))) t
+    subst₂ (Two f k (nudgeK f A B)) (add-swap (a .first) (b .first) (under f (t .in-first) (o .1)))
+    (add-swap (a .second) (b .second) (under f j (o .1))) t

@@ -1,4 +1,5 @@
--- The last rounding moves an answer by half a unit at most, so that an answer that is near every enclosure lies within one unit of it. Assumes nothing.
+-- The last rounding moves an answer by half a unit at most, so that an answer that is near every enclosure lies within one unit of it.
+-- Assumes nothing.
 use Prim.Native.Nat.{ℕ, suc, _+_, _-_, _*_, _/_, _%_, _^_, _≤_, _<_, compare, Ordering, Ordering·lt, Ordering·eq, Ordering·gt}
 use mathlib.Core.Path.{_≡_, sym, ap, ap₂, _∙_, subst}
 use mathlib.Core.Logic.{inl, inr}

@@ -116,7 +116,8 @@ module _ (s a : ℕ) (sign : s ≤ 1) (small : a < infinity) where
 
     steep-rounded : Near s (round binary64 (eqb s 1) (steep-answer (t .den * 2 ^ 62 / t .num)) (2 ^ 62)) (steep-lower t proper) (steep-upper t proper)
     steep-rounded =
-        rounded-near (steep-answer (t .den * 2 ^ 62 / t .num)) 62 (le-trans few (steep-size t proper)) (steep-word (t .den * 2 ^ 62 / t .num)) (omega arith)
+        rounded-near (steep-answer (t .den * 2 ^ 62 / t .num)) 62 (le-trans few (steep-size t proper)) (steep-word (t .den * 2 ^ 62 / t .num))
+        (omega arith)
         s 30 11 sign (omega arith) (omega arith) (steep-within t proper)
       where
         few : 2 ^ 59 ≤ 2 ^ 61
@@ -181,7 +182,8 @@ module _ (a : ℕ) (small : a ≤ last) where
         let some = gain-size (1022 - field a) (digits a) (range .low) in
         let j = 1022 - field a in
         near-is (sym (ln-1p-is 0 (omega arith) l))
-        (double-rounded 0 (omega arith) (gain (number a)) (gain-proper (number a)) j (gain-seed j (digits a)) (seed-above a l small) (omega arith) some)
+        (double-rounded 0 (omega arith) (gain (number a)) (gain-proper (number a)) j (gain-seed j (digits a)) (seed-above a l small)
+        (omega arith) some)
   ]
 
   -- THEOREM
@@ -201,7 +203,8 @@ module _ (a : ℕ) (small : a ≤ last) where
         let j = 1022 - field a in
         let r = loss (number a) below-one in
         near-is (sym (ln-1p-is 1 (omega arith) l))
-        (double-rounded 1 (omega arith) r (loss-proper (number a) below-one) j (loss-seed j (digits a)) (seed-below a l small below-one) (omega arith) some)
+        (double-rounded 1 (omega arith) r (loss-proper (number a) below-one) j (loss-seed j (digits a)) (seed-below a l small below-one)
+        (omega arith) some)
   ]
 
 -- ---- ln from 2 up: the number is m * 2 ^ e, m = digits / 2 ^ 52 (`ln-parts`)

@@ -64,8 +64,11 @@ module _ {S A : Type 0} (step step' : S → S) (stop stop' : S → Bool) (found 
       (loops-two j (stop (step s)) (step s) (step' t) (suc n) (le-of-lt h) (λ q. q) i')
 
 -- of one step and one test
-pub loop-two : {S A : Type 0} (step : S → S) (stop : S → Bool) (found spent found' spent' : S → ℕ → A) (R : A → A → Type 0) (I : ℕ → S → S → Type 0) (cap : ℕ)
+pub loop-two : {S A : Type 0} (step : S → S) (stop : S → Bool) (found spent found' spent' : S → ℕ → A) (R : A → A → Type 0)
+    (I : ℕ → S → S → Type 0) (cap : ℕ)
     → ((j : ℕ) (s t : S) → j < cap → I (suc j) s t → I j (step s) (step t)) → ((j : ℕ) (s t : S) → j < cap → I j s t → stop s ≡ stop t)
-    → ((j : ℕ) (s t : S) (n : ℕ) → j ≤ cap → I j s t → T (stop s) → R (found s n) (found' t n)) → ((s t : S) (n : ℕ) → I 0 s t → R (spent s n) (spent' t n))
-    → (j : ℕ) (b : Bool) (s t : S) (n : ℕ) → j ≤ cap → (T b → T (stop s)) → I j s t → R (capped step stop found spent j b s n) (capped step stop found' spent' j b t n)
+    → ((j : ℕ) (s t : S) (n : ℕ) → j ≤ cap → I j s t → T (stop s) → R (found s n) (found' t n))
+    → ((s t : S) (n : ℕ) → I 0 s t → R (spent s n) (spent' t n))
+    → (j : ℕ) (b : Bool) (s t : S) (n : ℕ) → j ≤ cap → (T b → T (stop s)) → I j s t
+    → R (capped step stop found spent j b s n) (capped step stop found' spent' j b t n)
 loop-two step stop = loops-two step step stop stop

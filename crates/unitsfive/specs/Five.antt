@@ -1,7 +1,7 @@
 -- DEMAND 3 (document 01), whole: what two calls of a function answer, every argument of the second being that of the first times 4 ^ u / 4 ^ d, and
 -- all of them zero or of size from 2 ^ -64 to 2 ^ 64. With k = u - d: refused alike, or one round count, and the second value is the first times
--- exactly 2 ^ -k (RC, RF), 2 ^ -3k (RD, RJ) or 2 ^ k (RG). RJ's p is above zero. What a function answers is, by its contract, the definition's answer;
--- `Statement` says what `InRange`, `TimesFour` and `Alike` mean. Assumes nothing.
+-- exactly 2 ^ -k (RC, RF), 2 ^ -3k (RD, RJ) or 2 ^ k (RG). RJ's p is above zero. What a function answers is, by its contract, the
+-- definition's answer; `Statement` says what `InRange`, `TimesFour` and `Alike` mean. Assumes nothing.
 use Prim.Native.Nat.{ℕ, _*_}
 use mathlib.Core.Path.{_≡_}
 use lib.Dec.{T}

@@ -59,7 +59,9 @@ gap {k} m (some b) =
     record {
       two = widen-two (sub-two m b tt) tt;
       first = signed (m .m) (b .m) (m .s) (not (b .s)) S R;
-      second = subst (λ (s : Bool). Fact (m .n) (b .n) s (near binary64 (addN (m .s) (m .n) (not (b .s)) (b .n)) 1)) (addS-cross (2 ^ (k * 0)) (2 ^ (k * 2)) (m .n) (b .n) (m .m) (b .m) (pow-pos (k * 0)) (pow-pos (k * 2)) (m .tie) (b .tie) (m .s) (not (b .s)))
+      second = subst (λ (s : Bool). Fact (m .n) (b .n) s (near binary64 (addN (m .s) (m .n) (not (b .s)) (b .n)) 1))
+          (addS-cross (2 ^ (k * 0)) (2 ^ (k * 2)) (m .n) (b .n) (m .m) (b .m) (pow-pos (k * 0)) (pow-pos (k * 2)) (m .tie) (b .tie) (m .s)
+          (not (b .s)))
           (signed (m .n) (b .n) (m .s) (not (b .s)) S R);
     }
 

@@ -87,7 +87,8 @@ ends-small f G M a W A i D e big pos h j k =
 -- q and W are both divided by four, exactly
 pub lead-kept : (M W Q W' Q' l : ℕ) → W' * 4 ≡ W → Q' * 4 ≡ Q → 64 * M * W ≤ Q * l → 64 * M * W' ≤ Q' * l
 lead-kept M W Q W' Q' l e g h =
-    le-of-mul-le-mul-left (le-trans (le-of-eq (left M W' ∙ ap (λ (z : ℕ). 64 * M * z) e)) (le-trans h (le-of-eq (ap (λ (z : ℕ). z * l) (sym g) ∙ right Q' l)))) (zero-lt-suc 3)
+    le-of-mul-le-mul-left (le-trans (le-of-eq (left M W' ∙ ap (λ (z : ℕ). 64 * M * z) e))
+    (le-trans h (le-of-eq (ap (λ (z : ℕ). z * l) (sym g) ∙ right Q' l)))) (zero-lt-suc 3)
   where
     left : (m w : ℕ) → 4 * (64 * m * w) ≡ 64 * m * (w * 4)
     left m w = omega arith

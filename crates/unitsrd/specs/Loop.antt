@@ -42,16 +42,20 @@ module _ {k : ℕ} {x x' y y' z z' : Float} (a : Arg k x x') (b : Arg k y y') (c
   y-above' = le-trans (xy a b c h .right-second) (xyz a b c h .left-second)
 
   x-bound : 2 ^ 40 * gx a b c h .two .m ≤ 6 * 2 ^ 40 * largest a b c h + A
-  x-bound = bounded A (units a) (units b) (c .m) (largest a b c h) _ _ _ _ _ _ (m a b c h .first) (gx a b c h .first) (gy a b c h .first) (gz a b c h .first) x-above y-above (xyz a b c h .right)
+  x-bound = bounded A (units a) (units b) (c .m) (largest a b c h) _ _ _ _ _ _ (m a b c h .first) (gx a b c h .first) (gy a b c h .first)
+      (gz a b c h .first) x-above y-above (xyz a b c h .right)
 
   x-bound' : 2 ^ 40 * gx a b c h .two .n ≤ 6 * 2 ^ 40 * largest' a b c h + A'
-  x-bound' = bounded A' (units' a) (units' b) (c .n) (largest' a b c h) _ _ _ _ _ _ (m a b c h .second) (gx a b c h .second) (gy a b c h .second) (gz a b c h .second) x-above' y-above' (xyz a b c h .right-second)
+  x-bound' = bounded A' (units' a) (units' b) (c .n) (largest' a b c h) _ _ _ _ _ _ (m a b c h .second) (gx a b c h .second) (gy a b c h .second)
+      (gz a b c h .second) x-above' y-above' (xyz a b c h .right-second)
 
   y-bound : 2 ^ 40 * gy a b c h .two .m ≤ 6 * 2 ^ 40 * largest a b c h + A
-  y-bound = bounded A (units b) (units a) (c .m) (largest a b c h) _ _ _ _ _ _ (turned (units a) (units b) (c .m) A (m a b c h .first)) (gy a b c h .first) (gx a b c h .first) (gz a b c h .first) y-above x-above (xyz a b c h .right)
+  y-bound = bounded A (units b) (units a) (c .m) (largest a b c h) _ _ _ _ _ _ (turned (units a) (units b) (c .m) A (m a b c h .first))
+      (gy a b c h .first) (gx a b c h .first) (gz a b c h .first) y-above x-above (xyz a b c h .right)
 
   y-bound' : 2 ^ 40 * gy a b c h .two .n ≤ 6 * 2 ^ 40 * largest' a b c h + A'
-  y-bound' = bounded A' (units' b) (units' a) (c .n) (largest' a b c h) _ _ _ _ _ _ (turned (units' a) (units' b) (c .n) A' (m a b c h .second)) (gy a b c h .second) (gx a b c h .second) (gz a b c h .second) y-above' x-above' (xyz a b c h .right-second)
+  y-bound' = bounded A' (units' b) (units' a) (c .n) (largest' a b c h) _ _ _ _ _ _ (turned (units' a) (units' b) (c .n) A' (m a b c h .second))
+      (gy a b c h .second) (gx a b c h .second) (gz a b c h .second) y-above' x-above' (xyz a b c h .right-second)
 
   -- ---- where it ends
   pub value-two : (j : ℕ) (s t : Round) → j ≤ 50 → I j s t → T (rdClose s)
@@ -71,7 +75,8 @@ module _ {k : ℕ} {x x' y y' z z' : Float} (a : Arg k x x') (b : Arg k y y') (c
       y-bound y-bound' lead lead' (K .base) (K .base') in
       series-two j x x' y y' (rdMean x y z) (rdMean x' y' z') f (K .a) (K .w) (K .sum) X Y
 
-  ends : (j : ℕ) (s t : Round) (n : ℕ) → j ≤ 49 → I j s t → T (rdClose s) → Same k valueK (rdFound x y (rdMean x y z) s n) (rdFound x' y' (rdMean x' y' z') t n)
+  ends : (j : ℕ) (s t : Round) (n : ℕ) → j ≤ 49 → I j s t → T (rdClose s)
+      → Same k valueK (rdFound x y (rdMean x y z) s n) (rdFound x' y' (rdMean x' y' z') t n)
   ends j s t n l i close = counted n (value-two j s t (let r : j ≤ 50 = omega arith in r) i close)
 
   pub same-test : (j : ℕ) (s t : Round) → I j s t → rdClose s ≡ rdClose t
@@ -87,6 +92,7 @@ module _ {k : ℕ} {x x' y y' z z' : Float} (a : Arg k x x') (b : Arg k y y') (c
       let s = rdStep (rdBegin x y z) in
       let t = rdStep (rdBegin x' y' z') in
       let i = started a b c h in
-      subst (λ (b : Bool). Same k valueK (rdDuplication x y z) (capped rdStep rdClose (rdFound x' y' (rdMean x' y' z')) rdSpent 49 b t 1)) (same-test 49 s t i)
+      subst (λ (b : Bool). Same k valueK (rdDuplication x y z) (capped rdStep rdClose (rdFound x' y' (rdMean x' y' z')) rdSpent 49 b t 1))
+      (same-test 49 s t i)
       (loop-two rdStep rdClose (rdFound x y (rdMean x y z)) rdSpent (rdFound x' y' (rdMean x' y' z')) rdSpent (Same k valueK) I 49 pass
       (λ j s t l i. same-test j s t i) ends (λ s t n i. spent-both k valueK n) 49 (rdClose s) s t 1 (le-refl 49) (λ q. q) i)

@@ -29,7 +29,8 @@ off = 2 ^ 52
 pub whole-not-less : (n : ℕ) → off * n ≤ suc off * near binary64 n 1
 whole-not-less n =
     elim (either off n) [
-      | inl h ↦ le-trans (near-not-less binary64 n 1 (zero-lt-suc 0) (le-trans (le-of-eq (mul-one off)) h)) (le-of-eq (ap (λ (z : ℕ). suc off * z) (mul-one (near binary64 n 1))))
+      | inl h ↦ le-trans (near-not-less binary64 n 1 (zero-lt-suc 0) (le-trans (le-of-eq (mul-one off)) h))
+          (le-of-eq (ap (λ (z : ℕ). suc off * z) (mul-one (near binary64 n 1))))
       | inr h ↦ (let e = exact n h in omega (arith, e))
     ]
   where
@@ -42,7 +43,8 @@ pub whole-not-more : (n : ℕ) → off * near binary64 n 1 ≤ suc off * n
 whole-not-more n =
     elim (either off n) [
       | inl h ↦
-          le-trans (le-of-eq (ap (λ (z : ℕ). off * z) (sym (mul-one (near binary64 n 1))))) (near-not-more binary64 n 1 (zero-lt-suc 0) (le-trans (le-of-eq (mul-one off)) h))
+          le-trans (le-of-eq (ap (λ (z : ℕ). off * z) (sym (mul-one (near binary64 n 1)))))
+          (near-not-more binary64 n 1 (zero-lt-suc 0) (le-trans (le-of-eq (mul-one off)) h))
       | inr h ↦ (let e = exact n h in omega (arith, e))
     ]
   where
@@ -98,14 +100,24 @@ pair (none z) (none w) h = absurd h
 pair (none z) (some b) h =
     let s = skip-first (lit< tt) z b tt tt tt in
     let u = skip-first-units (lit< tt) z b tt tt tt in
-    record { two = widen-two s tt; first = as-is (0 + b .m) (s .m) (u .1 ∙ zero-sum (b .m)); second = as-is (0 + b .n) (s .n) (u .2 ∙ zero-sum (b .n)) }
+    record {
+      two = widen-two s tt;
+      first = as-is (0 + b .m) (s .m) (u .1 ∙ zero-sum (b .m));
+      second = as-is (0 + b .n) (s .n)
+          (u .2 ∙ zero-sum (b .n));
+    }
   where
     zero-sum : (n : ℕ) → n ≡ 0 + n
     zero-sum n = omega arith
 pair (some a) (none z) h =
     let s = skip-last (lit< tt) z a tt tt tt in
     let u = skip-last-units (lit< tt) z a tt tt tt in
-    record { two = widen-two s tt; first = as-is (a .m + 0) (s .m) (u .1 ∙ sum-zero (a .m)); second = as-is (a .n + 0) (s .n) (u .2 ∙ sum-zero (a .n)) }
+    record {
+      two = widen-two s tt;
+      first = as-is (a .m + 0) (s .m) (u .1 ∙ sum-zero (a .m));
+      second = as-is (a .n + 0) (s .n)
+          (u .2 ∙ sum-zero (a .n));
+    }
   where
     sum-zero : (n : ℕ) → n ≡ n + 0
     sum-zero n = omega arith
@@ -131,7 +143,8 @@ abbrev l : ℕ
 l = 2 ^ low binary64
 
 triple : (n : ℕ) → near binary64 (3 * l * n) l ≡ near binary64 (3 * n) 1
-triple n = near-same binary64 (3 * l * n) l (3 * n) 1 (pow-pos (low binary64)) (zero-lt-suc 0) (ring 2 (λ l n. con 3 :* l :* n :* con 1 ≈ con 3 :* n :* l) tt l n)
+triple n = near-same binary64 (3 * l * n) l (3 * n) 1 (pow-pos (low binary64)) (zero-lt-suc 0)
+    (ring 2 (λ l n. con 3 :* l :* n :* con 1 ≈ con 3 :* n :* l) tt l n)
 
 fifth : (t : ℕ) → near binary64 (t * l) (5 * l) ≡ near binary64 t 5
 fifth t =

@@ -110,7 +110,8 @@ module _ {k : ℕ} {x x' y y' : Float} (X : Two binary64 k sideK x x') (Y : Two 
 
   pub apart-two : apart x y ≡ apart x' y'
   unfolding apart mulK mulOk sumK sumOk litOk ofBits
-  apart-two = le-two (mul-two (mul-two (lit-two (bits 0x4005_9999_9999_999A) tt) (lit-two (bits 0x3CB0_0000_0000_0000) tt) tt) (abs-two X) tt) (abs-two (sub-two X Y tt)) tt
+  apart-two = le-two (mul-two (mul-two (lit-two (bits 0x4005_9999_9999_999A) tt) (lit-two (bits 0x3CB0_0000_0000_0000) tt) tt) (abs-two X) tt)
+      (abs-two (sub-two X Y tt)) tt
 
 pub square-two : {k : ℕ} {p p' x x' y y' : Float} → Two binary64 k anyDoubleK p p' → Two binary64 k sideK x x' → Two binary64 k sideK y y'
     → Two binary64 k squareK (p ⊗ (x ⊖ y) ⊗ (x ⊖ y)) (p' ⊗ (x' ⊖ y') ⊗ (x' ⊖ y'))
@@ -129,12 +130,14 @@ pass k j s t h i =
     record {
       x = x;
       y = y;
-      sum = widen-two (sum-two (i .sum) S (and-l (sumOk binary64 (squaresK (suc j)) squareK) _ q)) (and-r (sumOk binary64 (squaresK (suc j)) squareK) _ q);
+      sum = widen-two (sum-two (i .sum) S (and-l (sumOk binary64 (squaresK (suc j)) squareK) _ q))
+          (and-r (sumOk binary64 (squaresK (suc j)) squareK) _ q);
       power = p;
     }
 
 -- ---- the value: y and z are not equal
-value-two : {k : ℕ} {x x' y y' u u' v v' w w' q q' s s' : Float} → Two binary64 k sideK x x' → Two binary64 k sideK y y' → Two binary64 k argK u u' → Two binary64 k argK v v' → T (not (eq u v))
+value-two : {k : ℕ} {x x' y y' u u' v v' w w' q q' s s' : Float} → Two binary64 k sideK x x' → Two binary64 k sideK y y'
+    → Two binary64 k argK u u' → Two binary64 k argK v v' → T (not (eq u v))
     → Two binary64 k sideK w w' → Two binary64 k sideK q q' → Two binary64 k (squaresK 0) s s'
     → Two binary64 k agmK (((x ⊕ three ⊗ y) ⊘ (four ⊗ v ⊗ (x ⊕ y)) ⊖ s ⊘ (v ⊗ (u ⊖ v))) ⊗ (pi ⊘ (w ⊕ q)) ⊗ three)
     (((x' ⊕ three ⊗ y') ⊘ (four ⊗ v' ⊗ (x' ⊕ y')) ⊖ s' ⊘ (v' ⊗ (u' ⊖ v'))) ⊗ (pi ⊘ (w' ⊕ q')) ⊗ three)
@@ -159,7 +162,8 @@ module _ {k : ℕ} {y y' z z' : Float} (Y : Two binary64 k argK y y') (Z : Two b
   same-test : (j : ℕ) (s t : Sums) → Inv k j s t → rdTogether s ≡ rdTogether t
   same-test j s t i = ap not (apart-two (i .x) (i .y))
 
-  ends : (j : ℕ) (s t : Sums) (n : ℕ) → j ≤ 40 → Inv k j s t → Ran k agmK (rdAgmFound (root y) (root z) y z s n) (rdAgmFound (root y') (root z') y' z' t n)
+  ends : (j : ℕ) (s t : Sums) (n : ℕ) → j ≤ 40 → Inv k j s t
+      → Ran k agmK (rdAgmFound (root y) (root z) y z s n) (rdAgmFound (root y') (root z') y' z' t n)
   unfolding rdMeanValue
   ends j s t n l i =
       let f : j < 41 = omega arith in
@@ -170,6 +174,9 @@ module _ {k : ℕ} {y y' z z' : Float} (Y : Two binary64 k argK y y') (Z : Two b
   agm-two =
       let s = rdAgmStart y z in
       let t = rdAgmStart y' z' in
-      subst (λ (b : Bool). Ran k agmK (rdAgmOf y z) (capped sumsOf rdTogether (rdAgmFound (root y') (root z') y' z') rdAgmSpent 40 b t 0)) (same-test 40 s t begun)
-      (loop-two sumsOf rdTogether (rdAgmFound (root y) (root z) y z) rdAgmSpent (rdAgmFound (root y') (root z') y' z') rdAgmSpent (Ran k agmK) (Inv k) 40
-      (pass k) (λ j s t l i. same-test j s t i) (λ j s t n l i q. ends j s t n l i) (λ s t n i. refusal) 40 (rdTogether s) s t 0 (le-refl 40) (λ q. q) begun)
+      subst (λ (b : Bool). Ran k agmK (rdAgmOf y z) (capped sumsOf rdTogether (rdAgmFound (root y') (root z') y' z') rdAgmSpent 40 b t 0))
+      (same-test 40 s t begun)
+      (loop-two sumsOf rdTogether (rdAgmFound (root y) (root z) y z) rdAgmSpent (rdAgmFound (root y') (root z') y' z') rdAgmSpent (Ran k agmK)
+      (Inv k) 40
+      (pass k) (λ j s t l i. same-test j s t i) (λ j s t n l i q. ends j s t n l i) (λ s t n i. refusal) 40 (rdTogether s) s t 0 (le-refl 40)
+      (λ q. q) begun)

@@ -36,7 +36,8 @@ settle (result s) = late-same no-result s
 -- ---- of one run: nothing is rescaled, and no argument is NaN or infinite
 unscaled : (x y z : Float) → beyondLimits (scaleOf3 x y z) ≡ false → rdUnchecked x y z ≡ rdSteps x y z
 unfolding rdUnchecked
-unscaled x y z e = ap (λ (b : Bool). cond b (cond (survive3 x y z (scaleOf3 x y z)) (rdRescaled x y z (scaleOf3 x y z)) (rdSteps x y z)) (rdSteps x y z)) e
+unscaled x y z e = ap (λ (b : Bool). cond b (cond (survive3 x y z (scaleOf3 x y z)) (rdRescaled x y z (scaleOf3 x y z)) (rdSteps x y z))
+    (rdSteps x y z)) e
 
 module _ {x y z : Float} {r s t : Bool} {l m n : ℕ} (X : Is binary64 x r l) (Y : Is binary64 y s m) (Z : Is binary64 z t n) where
   no-nan : anyNan3 x y z ≡ false
@@ -45,11 +46,18 @@ module _ {x y z : Float} {r s t : Bool} {l m n : ℕ} (X : Is binary64 x r l) (Y
   no-infinite : anyInfinite3 x y z ≡ false
   no-infinite = rw (bounded X, bounded Y, bounded Z)
 
-module _ {k : ℕ} {x x' y y' z z' : Float} (X : Two binary64 k argumentK x x') (Y : Two binary64 k argumentK y y') (Z : Two binary64 k argumentK z z') where
+module _ {k : ℕ} {x x' y y' z z' : Float} (X : Two binary64 k argumentK x x') (Y : Two binary64 k argumentK y y')
+    (Z : Two binary64 k argumentK z z') where
   steps-pair : Ran k agmK (rdSteps x y z) (rdSteps x' y' z')
-      → Pair k agmK (rdSettled (rdUnchecked x y z) (anyNan3 x y z) (anyInfinite3 x y z)) (rdSettled (rdUnchecked x' y' z') (anyNan3 x' y' z') (anyInfinite3 x' y' z'))
+      → Pair k agmK (rdSettled (rdUnchecked x y z) (anyNan3 x y z) (anyInfinite3 x y z))
+      (rdSettled (rdUnchecked x' y' z') (anyNan3 x' y' z') (anyInfinite3 x' y' z'))
   steps-pair r =
-      rw (no-nan (X .first) (Y .first) (Z .first), no-infinite (X .first) (Y .first) (Z .first), no-nan (X .second) (Y .second) (Z .second), no-infinite (X .second) (Y .second) (Z .second))
+      rw (
+        no-nan (X .first) (Y .first) (Z .first),
+        no-infinite (X .first) (Y .first) (Z .first),
+        no-nan (X .second) (Y .second) (Z .second),
+        no-infinite (X .second) (Y .second) (Z .second),
+      )
       (subst₂ (λ a b. Pair k agmK (rdSettled a false false) (rdSettled b false false))
       (sym (unscaled x y z (within3 x y z (first-size X) (first-size Y) (first-size Z))))
       (sym (unscaled x' y' z' (within3 x' y' z' (second-size X) (second-size Y) (second-size Z)))) (settle r))

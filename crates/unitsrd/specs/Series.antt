@@ -35,7 +35,8 @@ valueK = record { any = false; zer = false; lo = 2 ^ 850; hi = 2 ^ 1260; g = las
 
 -- ---- the factor
 -- what is subtracted from one is less than it
-less-two : {k : ℕ} {A B : Kind} {x x' y y' : Float} → Two binary64 k A x x' → Two binary64 k B y y' → T (nudgeOk binary64 A (negK B)) → Two binary64 k (nudgeK binary64 A (negK B)) (x ⊖ y) (x' ⊖ y')
+less-two : {k : ℕ} {A B : Kind} {x x' y y' : Float} → Two binary64 k A x x' → Two binary64 k B y y' → T (nudgeOk binary64 A (negK B))
+    → Two binary64 k (nudgeK binary64 A (negK B)) (x ⊖ y) (x' ⊖ y')
 unfolding sub
 less-two a b ok = nudge-two a (neg-two b) ok
 
@@ -43,7 +44,8 @@ less-two a b ok = nudge-two a (neg-two b) ok
 abbrev sumOf : ℕ → Kind
 sumOf h = record { any = true; zer = true; lo = 0; hi = 2 ^ h; g = 0; u = 0; d = 0 }
 
-pub third-two : {k : ℕ} {a a' b b' c c' d d' : Float} → Two binary64 k (sumOf 1071) a a' → Two binary64 k (sumOf 1069) b b' → Two binary64 k (sumOf 1069) c c' → Two binary64 k (sumOf 1069) d d'
+pub third-two : {k : ℕ} {a a' b b' c c' d d' : Float} → Two binary64 k (sumOf 1071) a a' → Two binary64 k (sumOf 1069) b b'
+    → Two binary64 k (sumOf 1069) c c' → Two binary64 k (sumOf 1069) d d'
     → Two binary64 k factorK (thirdKind a b c d) (thirdKind a' b' c' d')
 unfolding thirdKind mulK mulOk divK divOk sumK sumOk nudgeK nudgeOk within litOk ofBits
 third-two e2 e3 e4 e5 =
@@ -58,11 +60,13 @@ third-two e2 e3 e4 e5 =
     let t7 = less-two t6 (div-two (mul-two (mul-two e2 e2 tt) e2 tt) (lit-two (bits 0x4030_0000_0000_0000) tt) tt) tt in
     let t8 = nudge-two t7 (div-two (mul-two (mul-two three e3 tt) e3 tt) (lit-two (bits 0x4044_0000_0000_0000) tt) tt) tt in
     let t9 = nudge-two t8 (div-two (mul-two (mul-two three e2 tt) e4 tt) (lit-two (bits 0x4034_0000_0000_0000) tt) tt) tt in
-    let t10 = nudge-two t9 (div-two (mul-two (mul-two (mul-two (lit-two (bits 0x4046_8000_0000_0000) tt) e2 tt) e2 tt) e3 tt) (lit-two (bits 0x4071_0000_0000_0000) tt) tt) tt in
+    let t10 = nudge-two t9 (div-two (mul-two (mul-two (mul-two (lit-two (bits 0x4046_8000_0000_0000) tt) e2 tt) e2 tt) e3 tt)
+    (lit-two (bits 0x4071_0000_0000_0000) tt) tt) tt in
     let t11 = div-two (mul-two nine (sum-two (mul-two e3 e4 tt) (mul-two e2 e5 tt) tt) tt) (lit-two (bits 0x4051_0000_0000_0000) tt) tt in
     widen-two (less-two t10 t11 tt) tt
 
-pub factor-two : {k : ℕ} {x x' y y' : Float} → Two binary64 k smallK x x' → Two binary64 k smallK y y' → Two binary64 k factorK (rdFactor x y) (rdFactor x' y')
+pub factor-two : {k : ℕ} {x x' y y' : Float} → Two binary64 k smallK x x' → Two binary64 k smallK y y'
+    → Two binary64 k factorK (rdFactor x y) (rdFactor x' y')
 unfolding rdFactor mulK mulOk divK divOk sumK sumOk within litOk ofBits
 factor-two x y =
     let three = lit-two (bits 0x4008_0000_0000_0000) tt in
@@ -84,13 +88,15 @@ module _ {k : ℕ} (j : ℕ) {a a' q q' : Float} (A : Two binary64 k meanK a a')
   pub ended : T (lt q a) → (above (Q .s) (Q .m) ≤ A .m) × (above (Q .s) (Q .n) ≤ A .n)
   ended t =
       let S : A .s ≡ false = A .in-first .sign tt in (
-        subst (λ (s : Bool). above (Q .s) (Q .m) ≤ above s (A .m)) S (passed (Q .s) (A .s) (Q .m) (A .m) (subst T (lt-units (Q .first) (A .first)) t)),
+        subst (λ (s : Bool). above (Q .s) (Q .m) ≤ above s (A .m)) S (passed (Q .s) (A .s) (Q .m) (A .m)
+            (subst T (lt-units (Q .first) (A .first)) t)),
         subst (λ (s : Bool). above (Q .s) (Q .n) ≤ above s (A .n)) S
             (passed (Q .s) (A .s) (Q .n) (A .n) (subst T (test-two ∙ lt-units (Q .second) (A .second)) t)),
       )
 
 -- a correction: D is the first difference's units, M the largest above zero, B the first mean
-pub correction-two : {k : ℕ} (j : ℕ) {a a' w w' : Float} (d d' x x' : Float) → j < 51 → (A : Two binary64 k meanK a a') (W : Two binary64 k (fourthK j) w w')
+pub correction-two : {k : ℕ} (j : ℕ) {a a' w w' : Float} (d d' x x' : Float) → j < 51
+    → (A : Two binary64 k meanK a a') (W : Two binary64 k (fourthK j) w w')
     (G : Two binary64 k gapK (d ⊖ x) (d' ⊖ x')) (M M' B B' : ℕ)
     → 2 ^ 40 * G .m ≤ 6 * 2 ^ 40 * M + B → 2 ^ 40 * G .n ≤ 6 * 2 ^ 40 * M' + B'
     → 64 * M * W .m ≤ A .m * 2 ^ low binary64 → 64 * M' * W .n ≤ A .n * 2 ^ low binary64
@@ -113,8 +119,10 @@ sums-first : (j : ℕ) → j < 51 → T (within (sumsK j) (sumsK 0))
 unfolding all within
 sums-first = every 51 (λ j. within (sumsK j) (sumsK 0)) tt
 
-pub series-two : {k : ℕ} (j : ℕ) {a a' w w' s s' : Float} (x x' y y' d d' : Float) → j < 51 → Two binary64 k meanK a a' → Two binary64 k (fourthK j) w w' → Two binary64 k (sumsK j) s s'
-    → Two binary64 k smallK (rdCorrection w d x a) (rdCorrection w' d' x' a') → Two binary64 k smallK (rdCorrection w d y a) (rdCorrection w' d' y' a')
+pub series-two : {k : ℕ} (j : ℕ) {a a' w w' s s' : Float} (x x' y y' d d' : Float) → j < 51 → Two binary64 k meanK a a'
+    → Two binary64 k (fourthK j) w w' → Two binary64 k (sumsK j) s s'
+    → Two binary64 k smallK (rdCorrection w d x a) (rdCorrection w' d' x' a')
+    → Two binary64 k smallK (rdCorrection w d y a) (rdCorrection w' d' y' a')
     → Two binary64 k valueK (rdSeries x y d a w s) (rdSeries x' y' d' a' w' s')
 unfolding rdSeries powerK powerOk mulK mulOk plusK plusOk within litOk ofBits
 series-two j x x' y y' d d' h A W S X Y =

@@ -37,9 +37,11 @@ ahead : (C D M : ℕ) → Digits binary64 M → 64 * l ≤ C → l ≤ D → 64 
 ahead C D M G c d =
     let P = near binary64 (C * M) l in
     let first : M * 2 ^ 6 ≤ P =
-    le-trans (le-of-eq (sym (shifted 6 G))) (near-mono binary64 (M * 2 ^ 6) 1 (C * M) l (zero-lt-suc 0) (pow-pos (low binary64)) (first-times .law M l C c)) in
+    le-trans (le-of-eq (sym (shifted 6 G))) (near-mono binary64 (M * 2 ^ 6) 1 (C * M) l (zero-lt-suc 0) (pow-pos (low binary64))
+    (first-times .law M l C c)) in
     let second : M * 2 ^ 6 ≤ near binary64 (P * D) l =
-    le-trans (le-of-eq (sym (shifted 6 G))) (near-mono binary64 (M * 2 ^ 6) 1 (P * D) l (zero-lt-suc 0) (pow-pos (low binary64)) (more .law M l P D first d)) in
+    le-trans (le-of-eq (sym (shifted 6 G))) (near-mono binary64 (M * 2 ^ 6) 1 (P * D) l (zero-lt-suc 0) (pow-pos (low binary64))
+    (more .law M l P D first d)) in
     le-trans (le-of-eq (turned M)) second
   where
     first-times : Order 3 (λ m l c. (m times con 64 :* l ≼ c) ∷ [] ⊩ m :* con 64 :* l ≈ c :* m :* con 1)
@@ -69,7 +71,8 @@ module _ {k : ℕ} {x x' y y' z z' : Float} (a : Arg k x x') (b : Arg k y y') (c
   abbrev pub gz : Gap (m .two) (some c)
   gz = gap (m .two) (some c)
 
-  abbrev pub xy : Larger (gx .two) (gy .two) tt (maximum (rdMean x y z ⊖ x) (rdMean x y z ⊖ y)) (maximum (rdMean x' y' z' ⊖ x') (rdMean x' y' z' ⊖ y'))
+  abbrev pub xy : Larger (gx .two) (gy .two) tt (maximum (rdMean x y z ⊖ x) (rdMean x y z ⊖ y))
+      (maximum (rdMean x' y' z' ⊖ x') (rdMean x' y' z' ⊖ y'))
   xy = larger-two (gx .two) (gy .two) tt
 
   abbrev pub xyz : Larger (xy .two) (gz .two) tt (maximum (maximum (rdMean x y z ⊖ x) (rdMean x y z ⊖ y)) (rdMean x y z ⊖ z))
@@ -95,8 +98,10 @@ module _ {k : ℕ} {x x' y y' z z' : Float} (a : Arg k x x') (b : Arg k y y') (c
     q = widen-two (mul-two (mul-two (lit-two (bits 0x405A_E89F_995A_D3AD) tt) (xyz .two) tt) (lit-two (bits 0x3FF3_3333_3333_3333) tt) tt) tt;
     w = widen-two (lit-two one tt) tt;
     sum = nothing-two (sumsK 50) (record { s = false; first = zero-is binary64; second = zero-is binary64 }) refl tt;
-    lead = ahead-above (litN binary64 (bits 0x405A_E89F_995A_D3AD)) (litN binary64 (bits 0x3FF3_3333_3333_3333)) (xyz .two .s) (xyz .two .m) (digits-of (xyz .two .first)) (lit≤ tt) (lit≤ tt);
-    lead' = ahead-above (litN binary64 (bits 0x405A_E89F_995A_D3AD)) (litN binary64 (bits 0x3FF3_3333_3333_3333)) (xyz .two .s) (xyz .two .n) (digits-of (xyz .two .second)) (lit≤ tt) (lit≤ tt);
+    lead = ahead-above (litN binary64 (bits 0x405A_E89F_995A_D3AD)) (litN binary64 (bits 0x3FF3_3333_3333_3333)) (xyz .two .s) (xyz .two .m)
+        (digits-of (xyz .two .first)) (lit≤ tt) (lit≤ tt);
+    lead' = ahead-above (litN binary64 (bits 0x405A_E89F_995A_D3AD)) (litN binary64 (bits 0x3FF3_3333_3333_3333)) (xyz .two .s) (xyz .two .n)
+        (digits-of (xyz .two .second)) (lit≤ tt) (lit≤ tt);
     base = le-refl _;
     base' = le-refl _;
   }
@@ -109,7 +114,8 @@ first-roots : {k : ℕ} {x x' : Float} → Two binary64 k argK x x' → Two bina
 unfolding rootOk
 first-roots x = root-two x tt
 
-product : {k : ℕ} {x x' y y' : Float} → Two binary64 k argK x x' → Two binary64 k argK y y' → Two binary64 k firstK (root x ⊗ root y) (root x' ⊗ root y')
+product : {k : ℕ} {x x' y y' : Float} → Two binary64 k argK x x' → Two binary64 k argK y y'
+    → Two binary64 k firstK (root x ⊗ root y) (root x' ⊗ root y')
 unfolding rootK mulK mulOk within
 product x y = widen-two (mul-two (first-roots x) (first-roots y) tt) tt
 
@@ -131,7 +137,8 @@ wide-lambda : {k : ℕ} {x x' : Float} → Two binary64 k firstK x x' → Two bi
 unfolding within
 wide-lambda x = widen-two x tt
 
-pub first : {k : ℕ} {x x' y y' z z' : Float} (a : Arg k x x') (b : Arg k y y') (c : Two binary64 k argK z z') → T (some? a || some? b) → First k x x' y y' z z'
+pub first : {k : ℕ} {x x' y y' z z' : Float} (a : Arg k x x') (b : Arg k y y') (c : Two binary64 k argK z z') → T (some? a || some? b)
+    → First k x x' y y' z z'
 unfolding lambdaOf rootK
 first (none u) (none w) c h = absurd h
 first (none u) (some b) c h =

@@ -110,11 +110,13 @@ l = 2 ^ low binary64
 pub fourth : (n : ℕ) → Digits binary64 n → (n ≡ 0) ⊎ (2 ^ 55 ≤ n) → near binary64 (n * l) (4 * l) * 4 ≡ n
 fourth n D (inl e) =
     ap (λ (i : ℕ). near binary64 (i * l) (4 * l) * 4) e
-    ∙ ap (λ (i : ℕ). i * 4) (ap (λ (i : ℕ). near binary64 i (4 * l)) (zero-mul l) ∙ near-zero binary64 (4 * l) (mul-pos (zero-lt-suc 3) (pow-pos (low binary64))))
+    ∙ ap (λ (i : ℕ). i * 4) (ap (λ (i : ℕ). near binary64 i (4 * l)) (zero-mul l)
+    ∙ near-zero binary64 (4 * l) (mul-pos (zero-lt-suc 3) (pow-pos (low binary64))))
     ∙ sym e
 fourth n D (inr h) = quarter D h
 
-fourth-above : (s : Bool) (n : ℕ) → Digits binary64 n → (n ≡ 0) ⊎ (2 ^ 55 ≤ n) → above (unlike s false) (near binary64 (n * l) (4 * l)) * 4 ≡ above s n
+fourth-above : (s : Bool) (n : ℕ) → Digits binary64 n → (n ≡ 0) ⊎ (2 ^ 55 ≤ n)
+    → above (unlike s false) (near binary64 (n * l) (4 * l)) * 4 ≡ above s n
 fourth-above true n D h = refl
 fourth-above false n D h = fourth n D h
 
@@ -124,7 +126,8 @@ pub mean-fourth : (A L : ℕ) (s t : Bool) → s ≡ false → t ≡ false → D
 mean-fourth A L s t e g D h =
     le-trans (le-of-eq (sym (quarter D h)))
     (mul-le-mul-right 4
-    (near-mono binary64 (A * l) (4 * l) (near binary64 (addN s A t L) 1 * l) (4 * l) four-pos four-pos (mul-le-mul-right (4 * l) (mul-le-mul-right l up))))
+    (near-mono binary64 (A * l) (4 * l) (near binary64 (addN s A t L) 1 * l) (4 * l) four-pos four-pos
+    (mul-le-mul-right (4 * l) (mul-le-mul-right l up))))
   where
     four-pos : 0 < 4 * l
     four-pos = mul-pos (zero-lt-suc 3) (pow-pos (low binary64))
@@ -132,7 +135,8 @@ mean-fourth A L s t e g D h =
     up : A ≤ near binary64 (addN s A t L) 1
     up =
         le-trans (le-of-eq (sym (on-grid D)))
-        (le-trans (near-le binary64 1 (zero-lt-suc 0) (le-add-right A L)) (le-of-eq (ap₂ (λ (s t : Bool). near binary64 (addN s A t L) 1) (sym e) (sym g))))
+        (le-trans (near-le binary64 1 (zero-lt-suc 0) (le-add-right A L))
+        (le-of-eq (ap₂ (λ (s t : Bool). near binary64 (addN s A t L) 1) (sym e) (sym g))))
 
 pub few-or-many : {K : Kind} {s : Bool} {m : ℕ} → In K s m → T (leb (2 ^ 55) (K .lo)) → (m ≡ 0) ⊎ (2 ^ 55 ≤ m)
 few-or-many {K} i t = elim (i .from) [ inl p ↦ inl (p .1) | inr h ↦ inr (le-trans (leb→le (2 ^ 55) (K .lo) t) h) ]
@@ -144,11 +148,13 @@ spares : (j : ℕ) → j < 51 → T (spareOk j)
 unfolding all spareOk
 spares = every 51 spareOk tt
 
-unfoldable pub quarter-two : {k : ℕ} {x x' v v' : Float} → Two binary64 k meanK x x' → Two binary64 k lambdaK v v' → Two binary64 k meanK ((x ⊕ v) ⊘ four) ((x' ⊕ v') ⊘ four)
+unfoldable pub quarter-two : {k : ℕ} {x x' v v' : Float} → Two binary64 k meanK x x' → Two binary64 k lambdaK v v'
+    → Two binary64 k meanK ((x ⊕ v) ⊘ four) ((x' ⊕ v') ⊘ four)
 unfolding divK divOk plusK plusOk within litOk ofBits
 quarter-two x v = widen-two (div-two (plus-two x v tt) (lit-two four tt) tt) tt
 
-term-two : {k : ℕ} {w w' r r' z z' v v' : Float} → Two binary64 k anyFourthK w w' → Two binary64 k rootsK r r' → Two binary64 k meanK z z' → Two binary64 k lambdaK v v'
+term-two : {k : ℕ} {w w' r r' z z' v v' : Float} → Two binary64 k anyFourthK w w' → Two binary64 k rootsK r r' → Two binary64 k meanK z z'
+    → Two binary64 k lambdaK v v'
     → Two binary64 k termK (w ⊘ (r ⊗ (z ⊕ v))) (w' ⊘ (r' ⊗ (z' ⊕ v')))
 unfolding mulK mulOk divK divOk plusK plusOk within
 term-two w r z v = widen-two (div-two w (mul-two r (plus-two z v tt) tt) tt) tt
@@ -176,18 +182,24 @@ module _ {k j M M' A A' : ℕ} {s s' : Round} (h : j < 50) (i : Kept k (suc j) M
   moved r = record {
     z = quarter-two (i .z) L;
     a = quarter-two (i .a) L;
-    q = widen-two (div-two (i .q) (lit-two four tt) (and-l (divOk binary64 (boundK (suc j)) fourK) _ (bounds j h))) (and-r (divOk binary64 (boundK (suc j)) fourK) _ (bounds j h));
-    w = widen-two (div-two (i .w) (lit-two four tt) (and-l (divOk binary64 (fourthK (suc j)) fourK) _ (fourths j h))) (and-r (divOk binary64 (fourthK (suc j)) fourK) _ (fourths j h));
-    sum = widen-two (plus-two (i .sum) (term-two (widen-two (i .w) (any-fourth (suc j) j₁)) r (i .z) L) (and-l (plusOk binary64 (sumsK (suc j)) termK) _ (sums j h)))
+    q = widen-two (div-two (i .q) (lit-two four tt) (and-l (divOk binary64 (boundK (suc j)) fourK) _ (bounds j h)))
+        (and-r (divOk binary64 (boundK (suc j)) fourK) _ (bounds j h));
+    w = widen-two (div-two (i .w) (lit-two four tt) (and-l (divOk binary64 (fourthK (suc j)) fourK) _ (fourths j h)))
+        (and-r (divOk binary64 (fourthK (suc j)) fourK) _ (fourths j h));
+    sum = widen-two (plus-two (i .sum) (term-two (widen-two (i .w) (any-fourth (suc j) j₁)) r (i .z) L)
+        (and-l (plusOk binary64 (sumsK (suc j)) termK) _ (sums j h)))
         (and-r (plusOk binary64 (sumsK (suc j)) termK) _ (sums j h));
     lead = lead-kept M (i .w .m) (above (i .q .s) (i .q .m)) _ _ l (fourth (i .w .m) (digits-of (i .w .first)) (few-or-many (i .w .in-first) big-w))
         (fourth-above (i .q .s) (i .q .m) (digits-of (i .q .first)) (few-or-many (i .q .in-first) big-q)) (i .lead);
-    lead' = lead-kept M' (i .w .n) (above (i .q .s) (i .q .n)) _ _ l (fourth (i .w .n) (digits-of (i .w .second)) (few-or-many (i .w .in-second) big-w))
+    lead' = lead-kept M' (i .w .n) (above (i .q .s) (i .q .n)) _ _ l
+        (fourth (i .w .n) (digits-of (i .w .second)) (few-or-many (i .w .in-second) big-w))
         (fourth-above (i .q .s) (i .q .n) (digits-of (i .q .second)) (few-or-many (i .q .in-second) big-q)) (i .lead');
     base = mean-kept A (i .w .m) (i .a .m) _ _ l (fourth (i .w .m) (digits-of (i .w .first)) (few-or-many (i .w .in-first) big-w))
-        (mean-fourth (i .a .m) (L .m) (i .a .s) (L .s) (i .a .in-first .sign tt) (L .in-first .sign tt) (digits-of (i .a .first)) (far (i .a .m) (floor-le (i .a .in-first)))) (i .base);
+        (mean-fourth (i .a .m) (L .m) (i .a .s) (L .s) (i .a .in-first .sign tt) (L .in-first .sign tt) (digits-of (i .a .first))
+        (far (i .a .m) (floor-le (i .a .in-first)))) (i .base);
     base' = mean-kept A' (i .w .n) (i .a .n) _ _ l (fourth (i .w .n) (digits-of (i .w .second)) (few-or-many (i .w .in-second) big-w))
-        (mean-fourth (i .a .n) (L .n) (i .a .s) (L .s) (i .a .in-first .sign tt) (L .in-first .sign tt) (digits-of (i .a .second)) (far (i .a .n) (floor-le (i .a .in-second)))) (i .base');
+        (mean-fourth (i .a .n) (L .n) (i .a .s) (L .s) (i .a .in-first .sign tt) (L .in-first .sign tt) (digits-of (i .a .second))
+        (far (i .a .n) (floor-le (i .a .in-second)))) (i .base');
   }
 
 -- ---- a pass where none of the arguments is zero

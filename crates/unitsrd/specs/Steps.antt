@@ -35,11 +35,13 @@ nothing {k} {x} {x'} a h = record {
   second = subst (Is binary64 x' (a .s)) (no-units-of (a .second) (subst T (zero-two a) h)) (a .second);
 }
 
-arg-at : {k : ℕ} {x x' : Float} → Two binary64 k argumentK x x' → T (not (lt x zero)) → (b : Bool) → (T b → T (eq x zero)) → (T (not b) → T (not (eq x zero))) → Arg k x x'
+arg-at : {k : ℕ} {x x' : Float} → Two binary64 k argumentK x x' → T (not (lt x zero)) → (b : Bool) → (T b → T (eq x zero))
+    → (T (not b) → T (not (eq x zero))) → Arg k x x'
 arg-at a h true p q = none (nothing a (p tt))
 arg-at a h false p q = some (above-two a h (q tt))
 
-some-at : {k : ℕ} {x x' : Float} (a : Two binary64 k argumentK x x') (h : T (not (lt x zero))) (b : Bool) (p : T b → T (eq x zero)) (q : T (not b) → T (not (eq x zero)))
+some-at : {k : ℕ} {x x' : Float} (a : Two binary64 k argumentK x x') (h : T (not (lt x zero))) (b : Bool) (p : T b → T (eq x zero))
+    (q : T (not b) → T (not (eq x zero)))
     → some? (arg-at a h b p q) ≡ not b
 unfolding arg-at
 some-at a h true p q = refl
@@ -52,11 +54,13 @@ pub arg-some : {k : ℕ} {x x' : Float} (a : Two binary64 k argumentK x x') (h :
 unfolding arg-of
 arg-some {x = x} a h = some-at a h (eq x zero) (λ t. t) (λ t. t)
 
-pub some-of : {k : ℕ} {x x' y y' : Float} (a : Two binary64 k argumentK x x') (h : T (not (lt x zero))) (b : Two binary64 k argumentK y y') (g : T (not (lt y zero)))
+pub some-of : {k : ℕ} {x x' y y' : Float} (a : Two binary64 k argumentK x x') (h : T (not (lt x zero))) (b : Two binary64 k argumentK y y')
+    (g : T (not (lt y zero)))
     → T (not (eq x zero && eq y zero)) → T (some? (arg-of a h) || some? (arg-of b g))
 unfolding arg-of
 some-of {x = x} {y = y} a h b g n =
-    subst T (ap₂ _||_ (sym (some-at a h (eq x zero) (λ t. t) (λ t. t))) (sym (some-at b g (eq y zero) (λ t. t) (λ t. t)))) (turned (eq x zero) (eq y zero) n)
+    subst T (ap₂ _||_ (sym (some-at a h (eq x zero) (λ t. t) (λ t. t))) (sym (some-at b g (eq y zero) (λ t. t) (λ t. t))))
+    (turned (eq x zero) (eq y zero) n)
   where
     turned : (b c : Bool) → T (not (b && c)) → T (not b || not c)
     turned true true t = t
@@ -71,7 +75,8 @@ equal-two x = result (closed (widen-two (div-two (lit-two one tt) (mul-two x (ro
 zero-form-two : {k : ℕ} {y y' : Float} → Two binary64 k argK y y' → Ran k agmK (rdZero y) (rdZero y')
 unfolding rdZero mulK mulOk divK divOk rootK rootOk within litOk ofBits
 zero-form-two y =
-    result (closed (widen-two (div-two (mul-two (lit-two three tt) (lit-two pi tt) tt) (mul-two (mul-two (lit-two four tt) y tt) (root-two y tt) tt) tt) tt))
+    result (closed (widen-two (div-two (mul-two (lit-two three tt) (lit-two pi tt) tt)
+    (mul-two (mul-two (lit-two four tt) y tt) (root-two y tt) tt) tt) tt))
 
 -- ---- which road
 no-second : (b c : Bool) → T (not (b && c)) → T b → T (not c)
@@ -95,10 +100,12 @@ both-zero s t m n h e =
 
 -- an equal of a zero is one
 pub equal-zero : {x y : Float} {s t : Bool} {m n : ℕ} → Is binary64 x s m → Is binary64 y t n → T (eq x y) → T (eq x zero) → T (eq y zero)
-equal-zero {x} {y} {s} {t} {m} {n} X Y e z = subst T (sym (eq-units Y (zero-is binary64))) (both-zero s t m n (subst T (eq-units X Y) e) (no-units-of X z))
+equal-zero {x} {y} {s} {t} {m} {n} X Y e z = subst T (sym (eq-units Y (zero-is binary64)))
+    (both-zero s t m n (subst T (eq-units X Y) e) (no-units-of X z))
 
 module _ {k : ℕ} {z z' : Float} (Z : Two binary64 k argK z z') where
-  module _ {x x' y y' : Float} (X : Two binary64 k argumentK x x') (Y : Two binary64 k argumentK y y') (hx : T (not (lt x zero))) (hy : T (not (lt y zero)))
+  module _ {x x' y y' : Float} (X : Two binary64 k argumentK x x') (Y : Two binary64 k argumentK y y') (hx : T (not (lt x zero)))
+      (hy : T (not (lt y zero)))
       (some : T (not (eq x zero && eq y zero))) where
     duplicate-two : Ran k agmK (Value (rdDuplication x y z)) (Value (rdDuplication x' y' z'))
     unfolding within
@@ -117,14 +124,17 @@ module _ {k : ℕ} {z z' : Float} (Z : Two binary64 k argK z z') where
     ordered-two =
         choose (Ran k agmK) (eq y z) (eq y' z') (eq-two Y Z tt)
         (λ e. choose (Ran k agmK) (eq x y) (eq x' y') (eq-two X Y tt)
-        (λ f. equal-two (above-two X hx (not-T (eq x zero) (λ t. T-not (eq y zero) (no-second (eq x zero) (eq y zero) some t) (equal-zero (X .first) (Y .first) f t)))))
+        (λ f. equal-two (above-two X hx (not-T (eq x zero)
+        (λ t. T-not (eq y zero) (no-second (eq x zero) (eq y zero) some t) (equal-zero (X .first) (Y .first) f t)))))
         (λ f. choose (Ran k agmK) (eq x zero) (eq x' zero) (zero-two X)
         (λ t. zero-form-two (above-two Y hy (no-second (eq x zero) (eq y zero) some t)))
         (λ t. general-two (λ q. absurd (T-not (eq x zero) t q)))))
         (λ e. general-two (λ q. e))
 
-  pub steps-two : {x x' y y' : Float} (X : Two binary64 k argumentK x x') (Y : Two binary64 k argumentK y y') → T (not (lt x zero)) → T (not (lt y zero))
+  pub steps-two : {x x' y y' : Float} (X : Two binary64 k argumentK x x') (Y : Two binary64 k argumentK y y') → T (not (lt x zero))
+      → T (not (lt y zero))
       → T (not (eq x zero && eq y zero)) → Ran k agmK (rdSteps x y z) (rdSteps x' y' z')
   unfolding rdSteps
   steps-two {x} {x'} {y} {y'} X Y hx hy nz =
-      choose (Ran k agmK) (eq x z) (eq x' z') (eq-two X Z tt) (λ e. ordered-two Y X hy hx (swapped (eq x zero) (eq y zero) nz)) (λ e. ordered-two X Y hx hy nz)
+      choose (Ran k agmK) (eq x z) (eq x' z') (eq-two X Z tt) (λ e. ordered-two Y X hy hx (swapped (eq x zero) (eq y zero) nz))
+      (λ e. ordered-two X Y hx hy nz)

@@ -1,6 +1,6 @@
 -- Two quantities of a pass of RJ that have no dimension, bounded from the roots they are made of; all numbers are units, and l is the units of 1.
--- With d = (√p + √x)(√p + √y)(√p + √z): the product of the differences p - x, p - y, p - z is at most d², and 2 √p (p + √x √y + √x √z + √y √z) at most
--- 2 d. Each rounding costs less than a factor of two, so the quotients are at most 2 ^ 16 and 2 ^ 12. Assumes nothing.
+-- With d = (√p + √x)(√p + √y)(√p + √z): the product of the differences p - x, p - y, p - z is at most d², and 2 √p (p + √x √y + √x √z + √y
+-- √z) at most 2 d. Each rounding costs less than a factor of two, so the quotients are at most 2 ^ 16 and 2 ^ 12. Assumes nothing.
 use mathlib.Core.Path.{_≡_, sym, ap, _∙_}
 use mathlib.Core.List.{[], _∷_}
 use Prim.Native.Nat.{ℕ, _+_, _-_, _*_, _/_, _^_, _≤_, _<_}
@@ -26,7 +26,8 @@ root-square n p h =
     let most : n ≤ 2 ^ (2 + 2 * j) = le-trans (le-of-lt (size-lt n)) (pow-mono top) in
     let square : 2 ^ (537 + j) * 2 ^ (537 + j) ≤ rootUnits n * rootUnits n = mul-le-mul least least in
     let e : 2 ^ (2 + 2 * j) * 2 ^ 1074 ≡ 4 * (2 ^ (537 + j) * 2 ^ (537 + j)) =
-    sym (pow-add 2 (2 + 2 * j) 1074) ∙ ap (λ (i : ℕ). 2 ^ i) (let r : 2 + 2 * j + 1074 ≡ 2 + (537 + j + (537 + j)) = omega arith in r) ∙ pow-add 2 2 (537 + j + (537 + j))
+    sym (pow-add 2 (2 + 2 * j) 1074) ∙ ap (λ (i : ℕ). 2 ^ i) (let r : 2 + 2 * j + 1074 ≡ 2 + (537 + j + (537 + j)) = omega arith in r)
+    ∙ pow-add 2 2 (537 + j + (537 + j))
     ∙ ap (λ (i : ℕ). 2 ^ 2 * i) (pow-add 2 (537 + j) (537 + j)) in
     le-trans (mul-le-mul-right (2 ^ 1074) most) (le-trans (le-of-eq e) (mul-le-mul-left 4 square))
 
@@ -44,14 +45,16 @@ pair-square p x r s R l h i j k = le-trans (le-of-eq (spread .law p x l)) (sum-s
     spread = by-ring tt
 
 -- ---- the product of three sums, rounded twice
-product-of-three : Order 6 (λ a b c e d l. (c times a :* b ≼ con 2 :* (e :* l)) ∷ (con 2 :* l times e :* c ≼ con 2 :* (d :* l)) ∷ [] ⊩ a :* b :* c ≈ con 4 :* d :* (l :* l))
+product-of-three : Order 6 (λ a b c e d l. (c times a :* b ≼ con 2 :* (e :* l)) ∷ (con 2 :* l times e :* c ≼ con 2 :* (d :* l)) ∷ []
+    ⊩ a :* b :* c ≈ con 4 :* d :* (l :* l))
 product-of-three = by-below tt
 
 pub of-three : (a b c e d l : ℕ) → a * b ≤ 2 * (e * l) → e * c ≤ 2 * (d * l) → a * b * c ≤ 4 * d * (l * l)
 of-three a b c e d l h i = product-of-three .law a b c e d l h i
 
 -- ---- delta over d²
-pub ratio-bound : (m1 m2 m3 a b c d q D l : ℕ) → 0 < l → m1 * l ≤ 8 * (a * a) → m2 * l ≤ 8 * (b * b) → m3 * l ≤ 8 * (c * c) → a * b * c ≤ 4 * d * (l * l)
+pub ratio-bound : (m1 m2 m3 a b c d q D l : ℕ) → 0 < l → m1 * l ≤ 8 * (a * a) → m2 * l ≤ 8 * (b * b) → m3 * l ≤ 8 * (c * c)
+    → a * b * c ≤ 4 * d * (l * l)
     → d * d ≤ 2 * (q * l) → D * (l * l) ≤ 4 * (m1 * m2 * m3) → D ≤ 2 ^ 16 * q
 ratio-bound m1 m2 m3 a b c d q D l pos h i j big square delta =
     let three : m1 * l * (m2 * l) * (m3 * l) ≤ 8 * (a * a) * (8 * (b * b)) * (8 * (c * c)) = mul-le-mul (mul-le-mul h i) j in
@@ -78,12 +81,14 @@ middle-bound r s t u P y m a n N v T a1 b1 c1 d l pos hy hm ha hn hN hv hT hP h1
     le-of-mul-le-mul-left (chain .law r s t u T a1 b1 c1 d l outer sums big) (mul-pos pos pos)
   where
     parts : Order 11 (λ s t u r P y m a n N l.
-        (l times N ≼ con 2 :* (a :+ n)) ∷ (con 2 :* l times a ≼ con 2 :* (P :+ m)) ∷ (con 4 times m :* l ≼ con 2 :* (s :* y)) ∷ (con 8 :* s times y ≼ con 2 :* (t :+ u))
+        (l times N ≼ con 2 :* (a :+ n)) ∷ (con 2 :* l times a ≼ con 2 :* (P :+ m)) ∷ (con 4 times m :* l ≼ con 2 :* (s :* y))
+        ∷ (con 8 :* s times y ≼ con 2 :* (t :+ u))
         ∷ (con 2 times n :* l ≼ con 2 :* (t :* u)) ∷ (con 4 times P :* l ≼ con 4 :* (r :* r)) ∷ []
         ⊩ N :* l ≈ con 16 :* (r :* r :+ s :* t :+ s :* u :+ t :* u))
     parts = by-below tt
 
-    whole : Order 6 (λ r v N T l e. (l times T :* l ≼ con 2 :* (v :* N)) ∷ (con 2 :* N :* l times v ≼ con 4 :* r) ∷ (con 8 :* r times N :* l ≼ con 16 :* e) ∷ []
+    whole : Order 6 (λ r v N T l e. (l times T :* l ≼ con 2 :* (v :* N)) ∷ (con 2 :* N :* l times v ≼ con 4 :* r)
+        ∷ (con 8 :* r times N :* l ≼ con 16 :* e) ∷ []
         ⊩ T :* l :* l ≈ con 128 :* (r :* e))
     whole = by-below tt
 

@@ -145,7 +145,8 @@ module _ {k : ℕ} {y : Float} (Y : Two binary64 k ratioOfK y y) where
   abbrev m : ℕ
   m = Y .m
 
-  recast : (lo hi : ℕ) {v : Float} (a : Two binary64 k (record { any = true; zer = true; lo = 0; hi = 2 ^ 1090; g = 0; u = 0; d = 0 }) v v) → a .s ≡ false → lo ≤ a .m → a .m ≤ hi
+  recast : (lo hi : ℕ) {v : Float} (a : Two binary64 k (record { any = true; zer = true; lo = 0; hi = 2 ^ 1090; g = 0; u = 0; d = 0 }) v v)
+      → a .s ≡ false → lo ≤ a .m → a .m ≤ hi
       → Two binary64 k (record { any = false; zer = false; lo = lo; hi = hi; g = last binary64 lo; u = 0; d = 0 }) v v
   recast lo hi a e p q = recast-two (record { any = false; zer = false; lo = lo; hi = hi; g = last binary64 lo; u = 0; d = 0 }) a refl refl refl
       (record { sign = λ t. e; from = inr p; to = q })
@@ -167,7 +168,8 @@ module _ {k : ℕ} {y : Float} (Y : Two binary64 k ratioOfK y y) where
     least : 2 ^ 1067 ≤ m
     unfolding litOk ofBits
     least = elim (lt-or-le m (2 ^ 1067)) [
-      | inl l ↦ absurd (T-not (le (absolute y) hundredth) far (units-le (abs-units (Y .first)) (lit-is binary64 hundredth tt) (le-trans (le-of-lt l) (lit≤ tt))))
+      | inl l ↦ absurd (T-not (le (absolute y) hundredth) far
+          (units-le (abs-units (Y .first)) (lit-is binary64 hundredth tt) (le-trans (le-of-lt l) (lit≤ tt))))
       | inr l ↦ l
     ]
 
@@ -204,7 +206,8 @@ module _ {k : ℕ} {y : Float} (Y : Two binary64 k ratioOfK y y) where
       unfolding N neg-two
       N-units = refl
 
-      sized : (lo hi : ℕ) → lo ≤ m → m ≤ hi → Two binary64 k (record { any = false; zer = false; lo = lo; hi = hi; g = last binary64 lo; u = 0; d = 0 }) (neg y) (neg y)
+      sized : (lo hi : ℕ) → lo ≤ m → m ≤ hi → Two binary64 k
+          (record { any = false; zer = false; lo = lo; hi = hi; g = last binary64 lo; u = 0; d = 0 }) (neg y) (neg y)
       sized lo hi p q = recast lo hi N N-plus (subst (λ n. lo ≤ n) (sym N-units) p) (subst (λ n. n ≤ hi) (sym N-units) q)
 
       above-half : Fair k termK (byLogs1p y) (byLogs1p y)
@@ -223,8 +226,10 @@ module _ {k : ℕ} {y : Float} (Y : Two binary64 k ratioOfK y y) where
       below-one t h =
           let one-is : Is binary64 (neg one) true (2 ^ 1074) = lit-is binary64 (neg one) tt in
           let l : 2 ^ 1074 < m = ltb→lt (2 ^ 1074) m (subst T (lt-units Y-is one-is) t) in
-          let g : T (lt y (neg half)) = subst T (sym (lt-units Y-is minus-half)) (lt→ltb (2 ^ 1073) m (lt-of-le-of-lt (pow-mono {i = 1073} {j = 1074} (lit≤ tt)) l)) in
-          let q : 3 * 2 ^ 1073 ≤ m = nltb→le m (3 * 2 ^ 1073) (subst (λ b. T (not b)) (lt-units (lit-is binary64 (neg (bits 0x3FF8_0000_0000_0000)) tt) Y-is) (h g)) in
+          let g : T (lt y (neg half)) = subst T (sym (lt-units Y-is minus-half))
+          (lt→ltb (2 ^ 1073) m (lt-of-le-of-lt (pow-mono {i = 1073} {j = 1074} (lit≤ tt)) l)) in
+          let q : 3 * 2 ^ 1073 ≤ m = nltb→le m (3 * 2 ^ 1073)
+          (subst (λ b. T (not b)) (lt-units (lit-is binary64 (neg (bits 0x3FF8_0000_0000_0000)) tt) Y-is) (h g)) in
           by-rc y (sized (3 * 2 ^ 1073) (2 ^ 1090) q (Y .in-first .to))
 
       at-half : T (not (lt (neg half) y)) → T (not (lt y (neg one))) → (T (lt y (neg half)) → T (not (lt (neg (bits 0x3FF8_0000_0000_0000)) y)))
@@ -237,7 +242,8 @@ module _ {k : ℕ} {y : Float} (Y : Two binary64 k ratioOfK y y) where
           let r : m ≤ 2 ^ 1073 = elim (lt-or-le (2 ^ 1073) m) [
             | inl l ↦
                 let g : T (lt y (neg half)) = subst T (sym (lt-units Y-is minus-half)) (lt→ltb (2 ^ 1073) m l) in
-                let w : 3 * 2 ^ 1073 ≤ m = nltb→le m (3 * 2 ^ 1073) (subst (λ b. T (not b)) (lt-units (lit-is binary64 (neg (bits 0x3FF8_0000_0000_0000)) tt) Y-is) (h g)) in
+                let w : 3 * 2 ^ 1073 ≤ m = nltb→le m (3 * 2 ^ 1073)
+                (subst (λ b. T (not b)) (lt-units (lit-is binary64 (neg (bits 0x3FF8_0000_0000_0000)) tt) Y-is) (h g)) in
                 absurd (not-le-of-lt (lit< tt) (le-trans w q))
             | inr l ↦ l
           ] in

@@ -23,7 +23,8 @@ use Rattle.unitsrj.specs.Series.{valueK, Start, start-two, test-two, end
 -- with a count
 counted-fair : {k : ℕ} {K : Kind} {v w : Float} (c : ℕ) → Fair k K v w → Same k K (countedAt v c) (countedAt w c)
 unfolding countedAt
-counted-fair {k} {K} {v} {w} c (inl p) = subst₂ (λ a b. Same k K (record { value = a; rounds = c }) (record { value = b; rounds = c })) (sym (p .0)) (sym (p .1)) lost
+counted-fair {k} {K} {v} {w} c (inl p) = subst₂ (λ a b. Same k K (record { value = a; rounds = c }) (record { value = b; rounds = c }))
+    (sym (p .0)) (sym (p .1)) lost
 counted-fair c (inr a) = both a
 
 module _ {k : ℕ} {x x' y y' z z' p p' : Float} (a : Arg k x x') (b : Arg k y y') (c : Arg k z z') (P : Two binary64 k argK p p')
@@ -34,9 +35,11 @@ module _ {k : ℕ} {x x' y y' z z' p p' : Float} (a : Arg k x x') (b : Arg k y y
   abbrev A₀' : Float
   A₀' = rjMean x' y' z' p'
 
-  abbrev S : Start k x x' y y' z z' p p' A₀ A₀' (gap (mean a b c P t) a .two .m) (gap (mean a b c P t) a .two .n) (gap (mean a b c P t) b .two .m) (gap (mean a b c P t) b .two .n)
+  abbrev S : Start k x x' y y' z z' p p' A₀ A₀' (gap (mean a b c P t) a .two .m) (gap (mean a b c P t) a .two .n)
+      (gap (mean a b c P t) b .two .m) (gap (mean a b c P t) b .two .n)
       (gap (mean a b c P t) c .two .m) (gap (mean a b c P t) c .two .n)
-  S = start-two x x' y y' z z' p p' A₀ A₀' (gap (mean a b c P t) a .two) (gap (mean a b c P t) b .two) (gap (mean a b c P t) c .two) (gap (mean a b c P t) (some P) .two)
+  S = start-two x x' y y' z z' p p' A₀ A₀' (gap (mean a b c P t) a .two) (gap (mean a b c P t) b .two) (gap (mean a b c P t) c .two)
+      (gap (mean a b c P t) (some P) .two)
 
   abbrev q : Float
   q = rjStart A₀ x y z p
@@ -68,6 +71,8 @@ module _ {k : ℕ} {x x' y y' z z' p p' : Float} (a : Arg k x x') (b : Arg k y y
       let s = rjStep (rjBegin x y z p) in
       let s' = rjStep (rjBegin x' y' z' p') in
       let i = started a b c P t in
-      subst (λ (b : Bool). Same k valueK (rjDuplication x y z p) (capped rjStep (rjClose q') (rjFound x' y' z' A₀') rjSpent 99 b s' 1)) (same-test 99 s s' (lit< tt) i)
+      subst (λ (b : Bool). Same k valueK (rjDuplication x y z p) (capped rjStep (rjClose q') (rjFound x' y' z' A₀') rjSpent 99 b s' 1))
+      (same-test 99 s s' (lit< tt) i)
       (loops-two rjStep rjStep (rjClose q) (rjClose q') (rjFound x y z A₀) rjSpent (rjFound x' y' z' A₀') rjSpent (Same k valueK) (Whole k) 99 pass
-      (λ j s s' l w. same-test j s s' (let r : j < 101 = omega arith in r) w) ends (λ s s' n w. spent-both k valueK n) 99 (rjClose q s) s s' 1 (le-refl 99) (λ u. u) i)
+      (λ j s s' l w. same-test j s s' (let r : j < 101 = omega arith in r) w) ends (λ s s' n w. spent-both k valueK n) 99 (rjClose q s) s s' 1
+      (le-refl 99) (λ u. u) i)

@@ -48,7 +48,8 @@ farK = record { any = false; zer = false; lo = 2 ^ 1000; hi = 2 ^ 1300; g = last
 ln-far : Leaf binary64 ln farK leafK
 ln-far x v =
     let X = subst (λ s. Is binary64 x s (v .n)) (v .within .sign tt) (v .is) in
-    elim (ln-between X (le-trans (pow-mono {i = 984} {j = 1000} (lit≤ tt)) (floor-le (v .within))) (le-trans (v .within .to) (pow-mono {i = 1300} {j = 1600} (lit≤ tt)))) [
+    elim (ln-between X (le-trans (pow-mono {i = 984} {j = 1000} (lit≤ tt)) (floor-le (v .within)))
+    (le-trans (v .within .to) (pow-mono {i = 1300} {j = 1600} (lit≤ tt)))) [
       | inl e ↦ inl e
       | inr w ↦ inr (leaf-value (lit≤ tt) w)
     ]
@@ -64,7 +65,8 @@ abbrev divisorK : Kind
 divisorK = record { any = false; zer = false; lo = 2 ^ 1047; hi = 2 ^ 1083; g = last binary64 (2 ^ 1047); u = 0; d = 0 }
 
 -- 1 times what a leaf gives, over a divisor
-over : {k : ℕ} {v w : Float} → ((v ≡ nan) × (v ≡ nan)) ⊎ Two binary64 k leafK v v → Two binary64 k divisorK w w → Fair k termK (one ⊗ v ⊘ w) (one ⊗ v ⊘ w)
+over : {k : ℕ} {v w : Float} → ((v ≡ nan) × (v ≡ nan)) ⊎ Two binary64 k leafK v v → Two binary64 k divisorK w w
+    → Fair k termK (one ⊗ v ⊘ w) (one ⊗ v ⊘ w)
 unfolding mulK mulOk divK divOk within litOk ofBits
 over {w = w} (inl z) D = let g = ap (λ a. one ⊗ a ⊘ w) (z .0) ∙ ap (λ a. a ⊘ w) (mul-nan binary64 one) ∙ nan-div binary64 w in inl (g, g)
 over (inr F) D = inr (widen-two (div-two (mul-two (lit-two one tt) F tt) D tt) tt)
@@ -117,7 +119,8 @@ module _ {k : ℕ} {b : Float} (B : Two binary64 k middleK b b) where
   lower : T (not (eq one b)) → T (not (lt one b)) → T (lt b one)
   lower e t =
       let h : m ≤ 2 ^ 1074 = nltb→le (2 ^ 1074) m (subst (λ z. T (not z)) (lt-units one-is B-is) t) in
-      let n : 2 ^ 1074 ≡ m → ⊥ = λ q. T-not (level false (2 ^ 1074) false m) (subst (λ z. T (not z)) (eq-units one-is B-is) e) (and-i (eqb (2 ^ 1074) m) true (eq→eqb q) tt) in
+      let n : 2 ^ 1074 ≡ m → ⊥ = λ q. T-not (level false (2 ^ 1074) false m) (subst (λ z. T (not z)) (eq-units one-is B-is) e)
+      (and-i (eqb (2 ^ 1074) m) true (eq→eqb q) tt) in
       subst T (sym (lt-units B-is one-is)) (lt→ltb m (2 ^ 1074) (lt-of-le-ne h (λ q. n (sym q))))
 
   equal : Fair k termK (atEqual one one) (atEqual one one)
@@ -132,7 +135,8 @@ module _ {k : ℕ} {b : Float} (B : Two binary64 k middleK b b) where
   unfolding byLn plusK plusOk divK divOk rootK rootOk within litOk ofBits
   by-ln t =
       let D = below-one t in
-      over (leaf-two ln ln-far refl refl refl (widen-two (div-two (plus-two (root-two (lit-two one tt) tt) (side D) tt) (root-two B tt) tt) tt)) (divisor D)
+      over (leaf-two ln ln-far refl refl refl (widen-two (div-two (plus-two (root-two (lit-two one tt) tt) (side D) tt) (root-two B tt) tt) tt))
+      (divisor D)
 
   by-atan : T (lt one b) → Fair k termK (byAtan one one b) (byAtan one one b)
   unfolding byAtan
@@ -161,7 +165,8 @@ module _ {k : ℕ} {b : Float} (B : Two binary64 k middleK b b) where
     n = max (2 ^ 1074) m;
     is = maximum-units (abs-units one-is) (abs-units B-is);
     from = inr (le-trans (pow-mono {i = 1010} {j = 1074} (lit≤ tt)) (le-max-left (2 ^ 1074) m));
-    to = both (2 ^ 1074) m (2 ^ 1138) (pow-mono {i = 1074} {j = 1138} (lit≤ tt)) (le-trans (B .in-first .to) (pow-mono {i = 1086} {j = 1138} (lit≤ tt)));
+    to = both (2 ^ 1074) m (2 ^ 1138) (pow-mono {i = 1074} {j = 1138} (lit≤ tt))
+        (le-trans (B .in-first .to) (pow-mono {i = 1086} {j = 1138} (lit≤ tt)));
   }
     where
       both : (a b c : ℕ) → a ≤ c → b ≤ c → max a b ≤ c
@@ -170,7 +175,8 @@ module _ {k : ℕ} {b : Float} (B : Two binary64 k middleK b b) where
   unscaled : rcUnchecked one b ≡ rcSteps one b
   unfolding rcUnchecked
   unscaled =
-      ap (λ (t : Bool). cond t (cond (survive2 one b (scaleOf2 one b)) (rcRescaled one b (scaleOf2 one b)) (rcSteps one b)) (rcSteps one b)) (within-limits size)
+      ap (λ (t : Bool). cond t (cond (survive2 one b (scaleOf2 one b)) (rcRescaled one b (scaleOf2 one b)) (rcSteps one b)) (rcSteps one b))
+      (within-limits size)
 
   pub middle-fair : Fair k termK (rcUnchecked one b) (rcUnchecked one b)
   middle-fair = subst (λ v. Fair k termK v v) (sym unscaled) steps

@@ -28,7 +28,8 @@ pub l-pos : 0 < l
 l-pos = pow-pos (low binary64)
 
 -- ---- a root: its square is its number, up to a factor of four
-pub roots-square : {k : ℕ} {x x' : Float} (a : Two binary64 k meanK x x') → (a .m * l ≤ 4 * (roots-two a .m * roots-two a .m)) × (a .n * l ≤ 4 * (roots-two a .n * roots-two a .n))
+pub roots-square : {k : ℕ} {x x' : Float} (a : Two binary64 k meanK x x') → (a .m * l ≤ 4 * (roots-two a .m * roots-two a .m))
+    × (a .n * l ≤ 4 * (roots-two a .n * roots-two a .n))
 roots-square {x = x} {x' = x'} a =
     let S : a .s ≡ false = a .in-first .sign tt in
     let r = roots-two a in (
@@ -69,7 +70,8 @@ pub record Pair (k : ℕ) (P P' X X' r r' s s' : ℕ) (v v' : Float) : Type 0 wh
   pub sums' : r' + s' ≤ 2 * two .n
 
 pub pair : {k : ℕ} {p p' x x' : Float} (P : Two binary64 k meanK p p') (X : Maybe binary64 k meanK x x')
-    → Pair k (P .m) (P .n) (units X) (units' X) (roots-two P .m) (roots-two P .n) (units (roots-maybe X)) (units' (roots-maybe X)) (root p ⊕ root x) (root p' ⊕ root x')
+    → Pair k (P .m) (P .n) (units X) (units' X) (roots-two P .m) (roots-two P .n) (units (roots-maybe X)) (units' (roots-maybe X))
+    (root p ⊕ root x) (root p' ⊕ root x')
 unfolding solid? plusK plusOk within
 pair {k} {p} {p'} {x} {x'} P X =
     let r = some (roots-two P) in
@@ -81,10 +83,12 @@ pair {k} {p} {p'} {x} {x'} P X =
     let w = maybe-square X in
     made c t (law .0) (law .1) (q .0) (q .1) (w .0) (w .1)
   where
-    made : (c : Maybe binary64 k pairK (root p ⊕ root x) (root p' ⊕ root x')) → T (some? c) → Sum (roots-two P .m) (units (roots-maybe X)) (units c) → Sum (roots-two P .n) (units' (roots-maybe X)) (units' c)
+    made : (c : Maybe binary64 k pairK (root p ⊕ root x) (root p' ⊕ root x')) → T (some? c)
+        → Sum (roots-two P .m) (units (roots-maybe X)) (units c) → Sum (roots-two P .n) (units' (roots-maybe X)) (units' c)
         → P .m * l ≤ 4 * (roots-two P .m * roots-two P .m) → P .n * l ≤ 4 * (roots-two P .n * roots-two P .n)
         → units X * l ≤ 4 * (units (roots-maybe X) * units (roots-maybe X)) → units' X * l ≤ 4 * (units' (roots-maybe X) * units' (roots-maybe X))
-        → Pair k (P .m) (P .n) (units X) (units' X) (roots-two P .m) (roots-two P .n) (units (roots-maybe X)) (units' (roots-maybe X)) (root p ⊕ root x) (root p' ⊕ root x')
+        → Pair k (P .m) (P .n) (units X) (units' X) (roots-two P .m) (roots-two P .n) (units (roots-maybe X)) (units' (roots-maybe X))
+        (root p ⊕ root x) (root p' ⊕ root x')
     made (none z) t a b q q' w w' = absurd t
     made (some c) t a b q q' w w' = record {
       two = c;

@@ -67,18 +67,22 @@ module _ {k : ℕ} {x x' : Float} (X : Two binary64 k argK x x') where
         gone v e u w = ap (λ a. u ⊗ (a ⊖ w)) e ∙ ap (λ a. u ⊗ a) (nan-sub binary64 w) ∙ mul-nan binary64 u
     three-fair n (inr R) = inr (widen-two (mul-two (div-two (lit-two three tt) (distinct-two X P n tt tt tt) tt) (sub-two R over-root tt) tt) tt)
 
-two-fair : {k : ℕ} {y y' p p' : Float} (u u' v v' : Float) (Y : Two binary64 k argK y y') (P : Two binary64 k argK p p') → T (not (eq p y)) → Fair k resultK u u' → Fair k resultK v v'
+two-fair : {k : ℕ} {y y' p p' : Float} (u u' v v' : Float) (Y : Two binary64 k argK y y') (P : Two binary64 k argK p p') → T (not (eq p y))
+    → Fair k resultK u u' → Fair k resultK v v'
     → Fair k rjK (three ⊗ (u ⊖ v) ⊘ (p ⊖ y)) (three ⊗ (u' ⊖ v') ⊘ (p' ⊖ y'))
 unfolding mulK mulOk divK divOk sumK sumOk distinctK within litOk ofBits
 two-fair {y = y} {y'} {p} {p'} u u' v v' Y P n (inl e) b = inl (gone u (e .0) v (p ⊖ y), gone u' (e .1) v' (p' ⊖ y'))
   where
     gone : (u : Float) → u ≡ nan → (v w : Float) → three ⊗ (u ⊖ v) ⊘ w ≡ nan
-    gone u e v w = ap (λ a. three ⊗ (a ⊖ v) ⊘ w) e ∙ ap (λ a. three ⊗ a ⊘ w) (nan-sub binary64 v) ∙ ap (λ a. a ⊘ w) (mul-nan binary64 three) ∙ nan-div binary64 w
+    gone u e v w = ap (λ a. three ⊗ (a ⊖ v) ⊘ w) e ∙ ap (λ a. three ⊗ a ⊘ w) (nan-sub binary64 v) ∙ ap (λ a. a ⊘ w) (mul-nan binary64 three)
+        ∙ nan-div binary64 w
 two-fair {y = y} {y'} {p} {p'} u u' v v' Y P n (inr a) (inl e) = inl (gone v (e .0) u (p ⊖ y), gone v' (e .1) u' (p' ⊖ y'))
   where
     gone : (v : Float) → v ≡ nan → (u w : Float) → three ⊗ (u ⊖ v) ⊘ w ≡ nan
-    gone v e u w = ap (λ a. three ⊗ (u ⊖ a) ⊘ w) e ∙ ap (λ a. three ⊗ a ⊘ w) (sub-nan binary64 u) ∙ ap (λ a. a ⊘ w) (mul-nan binary64 three) ∙ nan-div binary64 w
-two-fair u u' v v' Y P n (inr a) (inr b) = inr (widen-two (div-two (mul-two (lit-two three tt) (sub-two a b tt) tt) (distinct-two P Y n tt tt tt) tt) tt)
+    gone v e u w = ap (λ a. three ⊗ (u ⊖ a) ⊘ w) e ∙ ap (λ a. three ⊗ a ⊘ w) (sub-nan binary64 u) ∙ ap (λ a. a ⊘ w) (mul-nan binary64 three)
+        ∙ nan-div binary64 w
+two-fair u u' v v' Y P n (inr a) (inr b) = inr (widen-two
+    (div-two (mul-two (lit-two three tt) (sub-two a b tt) tt) (distinct-two P Y n tt tt tt) tt) tt)
 
 -- ---- the test of the larger over the smaller
 abbrev quotientK : Kind
@@ -86,7 +90,8 @@ quotientK = record { any = false; zer = false; lo = 2 ^ 940; hi = 2 ^ 1210; g = 
 
 apart-test : {k : ℕ} {p p' x x' : Float} → Two binary64 k argK p p' → Two binary64 k argK x x' → wellApart p x ≡ wellApart p' x'
 unfolding wellApart divK divOk within litOk ofBits
-apart-test P X = lt-two (lit-two (bits 0x3FF3_3333_3333_3333) tt) (widen-two {B = quotientK} (div-two (larger-two P X tt) (smaller-two P X tt) tt) tt) tt
+apart-test P X = lt-two (lit-two (bits 0x3FF3_3333_3333_3333) tt)
+    (widen-two {B = quotientK} (div-two (larger-two P X tt) (smaller-two P X tt) tt) tt) tt
 
 -- equal either way round
 other-way : {k : ℕ} {u u' v v' : Float} → Two binary64 k argK u u' → Two binary64 k argK v v' → T (not (eq u v)) → T (not (eq v u))
@@ -95,8 +100,10 @@ other-way {u = u} {v = v} a b h =
     (λ t.
     let A : a .s ≡ false = a .in-first .sign tt in
     let B : b .s ≡ false = b .in-first .sign tt in
-    let e = eqb→eq (b .m) (a .m) (and-l (eqb (b .m) (a .m)) true (subst T (eq-units (b .first) (a .first) ∙ ap₂ (λ s t. level s (b .m) t (a .m)) B A) t)) in
-    T-not (eq u v) h (subst T (sym (eq-units (a .first) (b .first) ∙ ap₂ (λ s t. level s (a .m) t (b .m)) A B)) (and-i (eqb (a .m) (b .m)) true (eq→eqb (sym e)) tt)))
+    let e = eqb→eq (b .m) (a .m) (and-l (eqb (b .m) (a .m)) true
+    (subst T (eq-units (b .first) (a .first) ∙ ap₂ (λ s t. level s (b .m) t (a .m)) B A) t)) in
+    T-not (eq u v) h (subst T (sym (eq-units (a .first) (b .first) ∙ ap₂ (λ s t. level s (a .m) t (b .m)) A B))
+    (and-i (eqb (a .m) (b .m)) true (eq→eqb (sym e)) tt)))
 
 -- ---- which road
 at-most-one : (a b c : Bool) → T (not (a && b)) → T (not (a && c)) → T (not (b && c)) → T (atMostOne (not a) (not b) (not c))
@@ -151,7 +158,8 @@ module _ {k : ℕ} {p p' : Float} (P : Argument k p p') (P⁺ : T (not (eq p zer
         (λ f. wider (unchecked-ran (X .two) (Y .two) (Y .two) (X .plus) (Y .plus) xy (Y .plus) y⁺))
         (λ f. choose (Ran k rjK) (wellApart p y) (wellApart p' y') (apart-test Q Y⁺)
         (λ g. choose (Ran k rjK) (le x (maximum y p)) (le x' (maximum y' p')) (le-two (X .two) (larger-two Y⁺ Q tt) tt)
-        (λ h. result (fair (two-fair (rcUnchecked x y) (rcUnchecked x' y') (rcUnchecked x p) (rcUnchecked x' p') Y⁺ Q (other-way Y⁺ Q f) (unchecked-fair X Y y⁺) (unchecked-fair X P P⁺))))
+        (λ h. result (fair (two-fair (rcUnchecked x y) (rcUnchecked x' y') (rcUnchecked x p) (rcUnchecked x' p') Y⁺ Q (other-way Y⁺ Q f)
+        (unchecked-fair X Y y⁺) (unchecked-fair X P P⁺))))
         (λ h. last-two)) (λ g. last-two))
 
     cases-two : Ran k rjK (rjCases x y z p) (rjCases x' y' z' p')
@@ -168,6 +176,7 @@ module _ {k : ℕ} {p p' : Float} (P : Argument k p p') (P⁺ : T (not (eq p zer
       let X⁺ = above X x⁺ in
       choose (Ran k rjK) (eq x z) (eq x' z') (eq-two (X .two) (Z .two) tt)
       (λ f. choose (Ran k rjK) (eq x p) (eq x' p') (eq-two (X .two) (P .two) tt) (λ g. all-two X⁺)
-      (λ g. choose (Ran k rjK) (wellApart p x) (wellApart p' x') (apart-test Q X⁺) (λ h. result (fair (three-fair X⁺ Q g (unchecked-fair X P P⁺)))) (λ h. cases-two X Y Z xy xz yz)))
+      (λ g. choose (Ran k rjK) (wellApart p x) (wellApart p' x') (apart-test Q X⁺)
+      (λ h. result (fair (three-fair X⁺ Q g (unchecked-fair X P P⁺)))) (λ h. cases-two X Y Z xy xz yz)))
       (λ f. cases-two Z Y X (turned (eq y zero) (eq z zero) yz) (turned (eq x zero) (eq z zero) xz) (turned (eq x zero) (eq y zero) xy)))
       (λ e. cases-two X Y Z xy xz yz)

@@ -64,9 +64,11 @@ denominator A B C =
     let E = widen-two {B = twoPairsK} (mul-two A B tt) tt in
     record {
       two = widen-two (mul-two E C tt) tt;
-      three = of-three (A .m) (B .m) (C .m) (E .m) _ l (times-law (A .m) (B .m) (two-pairs (A .m) (B .m) (floor-le (A .in-first)) (floor-le (B .in-first))))
+      three = of-three (A .m) (B .m) (C .m) (E .m) _ l
+          (times-law (A .m) (B .m) (two-pairs (A .m) (B .m) (floor-le (A .in-first)) (floor-le (B .in-first))))
           (times-law (E .m) (C .m) (with-third (E .m) (C .m) (floor-le (E .in-first)) (floor-le (C .in-first))));
-      three' = of-three (A .n) (B .n) (C .n) (E .n) _ l (times-law (A .n) (B .n) (two-pairs (A .n) (B .n) (floor-le (A .in-second)) (floor-le (B .in-second))))
+      three' = of-three (A .n) (B .n) (C .n) (E .n) _ l
+          (times-law (A .n) (B .n) (two-pairs (A .n) (B .n) (floor-le (A .in-second)) (floor-le (B .in-second))))
           (times-law (E .n) (C .n) (with-third (E .n) (C .n) (floor-le (E .in-second)) (floor-le (C .in-second))));
     }
 
@@ -86,20 +88,24 @@ pub taken : {A : Type 0} (b : Bool) (u v : A) → T b → cond b u v ≡ u
 taken true u v t = refl
 taken false u v t = absurd t
 
-module _ {k : ℕ} {p p' x x' y y' z z' : Float} (P : Two binary64 k meanK p p') (X : Maybe binary64 k meanK x x') (Y : Maybe binary64 k meanK y y') (Z : Maybe binary64 k meanK z z') where
+module _ {k : ℕ} {p p' x x' y y' z z' : Float} (P : Two binary64 k meanK p p') (X : Maybe binary64 k meanK x x')
+    (Y : Maybe binary64 k meanK y y') (Z : Maybe binary64 k meanK z z') where
   abbrev pub denominatorOf : Float
   denominatorOf = (root p ⊕ root x) ⊗ (root p ⊕ root y) ⊗ (root p ⊕ root z)
 
   abbrev pub denominatorOf' : Float
   denominatorOf' = (root p' ⊕ root x') ⊗ (root p' ⊕ root y') ⊗ (root p' ⊕ root z')
 
-  abbrev a : Pair k (P .m) (P .n) (units X) (units' X) (roots-two P .m) (roots-two P .n) (units (roots-maybe X)) (units' (roots-maybe X)) (root p ⊕ root x) (root p' ⊕ root x')
+  abbrev a : Pair k (P .m) (P .n) (units X) (units' X) (roots-two P .m) (roots-two P .n) (units (roots-maybe X)) (units' (roots-maybe X))
+      (root p ⊕ root x) (root p' ⊕ root x')
   a = pair P X
 
-  abbrev b : Pair k (P .m) (P .n) (units Y) (units' Y) (roots-two P .m) (roots-two P .n) (units (roots-maybe Y)) (units' (roots-maybe Y)) (root p ⊕ root y) (root p' ⊕ root y')
+  abbrev b : Pair k (P .m) (P .n) (units Y) (units' Y) (roots-two P .m) (roots-two P .n) (units (roots-maybe Y)) (units' (roots-maybe Y))
+      (root p ⊕ root y) (root p' ⊕ root y')
   b = pair P Y
 
-  abbrev c : Pair k (P .m) (P .n) (units Z) (units' Z) (roots-two P .m) (roots-two P .n) (units (roots-maybe Z)) (units' (roots-maybe Z)) (root p ⊕ root z) (root p' ⊕ root z')
+  abbrev c : Pair k (P .m) (P .n) (units Z) (units' Z) (roots-two P .m) (roots-two P .n) (units (roots-maybe Z)) (units' (roots-maybe Z))
+      (root p ⊕ root z) (root p' ⊕ root z')
   c = pair P Z
 
   abbrev d : Denominator k (a .two .m) (a .two .n) (b .two .m) (b .two .n) (c .two .m) (c .two .n) denominatorOf denominatorOf'
@@ -120,13 +126,16 @@ module _ {k : ℕ} {p p' x x' y y' z z' : Float} (P : Two binary64 k meanK p p')
   )
 
   -- the square is normal
-  pub normal : T (le (bits 0x0010_0000_0000_0000) (denominatorOf ⊗ denominatorOf)) × T (le (bits 0x0010_0000_0000_0000) (denominatorOf' ⊗ denominatorOf'))
+  pub normal : T (le (bits 0x0010_0000_0000_0000) (denominatorOf ⊗ denominatorOf))
+      × T (le (bits 0x0010_0000_0000_0000) (denominatorOf' ⊗ denominatorOf'))
   unfolding litOk ofBits
   normal =
       let S : square-two .s ≡ false = square-two .in-first .sign tt in (
-        units-le (lit-is binary64 (bits 0x0010_0000_0000_0000) tt) (subst (λ (s : Bool). Is binary64 (denominatorOf ⊗ denominatorOf) s (square-two .m)) S (square-two .first))
+        units-le (lit-is binary64 (bits 0x0010_0000_0000_0000) tt)
+            (subst (λ (s : Bool). Is binary64 (denominatorOf ⊗ denominatorOf) s (square-two .m)) S (square-two .first))
             (le-trans (lit≤ tt) (floor-le (square-two .in-first))),
-        units-le (lit-is binary64 (bits 0x0010_0000_0000_0000) tt) (subst (λ (s : Bool). Is binary64 (denominatorOf' ⊗ denominatorOf') s (square-two .n)) S (square-two .second))
+        units-le (lit-is binary64 (bits 0x0010_0000_0000_0000) tt)
+            (subst (λ (s : Bool). Is binary64 (denominatorOf' ⊗ denominatorOf') s (square-two .n)) S (square-two .second))
             (le-trans (lit≤ tt) (floor-le (square-two .in-second))),
       )
 
@@ -139,9 +148,11 @@ module _ {k : ℕ} {p p' x x' y y' z z' : Float} (P : Two binary64 k meanK p p')
         widen-two
         (clip-two (2 ^ 1090) (div-two D square-two tt)
         (clipped (D .m) (square-two .m) (lt-of-lt-of-le (lit< tt) (floor-le (square-two .in-first)))
-        (ratio-bound (P .m + units X) (P .m + units Y) (P .m + units Z) (a .two .m) (b .two .m) (c .two .m) (d .two .m) (square-two .m) (D .m) l l-pos (a .square) (b .square) (c .square) (d .three) (q .0) small))
+        (ratio-bound (P .m + units X) (P .m + units Y) (P .m + units Z) (a .two .m) (b .two .m) (c .two .m) (d .two .m) (square-two .m)
+        (D .m) l l-pos (a .square) (b .square) (c .square) (d .three) (q .0) small))
         (clipped (D .n) (square-two .n) (lt-of-lt-of-le (lit< tt) (floor-le (square-two .in-second)))
-        (ratio-bound (P .n + units' X) (P .n + units' Y) (P .n + units' Z) (a .two .n) (b .two .n) (c .two .n) (d .two .n) (square-two .n) (D .n) l l-pos (a .square') (b .square') (c .square') (d .three') (q .1) small')))
+        (ratio-bound (P .n + units' X) (P .n + units' Y) (P .n + units' Z) (a .two .n) (b .two .n) (c .two .n) (d .two .n) (square-two .n)
+        (D .n) l l-pos (a .square') (b .square') (c .square') (d .three') (q .1) small')))
         tt
 
 -- ---- the middle: at most 2 ^ 12
@@ -195,7 +206,8 @@ record Inner (r s t u P N : ℕ) : Type 0 where
   n-law : n * l ≤ 2 * (t * u)
   N-law : N ≤ 2 * (a + n)
 
-module _ {k : ℕ} {p p' x x' y y' z z' : Float} (P : Two binary64 k meanK p p') (X : Maybe binary64 k meanK x x') (Y : Maybe binary64 k meanK y y') (Z : Maybe binary64 k meanK z z') where
+module _ {k : ℕ} {p p' x x' y y' z z' : Float} (P : Two binary64 k meanK p p') (X : Maybe binary64 k meanK x x')
+    (Y : Maybe binary64 k meanK y y') (Z : Maybe binary64 k meanK z z') where
   record Summed : Type 0 where
     two : Two binary64 k innerK (p ⊕ root x ⊗ (root y ⊕ root z) ⊕ root y ⊗ root z) (p' ⊕ root x' ⊗ (root y' ⊕ root z') ⊕ root y' ⊗ root z')
     laws : Inner (roots-two P .m) (units (roots-maybe X)) (units (roots-maybe Y)) (units (roots-maybe Z)) (P .m) (two .m)
@@ -219,7 +231,8 @@ module _ {k : ℕ} {p p' x x' y y' z z' : Float} (P : Two binary64 k meanK p p')
       let h₃ = add-law o firstK P₀ m tt tt tt tt tt in
       let h₄ = mul-law o ry rz tt tt tt in
       let h₅ = add-law o innerK a n tt tt tt tt tt in
-      let t : T (some? N) = subst T (sym (add-some o innerK a n tt tt tt tt tt)) (first-of (some? a) (some? n) (subst T (sym (add-some o firstK P₀ m tt tt tt tt tt)) tt)) in
+      let t : T (some? N) = subst T (sym (add-some o innerK a n tt tt tt tt tt))
+      (first-of (some? a) (some? n) (subst T (sym (add-some o firstK P₀ m tt tt tt tt tt)) tt)) in
       made N t
       (record { y = units yz; m = units m; a = units a; n = units n; y-law = h₁ .0 .2; m-law = h₂ .0 .0; a-law = h₃ .0 .2; n-law = h₄ .0 .0; N-law = h₅ .0 .2 })
       (record { y = units' yz; m = units' m; a = units' a; n = units' n; y-law = h₁ .1 .2; m-law = h₂ .1 .0; a-law = h₃ .1 .2; n-law = h₄ .1 .0; N-law = h₅ .1 .2 })
@@ -228,7 +241,8 @@ module _ {k : ℕ} {p p' x x' y y' z z' : Float} (P : Two binary64 k meanK p p')
       first-of true c t = tt
       first-of false c t = absurd t
 
-      made : (N : Maybe binary64 k innerK (p ⊕ root x ⊗ (root y ⊕ root z) ⊕ root y ⊗ root z) (p' ⊕ root x' ⊗ (root y' ⊕ root z') ⊕ root y' ⊗ root z')) → T (some? N)
+      made : (N : Maybe binary64 k innerK (p ⊕ root x ⊗ (root y ⊕ root z) ⊕ root y ⊗ root z)
+          (p' ⊕ root x' ⊗ (root y' ⊕ root z') ⊕ root y' ⊗ root z')) → T (some? N)
           → Inner (roots-two P .m) (units (roots-maybe X)) (units (roots-maybe Y)) (units (roots-maybe Z)) (P .m) (units N)
           → Inner (roots-two P .n) (units' (roots-maybe X)) (units' (roots-maybe Y)) (units' (roots-maybe Z)) (P .n) (units' N) → Summed
       made (none z) t i j = absurd t
@@ -249,12 +263,14 @@ module _ {k : ℕ} {p p' x x' y y' z z' : Float} (P : Two binary64 k meanK p p')
       widen-two
       (clip-two (2 ^ 1086) (div-two top (dn .two) tt)
       (clipped-middle (top .m) (dn .two .m) (lt-of-lt-of-le (lit< tt) (floor-le (dn .two .in-first)))
-      (middle-bound (r .m) (units (roots-maybe X)) (units (roots-maybe Y)) (units (roots-maybe Z)) (P .m) (i .y) (i .m) (i .a) (i .n) (N .two .m) (v .m) (top .m)
+      (middle-bound (r .m) (units (roots-maybe X)) (units (roots-maybe Y)) (units (roots-maybe Z)) (P .m) (i .y) (i .m) (i .a) (i .n) (N .two .m)
+      (v .m) (top .m)
       (a P X Y Z .two .m) (b P X Y Z .two .m) (c P X Y Z .two .m) (dn .two .m) l l-pos (i .y-law) (i .m-law) (i .a-law) (i .n-law) (i .N-law)
       (twice-law (r .m) (floor-le (r .in-first))) (top-law (v .m) (N .two .m) (floor-le (v .in-first)) (floor-le (N .two .in-first))) (q .0)
       (a P X Y Z .sums) (b P X Y Z .sums) (c P X Y Z .sums) (dn .three)))
       (clipped-middle (top .n) (dn .two .n) (lt-of-lt-of-le (lit< tt) (floor-le (dn .two .in-second)))
-      (middle-bound (r .n) (units' (roots-maybe X)) (units' (roots-maybe Y)) (units' (roots-maybe Z)) (P .n) (j .y) (j .m) (j .a) (j .n) (N .two .n) (v .n) (top .n)
+      (middle-bound (r .n) (units' (roots-maybe X)) (units' (roots-maybe Y)) (units' (roots-maybe Z)) (P .n) (j .y) (j .m) (j .a) (j .n)
+      (N .two .n) (v .n) (top .n)
       (a P X Y Z .two .n) (b P X Y Z .two .n) (c P X Y Z .two .n) (dn .two .n) l l-pos (j .y-law) (j .m-law) (j .a-law) (j .n-law) (j .N-law)
       (twice-law (r .n) (floor-le (r .in-second))) (top-law (v .n) (N .two .n) (floor-le (v .in-second)) (floor-le (N .two .in-second))) (q .1)
       (a P X Y Z .sums') (b P X Y Z .sums') (c P X Y Z .sums') (dn .three'))))

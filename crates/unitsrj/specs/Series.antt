@@ -1,5 +1,5 @@
--- RJ's bound and series in two runs: where the loop ends the corrections are at most 1/32, the series' factor lies between a half and two, and the value
--- is divided by 2 ^ 3k. Assumes nothing.
+-- RJ's bound and series in two runs: where the loop ends the corrections are at most 1/32, the series' factor lies between a half and two,
+-- and the value is divided by 2 ^ 3k. Assumes nothing.
 use mathlib.Core.Path.{_≡_, sym, ap, ap₂, _∙_, subst}
 use mathlib.Core.Logic.{_⊎_, inl, inr}
 use mathlib.Core.List.{[], _∷_}
@@ -43,7 +43,8 @@ boundK = record { any = false; zer = true; lo = 2 ^ 950; hi = 2 ^ 1150; g = last
 
 ahead : (C M : ℕ) → Digits binary64 M → 64 * l ≤ C → 64 * M ≤ near binary64 (C * M) l
 ahead C M G c =
-    le-trans (le-of-eq (turned M)) (le-trans (le-of-eq (sym (shifted 6 G))) (near-mono binary64 (M * 2 ^ 6) 1 (C * M) l (zero-lt-suc 0) l-pos (scaled .law M l C c)))
+    le-trans (le-of-eq (turned M)) (le-trans (le-of-eq (sym (shifted 6 G)))
+    (near-mono binary64 (M * 2 ^ 6) 1 (C * M) l (zero-lt-suc 0) l-pos (scaled .law M l C c)))
   where
     scaled : Order 3 (λ m l c. (m times con 64 :* l ≼ c) ∷ [] ⊩ m :* con 64 :* l ≈ c :* m :* con 1)
     scaled = by-below tt
@@ -67,7 +68,8 @@ pub record Start (k : ℕ) (x x' y y' z z' p p' a a' : Float) (G₁ G₁' G₂ G
 sized : {k : ℕ} {v v' : Float} → Two binary64 k gapK v v' → Two binary64 k sizeK (absolute v) (absolute v')
 sized g = abs-two g
 
-pub start-two : {k : ℕ} (x x' y y' z z' p p' a a' : Float) (X : Two binary64 k gapK (a ⊖ x) (a' ⊖ x')) (Y : Two binary64 k gapK (a ⊖ y) (a' ⊖ y')) (Z : Two binary64 k gapK (a ⊖ z) (a' ⊖ z'))
+pub start-two : {k : ℕ} (x x' y y' z z' p p' a a' : Float) (X : Two binary64 k gapK (a ⊖ x) (a' ⊖ x'))
+    (Y : Two binary64 k gapK (a ⊖ y) (a' ⊖ y')) (Z : Two binary64 k gapK (a ⊖ z) (a' ⊖ z'))
     (P : Two binary64 k gapK (a ⊖ p) (a' ⊖ p')) → Start k x x' y y' z z' p p' a a' (X .m) (X .n) (Y .m) (Y .n) (Z .m) (Z .n)
 unfolding rjStart sized abs-two mulK mulOk within litOk ofBits mul-two widen-two lit-two
 start-two x x' y y' z z' p p' a a' X Y Z P =
@@ -85,9 +87,11 @@ start-two x x' y y' z z' p p' a a' X Y Z P =
       lead = ahead (litN binary64 (bits 0x405B_AB78_E4D1_420D)) (all .two .m) (digits-of (all .two .first)) (lit≤ tt);
       lead' = ahead (litN binary64 (bits 0x405B_AB78_E4D1_420D)) (all .two .n) (digits-of (all .two .second)) (lit≤ tt);
       first = le-trans (xy .left) (le-trans (le-trans (xyz .left) (all .left)) (le-of-eq (plain (all .two .s) E₃ (all .two .m))));
-      first' = le-trans (xy .left-second) (le-trans (le-trans (xyz .left-second) (all .left-second)) (le-of-eq (plain (all .two .s) E₃ (all .two .n))));
+      first' = le-trans (xy .left-second) (le-trans (le-trans (xyz .left-second) (all .left-second))
+          (le-of-eq (plain (all .two .s) E₃ (all .two .n))));
       second = le-trans (xy .right) (le-trans (le-trans (xyz .left) (all .left)) (le-of-eq (plain (all .two .s) E₃ (all .two .m))));
-      second' = le-trans (xy .right-second) (le-trans (le-trans (xyz .left-second) (all .left-second)) (le-of-eq (plain (all .two .s) E₃ (all .two .n))));
+      second' = le-trans (xy .right-second) (le-trans (le-trans (xyz .left-second) (all .left-second))
+          (le-of-eq (plain (all .two .s) E₃ (all .two .n))));
       third = le-trans (xyz .right) (le-trans (all .left) (le-of-eq (plain (all .two .s) E₃ (all .two .m))));
       third' = le-trans (xyz .right-second) (le-trans (all .left-second) (le-of-eq (plain (all .two .s) E₃ (all .two .n))));
     }
@@ -96,7 +100,8 @@ start-two x x' y y' z z' p p' a a' X Y Z P =
 abbrev fallenK : Kind
 fallenK = record { any = false; zer = true; lo = 2 ^ 740; hi = 2 ^ 1160; g = last binary64 (2 ^ 740); u = 2; d = 0 }
 
-fallen : {k : ℕ} (j : ℕ) {w w' q q' : Float} → j < 101 → Two binary64 k (fourthK j) w w' → Two binary64 k boundK q q' → Two binary64 k fallenK (w ⊗ q) (w' ⊗ q')
+fallen : {k : ℕ} (j : ℕ) {w w' q q' : Float} → j < 101 → Two binary64 k (fourthK j) w w' → Two binary64 k boundK q q'
+    → Two binary64 k fallenK (w ⊗ q) (w' ⊗ q')
 unfolding mulK mulOk within
 fallen j h W Q = widen-two (mul-two (widen-two {B = anyFourthK} W (any-fourth j h)) Q tt) tt
 
@@ -114,7 +119,8 @@ lead-end M Q W F A h i j = le-of-mul-le-mul-left (chain .law M Q W F A l h i j) 
         ⊩ con 2 :* (con 32 :* M :* W) ≈ con 2 :* (A :* l))
     chain = by-below tt
 
-module _ {k : ℕ} (j : ℕ) (h : j < 101) {a a' w w' q q' : Float} (A : Two binary64 k meanK a a') (W : Two binary64 k (fourthK j) w w') (Q : Two binary64 k boundK q q') where
+module _ {k : ℕ} (j : ℕ) (h : j < 101) {a a' w w' q q' : Float} (A : Two binary64 k meanK a a') (W : Two binary64 k (fourthK j) w w')
+    (Q : Two binary64 k boundK q q') where
   pub test-two : lt (w ⊗ q) a ≡ lt (w' ⊗ q') a'
   test-two = lt-two (fallen j h W Q) A tt
 
@@ -134,7 +140,8 @@ module _ {k : ℕ} (j : ℕ) (h : j < 101) {a a' w w' q q' : Float} (A : Two bin
       )
 
 -- ---- a correction: at most 1/32
-ends-small : (G M W A : ℕ) → Digits binary64 A → 2 ^ 58 ≤ A → 0 < A → G ≤ M → 32 * M * W ≤ A * l → near binary64 (near binary64 (W * G) l * l) A ≤ 2 ^ 1069
+ends-small : (G M W A : ℕ) → Digits binary64 A → 2 ^ 58 ≤ A → 0 < A → G ≤ M → 32 * M * W ≤ A * l
+    → near binary64 (near binary64 (W * G) l * l) A ≤ 2 ^ 1069
 ends-small G M W A D big pos g lead =
     let C = near binary64 (W * G) l in
     let first : W * G * 32 ≤ A * l = scaled .law W G M A l lead g in
@@ -152,7 +159,8 @@ ends-small G M W A D big pos g lead =
 abbrev tinyK : Kind
 tinyK = record { any = true; zer = true; lo = 0; hi = 2 ^ 1069; g = 0; u = 0; d = 0 }
 
-pub correction-two : {k : ℕ} (j : ℕ) {a a' w w' : Float} (d d' x x' : Float) → j < 101 → (A : Two binary64 k meanK a a') (W : Two binary64 k (fourthK j) w w')
+pub correction-two : {k : ℕ} (j : ℕ) {a a' w w' : Float} (d d' x x' : Float) → j < 101
+    → (A : Two binary64 k meanK a a') (W : Two binary64 k (fourthK j) w w')
     (G : Two binary64 k gapK (d ⊖ x) (d' ⊖ x')) (M M' : ℕ) → G .m ≤ M → G .n ≤ M' → 32 * M * W .m ≤ A .m * l → 32 * M' * W .n ≤ A .n * l
     → Two binary64 k tinyK (rjCorrection w d x a) (rjCorrection w' d' x' a')
 unfolding rjCorrection mulK mulOk divK divOk within clipK widen-two mul-two div-two
@@ -169,7 +177,8 @@ correction-two j d d' x x' h A W G M M' g g' lead lead' =
     tt
 
 -- ---- the factor and the value
-factor-two : {k : ℕ} {x x' y y' z z' : Float} → Two binary64 k tinyK x x' → Two binary64 k tinyK y y' → Two binary64 k tinyK z z' → Two binary64 k factorK (rjFactor x y z) (rjFactor x' y' z')
+factor-two : {k : ℕ} {x x' y y' z z' : Float} → Two binary64 k tinyK x x' → Two binary64 k tinyK y y' → Two binary64 k tinyK z z'
+    → Two binary64 k factorK (rjFactor x y z) (rjFactor x' y' z')
 unfolding rjFactor mulK mulOk divK divOk sumK sumOk within litOk ofBits
 factor-two x y z =
     let p = div-two (sub-two (sub-two (neg-two x) y tt) z tt) (lit-two two tt) tt in
@@ -185,9 +194,11 @@ factor-two x y z =
 abbrev pub valueK : Kind
 valueK = record { any = false; zer = false; lo = 2 ^ 560; hi = 2 ^ 1400; g = last binary64 (2 ^ 560); u = 0; d = 3 }
 
-pub series-fair : {k : ℕ} (j : ℕ) (s s' : Round) (x x' y y' z z' d d' : Float) → j < 101 → Two binary64 k meanK (s .an) (s' .an) → Two binary64 k (fourthK j) (s .fmn) (s' .fmn)
+pub series-fair : {k : ℕ} (j : ℕ) (s s' : Round) (x x' y y' z z' d d' : Float) → j < 101 → Two binary64 k meanK (s .an) (s' .an)
+    → Two binary64 k (fourthK j) (s .fmn) (s' .fmn)
     → Fair k (sumsK j) (s .sum) (s' .sum) → Two binary64 k tinyK (rjCorrection (s .fmn) d x (s .an)) (rjCorrection (s' .fmn) d' x' (s' .an))
-    → Two binary64 k tinyK (rjCorrection (s .fmn) d y (s .an)) (rjCorrection (s' .fmn) d' y' (s' .an)) → Two binary64 k tinyK (rjCorrection (s .fmn) d z (s .an)) (rjCorrection (s' .fmn) d' z' (s' .an))
+    → Two binary64 k tinyK (rjCorrection (s .fmn) d y (s .an)) (rjCorrection (s' .fmn) d' y' (s' .an))
+    → Two binary64 k tinyK (rjCorrection (s .fmn) d z (s .an)) (rjCorrection (s' .fmn) d' z' (s' .an))
     → Fair k valueK (rjSeries x y z d s) (rjSeries x' y' z' d' s')
 unfolding rjSeries powerK powerOk mulK mulOk plusK plusOk within litOk ofBits
 series-fair j s s' x x' y y' z z' d d' h A W (inl e) X Y Z = inl (gone (s .sum) (e .0) _, gone (s' .sum) (e .1) _)
@@ -197,4 +208,5 @@ series-fair j s s' x x' y y' z z' d d' h A W (inl e) X Y Z = inl (gone (s .sum) 
 series-fair j s s' x x' y y' z z' d d' h A W (inr S) X Y Z =
     let F = widen-two {B = anyFourthK} W (any-fourth j h) in
     let R = widen-two {B = sumsK 0} S (any-sums j h) in
-    inr (widen-two (plus-two (mul-two (mul-two F (power-two A tt) tt) (factor-two X Y Z) tt) (mul-two (lit-two (bits 0x4018_0000_0000_0000) tt) R tt) tt) tt)
+    inr (widen-two (plus-two (mul-two (mul-two F (power-two A tt) tt) (factor-two X Y Z) tt)
+    (mul-two (lit-two (bits 0x4018_0000_0000_0000) tt) R tt) tt) tt)

@@ -87,7 +87,9 @@ lambda a b c t =
     let L = add-maybe o firstK s yz tt tt tt tt tt in
     let e : maybe.some? L ≡ atMostOne (some? a) (some? b) (some? c) =
     add-some o firstK s yz tt tt tt tt tt
-    ∙ ap₂ _||_ (add-some o sumOneK xy xz tt tt tt tt tt ∙ ap₂ _||_ (mul-some o rx ry tt tt ∙ ap₂ _&&_ (roots-some a) (roots-some b)) (mul-some o rx rz tt tt ∙ ap₂ _&&_ (roots-some a) (roots-some c)))
+    ∙ ap₂ _||_ (add-some o sumOneK xy xz tt tt tt tt tt
+    ∙ ap₂ _||_ (mul-some o rx ry tt tt ∙ ap₂ _&&_ (roots-some a) (roots-some b))
+    (mul-some o rx rz tt tt ∙ ap₂ _&&_ (roots-some a) (roots-some c)))
     (mul-some o ry rz tt tt ∙ ap₂ _&&_ (roots-some b) (roots-some c)) in
     force L (subst T (sym e) t)
 
@@ -102,14 +104,16 @@ nextSumK = record { any = false; zer = false; lo = 2 ^ 1010; hi = 2 ^ 1140; g = 
 fourth-law : (x s : ℕ) → Digits binary64 s → 2 ^ 1010 ≤ s → x ≤ s → x ≤ near binary64 (s * l) (4 * l) * 4
 fourth-law x s D h i = le-trans i (le-of-eq (sym (quarter D (le-trans (pow-mono {i = 55} {j = 1010} (lit≤ tt)) h))))
 
-next : {k : ℕ} {x x' v v' : Float} (a : Arg k x x') → Two binary64 k firstK v v' → Next k (maybe.units (mean-of a)) (maybe.units' (mean-of a)) ((x ⊕ v) ⊘ four) ((x' ⊕ v') ⊘ four)
+next : {k : ℕ} {x x' v v' : Float} (a : Arg k x x') → Two binary64 k firstK v v'
+    → Next k (maybe.units (mean-of a)) (maybe.units' (mean-of a)) ((x ⊕ v) ⊘ four) ((x' ⊕ v') ⊘ four)
 unfolding solid? plusK plusOk within wide widen-two divK divOk litOk ofBits div-two lit-two
 next {k} {x} {x'} {v} {v'} a L =
     let o : 0 < overflow binary64 = lit< tt in
     let L₀ : Maybe binary64 k firstK v v' = maybe.some L in
     let s = add-maybe o nextSumK (arg a) L₀ tt tt tt tt tt in
     let law = add-law o nextSumK (arg a) L₀ tt tt tt tt tt in
-    made s (subst T (sym (add-some o nextSumK (arg a) L₀ tt tt tt tt tt ∙ last-true (maybe.some? (arg a)))) tt) (law .0 .0) (law .1 .0) (same-first a) (same-second a)
+    made s (subst T (sym (add-some o nextSumK (arg a) L₀ tt tt tt tt tt ∙ last-true (maybe.some? (arg a)))) tt) (law .0 .0) (law .1 .0)
+    (same-first a) (same-second a)
   where
     last-true : (b : Bool) → b || true ≡ true
     last-true true = refl
@@ -123,7 +127,8 @@ next {k} {x} {x'} {v} {v'} a L =
     same-second (none z) = refl
     same-second (some b) = refl
 
-    made : (s : Maybe binary64 k nextSumK (x ⊕ v) (x' ⊕ v')) → T (maybe.some? s) → maybe.units (arg a) ≤ maybe.units s → maybe.units' (arg a) ≤ maybe.units' s
+    made : (s : Maybe binary64 k nextSumK (x ⊕ v) (x' ⊕ v')) → T (maybe.some? s) → maybe.units (arg a) ≤ maybe.units s
+        → maybe.units' (arg a) ≤ maybe.units' s
         → maybe.units (mean-of a) ≡ maybe.units (arg a) → maybe.units' (mean-of a) ≡ maybe.units' (arg a)
         → Next k (maybe.units (mean-of a)) (maybe.units' (mean-of a)) ((x ⊕ v) ⊘ four) ((x' ⊕ v') ⊘ four)
     made (maybe.none z) t h i e g = absurd t
@@ -150,8 +155,10 @@ module _ {k : ℕ} {x x' y y' z z' p p' : Float} (a : Arg k x x') (b : Arg k y y
       let xyz = add-maybe o threeK xy (arg c) tt tt tt tt tt in
       let q = mul-two (lit-two two tt) P tt in
       let e : maybe.some? xyz ≡ (some? a || some? b) || some? c =
-      add-some o threeK xy (arg c) tt tt tt tt tt ∙ ap₂ _||_ (add-some o sumOneK (arg a) (arg b) tt tt tt tt tt ∙ ap₂ _||_ (as-arg a) (as-arg b)) (as-arg c) in
-      widen-two (div-two (plus-two (force xyz (subst T (sym e) (some-of (some? a) (some? b) (some? c) t))) q tt) (lit-two (bits 0x4014_0000_0000_0000) tt) tt) tt
+      add-some o threeK xy (arg c) tt tt tt tt tt ∙ ap₂ _||_ (add-some o sumOneK (arg a) (arg b) tt tt tt tt tt ∙ ap₂ _||_ (as-arg a) (as-arg b))
+      (as-arg c) in
+      widen-two (div-two (plus-two (force xyz (subst T (sym e) (some-of (some? a) (some? b) (some? c) t))) q tt)
+      (lit-two (bits 0x4014_0000_0000_0000) tt) tt) tt
     where
       as-arg : {v v' : Float} (a : Arg k v v') → maybe.some? (arg a) ≡ some? a
       as-arg (none z) = refl
@@ -182,7 +189,8 @@ difference-size A X s t e g D E = rw (e, g) (go (ltb A X))
         let i : A ≤ A + X = omega arith in
         le-trans (near-le binary64 1 (zero-lt-suc 0) h) (le-trans (le-of-eq (on-grid D)) i)
 
-difference : {k : ℕ} {p p' x x' : Float} (P : Two binary64 k meanK p p') (a : Arg k x x') → Difference k (P .m) (P .n) (maybe.units (mean-of a)) (maybe.units' (mean-of a)) (p ⊖ x) (p' ⊖ x')
+difference : {k : ℕ} {p p' x x' : Float} (P : Two binary64 k meanK p p') (a : Arg k x x')
+    → Difference k (P .m) (P .n) (maybe.units (mean-of a)) (maybe.units' (mean-of a)) (p ⊖ x) (p' ⊖ x')
 unfolding sub sumK sumOk within sub-two neg-two sum-two summed widen-two wide
 difference P (none z) =
     let w : Nothing binary64 _ _ = record { s = not (z .s); first = neg-units (z .first); second = neg-units (z .second) } in
@@ -209,11 +217,13 @@ product-more : (a b u v : ℕ) → 2 ^ 52 * l ≤ u * v → (a ≡ 0) ⊎ (u ≤
 product-more a b u v h (inl e) q = nothing (a * b) (ap (λ (i : ℕ). i * b) e ∙ zero-mul b)
   where
     nothing : (n : ℕ) → n ≡ 0 → near binary64 n l * l ≤ 2 * n
-    nothing n e = le-trans (le-of-eq (ap (λ (i : ℕ). near binary64 i l * l) e ∙ ap (λ (i : ℕ). i * l) (near-zero binary64 l l-pos) ∙ zero-mul l)) zero-le
+    nothing n e = le-trans (le-of-eq (ap (λ (i : ℕ). near binary64 i l * l) e ∙ ap (λ (i : ℕ). i * l) (near-zero binary64 l l-pos)
+        ∙ zero-mul l)) zero-le
 product-more a b u v h (inr p) (inl e) = nothing (a * b) (ap (λ (i : ℕ). a * i) e ∙ mul-zero a)
   where
     nothing : (n : ℕ) → n ≡ 0 → near binary64 n l * l ≤ 2 * n
-    nothing n e = le-trans (le-of-eq (ap (λ (i : ℕ). near binary64 i l * l) e ∙ ap (λ (i : ℕ). i * l) (near-zero binary64 l l-pos) ∙ zero-mul l)) zero-le
+    nothing n e = le-trans (le-of-eq (ap (λ (i : ℕ). near binary64 i l * l) e ∙ ap (λ (i : ℕ). i * l) (near-zero binary64 l l-pos)
+        ∙ zero-mul l)) zero-le
 product-more a b u v h (inr p) (inr q) = half-more binary64 (a * b) l l-pos (le-trans h (mul-le-mul p q))
 
 abbrev pairK : Kind
@@ -223,7 +233,8 @@ three-more : (E D a b c x y z : ℕ) → E * l ≤ 2 * (a * b) → D * l ≤ 2 *
 three-more E D a b c x y z h i p q r =
     le-trans (chain .law E D a b c l h i) (mul-le-mul (le-refl 4) (mul-le-mul (mul-le-mul p q) r))
   where
-    chain : Order 6 (λ E D a b c l. (con 2 :* c times E :* l ≼ con 2 :* (a :* b)) ∷ (l times D :* l ≼ con 2 :* (E :* c)) ∷ [] ⊩ D :* (l :* l) ≈ con 4 :* (a :* b :* c))
+    chain : Order 6 (λ E D a b c l. (con 2 :* c times E :* l ≼ con 2 :* (a :* b)) ∷ (l times D :* l ≼ con 2 :* (E :* c)) ∷ []
+        ⊩ D :* (l :* l) ≈ con 4 :* (a :* b :* c))
     chain = by-below tt
 
 record Delta (k A A' B B' C C' : ℕ) (v v' : Float) : Type 0 where
@@ -240,10 +251,12 @@ delta a b c =
       two = widen-two (mul-two E (c .two) tt) tt;
       small = three-more (E .m) _ (a .two .m) (b .two .m) (c .two .m) _ _ _
           (product-more (a .two .m) (b .two .m) (2 ^ 956) (2 ^ 956) (lit≤ tt) (some-or-none (a .two .in-first)) (some-or-none (b .two .in-first)))
-          (product-more (E .m) (c .two .m) (2 ^ 838) (2 ^ 956) (lit≤ tt) (some-or-none (E .in-first)) (some-or-none (c .two .in-first))) (a .size) (b .size) (c .size);
+          (product-more (E .m) (c .two .m) (2 ^ 838) (2 ^ 956) (lit≤ tt) (some-or-none (E .in-first)) (some-or-none (c .two .in-first)))
+          (a .size) (b .size) (c .size);
       small' = three-more (E .n) _ (a .two .n) (b .two .n) (c .two .n) _ _ _
           (product-more (a .two .n) (b .two .n) (2 ^ 956) (2 ^ 956) (lit≤ tt) (some-or-none (a .two .in-second)) (some-or-none (b .two .in-second)))
-          (product-more (E .n) (c .two .n) (2 ^ 838) (2 ^ 956) (lit≤ tt) (some-or-none (E .in-second)) (some-or-none (c .two .in-second))) (a .size') (b .size') (c .size');
+          (product-more (E .n) (c .two .n) (2 ^ 838) (2 ^ 956) (lit≤ tt) (some-or-none (E .in-second)) (some-or-none (c .two .in-second)))
+          (a .size') (b .size') (c .size');
     }
 
 -- ---- the start, and the first pass
@@ -271,4 +284,8 @@ module _ {k : ℕ} {x x' y y' z z' p p' : Float} (a : Arg k x x') (b : Arg k y y
   unfolding rjBegin begun
   started =
       let L = lambda a b c t in
-      record { inv = pass (lit< tt) begun (wide-lambda L) (next a L) (next b L) (next c L); all-some = pass-some (lit< tt) begun (wide-lambda L) (next a L) (next b L) (next c L) }
+      record {
+        inv = pass (lit< tt) begun (wide-lambda L) (next a L) (next b L) (next c L);
+        all-some = pass-some (lit< tt) begun (wide-lambda L)
+            (next a L) (next b L) (next c L);
+      }

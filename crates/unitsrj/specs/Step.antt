@@ -46,9 +46,11 @@ pub term-fair : {k : ℕ} (e e' b b' : Float) → Two binary64 k ratioOfK e e' �
 term-fair {k} e e' b b' E B =
     subst₂
     (λ i j. Fair k termK (cond (lt e (neg half)) (cond (lt (neg (bits 0x3FF8_0000_0000_0000)) e) (rcUnchecked one b) (rc1p e)) (rc1p e))
-    (cond (lt i (neg half)) (cond (lt (neg (bits 0x3FF8_0000_0000_0000)) i) (rcUnchecked one j) (rc1p i)) (rc1p i))) (same-float E refl) (same-float B refl)
+    (cond (lt i (neg half)) (cond (lt (neg (bits 0x3FF8_0000_0000_0000)) i) (rcUnchecked one j) (rc1p i)) (rc1p i))) (same-float E refl)
+    (same-float B refl)
     (choose (Fair k termK) (lt e (neg half)) (lt e (neg half)) refl
-    (λ t. choose (Fair k termK) (lt (neg (bits 0x3FF8_0000_0000_0000)) e) (lt (neg (bits 0x3FF8_0000_0000_0000)) e) refl (λ u. middle-fair B₀) (λ u. rc1p-fair E₀ (λ q. u)))
+    (λ t. choose (Fair k termK) (lt (neg (bits 0x3FF8_0000_0000_0000)) e) (lt (neg (bits 0x3FF8_0000_0000_0000)) e) refl (λ u. middle-fair B₀)
+    (λ u. rc1p-fair E₀ (λ q. u)))
     (λ t. rc1p-fair E₀ (λ q. absurd (T-not (lt e (neg half)) t q))))
   where
     E₀ : Two binary64 k ratioOfK e e
@@ -116,7 +118,8 @@ unfolding all within
 any-sums = every 101 (λ j. within (sumsK j) (sumsK 0)) tt
 
 -- ---- the added term, and the sum
-added-fair : {k : ℕ} {w w' d d' t t' : Float} → Two binary64 k anyFourthK w w' → Two binary64 k denominatorK d d' → Fair k termK t t' → Fair k addedK (w ⊘ d ⊗ t) (w' ⊘ d' ⊗ t')
+added-fair : {k : ℕ} {w w' d d' t t' : Float} → Two binary64 k anyFourthK w w' → Two binary64 k denominatorK d d' → Fair k termK t t'
+    → Fair k addedK (w ⊘ d ⊗ t) (w' ⊘ d' ⊗ t')
 unfolding mulK mulOk divK divOk within
 added-fair {w = w} {w'} {d} {d'} W D (inl z) =
     inl (ap (λ a. w ⊘ d ⊗ a) (z .0) ∙ mul-nan binary64 (w ⊘ d), ap (λ a. w' ⊘ d' ⊗ a) (z .1) ∙ mul-nan binary64 (w' ⊘ d'))
@@ -127,7 +130,8 @@ unfolding sumsOk
 sum-fair j {s} {s'} {t} {t'} h (inl z) b = inl (ap (λ a. a ⊕ t) (z .0) ∙ nan-add binary64 t, ap (λ a. a ⊕ t') (z .1) ∙ nan-add binary64 t')
 sum-fair j {s} {s'} {t} {t'} h (inr a) (inl z) = inl (ap (λ b. s ⊕ b) (z .0) ∙ add-nan binary64 s, ap (λ b. s' ⊕ b) (z .1) ∙ add-nan binary64 s')
 sum-fair j h (inr a) (inr b) =
-    inr (widen-two (plus-two a b (and-l (plusOk binary64 (sumsK (suc j)) addedK) _ (sums j h))) (and-r (plusOk binary64 (sumsK (suc j)) addedK) _ (sums j h)))
+    inr (widen-two (plus-two a b (and-l (plusOk binary64 (sumsK (suc j)) addedK) _ (sums j h)))
+    (and-r (plusOk binary64 (sumsK (suc j)) addedK) _ (sums j h)))
 
 -- ---- a running argument falls to a quarter at most
 pub record Next (k A A' : ℕ) (v v' : Float) : Type 0 where
@@ -135,12 +139,15 @@ pub record Next (k A A' : ℕ) (v v' : Float) : Type 0 where
   pub more : A ≤ two .m * 4
   pub more' : A' ≤ two .n * 4
 
-pub next : {k : ℕ} {x x' v v' : Float} (a : Two binary64 k meanK x x') → Two binary64 k lambdaK v v' → Next k (a .m) (a .n) ((x ⊕ v) ⊘ four) ((x' ⊕ v') ⊘ four)
+pub next : {k : ℕ} {x x' v v' : Float} (a : Two binary64 k meanK x x') → Two binary64 k lambdaK v v'
+    → Next k (a .m) (a .n) ((x ⊕ v) ⊘ four) ((x' ⊕ v') ⊘ four)
 unfolding quarter-two widen-two div-two plus-two summed lit-two ofBits
 next a L = record {
   two = quarter-two a L;
-  more = mean-fourth (a .m) (L .m) (a .s) (L .s) (a .in-first .sign tt) (L .in-first .sign tt) (digits-of (a .first)) (far (a .m) (floor-le (a .in-first)));
-  more' = mean-fourth (a .n) (L .n) (a .s) (L .s) (a .in-first .sign tt) (L .in-first .sign tt) (digits-of (a .second)) (far (a .n) (floor-le (a .in-second)));
+  more = mean-fourth (a .m) (L .m) (a .s) (L .s) (a .in-first .sign tt) (L .in-first .sign tt) (digits-of (a .first))
+      (far (a .m) (floor-le (a .in-first)));
+  more' = mean-fourth (a .n) (L .n) (a .s) (L .s) (a .in-first .sign tt) (L .in-first .sign tt) (digits-of (a .second))
+      (far (a .n) (floor-le (a .in-second)));
 }
   where
     far : (n : ℕ) → 2 ^ 1008 ≤ n → 2 ^ 55 ≤ n
@@ -148,7 +155,8 @@ next a L = record {
 
 -- ---- the product of the differences stays below that of the sums
 sixty-fourth : (n : ℕ) → Digits binary64 n → (n ≡ 0) ⊎ (2 ^ 59 ≤ n) → near binary64 (n * l) (64 * l) * 64 ≡ n
-sixty-fourth n D h = ap (λ (i : ℕ). i * 64) (near-same binary64 (n * l) (64 * l) n 64 (mul-pos (zero-lt-suc 63) l-pos) (zero-lt-suc 63) (turned n l)) ∙ go h
+sixty-fourth n D h = ap (λ (i : ℕ). i * 64) (near-same binary64 (n * l) (64 * l) n 64 (mul-pos (zero-lt-suc 63) l-pos) (zero-lt-suc 63)
+    (turned n l)) ∙ go h
   where
     turned : (n l : ℕ) → n * l * 64 ≡ n * (64 * l)
     turned n l = omega arith
@@ -157,12 +165,14 @@ sixty-fourth n D h = ap (λ (i : ℕ). i * 64) (near-same binary64 (n * l) (64 *
     go (inl e) = ap (λ (i : ℕ). near binary64 i 64 * 64) e ∙ ap (λ (i : ℕ). i * 64) (near-zero binary64 64 (zero-lt-suc 63)) ∙ sym e
     go (inr g) = part 6 D g
 
-small-kept : (D E a b c a' b' c' : ℕ) → E * 64 ≡ D → a ≤ a' * 4 → b ≤ b' * 4 → c ≤ c' * 4 → D * (l * l) ≤ 4 * (a * b * c) → E * (l * l) ≤ 4 * (a' * b' * c')
+small-kept : (D E a b c a' b' c' : ℕ) → E * 64 ≡ D → a ≤ a' * 4 → b ≤ b' * 4 → c ≤ c' * 4 → D * (l * l) ≤ 4 * (a * b * c)
+    → E * (l * l) ≤ 4 * (a' * b' * c')
 small-kept D E a b c a' b' c' e h i j small =
     let three : a * b * c ≤ a' * 4 * (b' * 4) * (c' * 4) = mul-le-mul (mul-le-mul h i) j in
     le-of-mul-le-mul-left (chain .law D E l (a * b * c) a' b' c' (le-of-eq e) small three) (zero-lt-suc 63)
   where
-    chain : Order 7 (λ D E l t a b c. (l :* l times E :* con 64 ≼ D) ∷ (con 1 times D :* (l :* l) ≼ con 4 :* t) ∷ (con 4 times t ≼ a :* con 4 :* (b :* con 4) :* (c :* con 4)) ∷ []
+    chain : Order 7 (λ D E l t a b c. (l :* l times E :* con 64 ≼ D) ∷ (con 1 times D :* (l :* l) ≼ con 4 :* t)
+        ∷ (con 4 times t ≼ a :* con 4 :* (b :* con 4) :* (c :* con 4)) ∷ []
         ⊩ con 64 :* (E :* (l :* l)) ≈ con 64 :* (con 4 :* (a :* b :* c)))
     chain = by-below tt
 
@@ -224,7 +234,8 @@ module _ {k j : ℕ} {s s' : Round} (h : j < 100) (i : Inv k (suc j) s s') (L : 
   unfolding rjRatio
   ratio-is s d t r = taken (le (bits 0x0010_0000_0000_0000) (d ⊗ d)) (s .delta ⊘ (d ⊗ d)) _ t
 
-  added : Fair k addedK (s .fmn ⊘ rjDenominator (roots s) ⊗ rjTerm (s .pn) (roots s) (rjDenominator (roots s)) (rjRatio s (roots s) (rjDenominator (roots s))))
+  added : Fair k addedK (s .fmn ⊘ rjDenominator (roots s) ⊗ rjTerm (s .pn) (roots s) (rjDenominator (roots s))
+      (rjRatio s (roots s) (rjDenominator (roots s))))
       (s' .fmn ⊘ rjDenominator (roots s') ⊗ rjTerm (s' .pn) (roots s') (rjDenominator (roots s')) (rjRatio s' (roots s') (rjDenominator (roots s'))))
   unfolding rjDenominator rjTerm rjMiddle
   added =
@@ -232,10 +243,12 @@ module _ {k j : ℕ} {s s' : Round} (h : j < 100) (i : Inv k (suc j) s s') (L : 
       let d = denominatorOf (i .p) (i .x) (i .y) (i .z) in
       let d' = denominatorOf' (i .p) (i .x) (i .y) (i .z) in
       let E = ratio-two (i .p) (i .x) (i .y) (i .z) wide-delta small-wide small-wide' in
-      subst₂ (λ e e'. Fair k addedK (s .fmn ⊘ d ⊗ rjTerm (s .pn) (roots s) d e) (s' .fmn ⊘ d' ⊗ rjTerm (s' .pn) (roots s') d' e')) (sym (ratio-is s d (t .0) (roots s)))
+      subst₂ (λ e e'. Fair k addedK (s .fmn ⊘ d ⊗ rjTerm (s .pn) (roots s) d e) (s' .fmn ⊘ d' ⊗ rjTerm (s' .pn) (roots s') d' e'))
+      (sym (ratio-is s d (t .0) (roots s)))
       (sym (ratio-is s' d' (t .1) (roots s')))
       (added-fair (widen-two (i .w) (any-fourth (suc j) j₁)) (denominator-two (i .p) (i .x) (i .y) (i .z))
-      (term-fair (s .delta ⊘ (d ⊗ d)) (s' .delta ⊘ (d' ⊗ d')) (rjMiddle (s .pn) (roots s) d) (rjMiddle (s' .pn) (roots s') d') E (middle-two (i .p) (i .x) (i .y) (i .z))))
+      (term-fair (s .delta ⊘ (d ⊗ d)) (s' .delta ⊘ (d' ⊗ d')) (rjMiddle (s .pn) (roots s) d) (rjMiddle (s' .pn) (roots s') d') E
+      (middle-two (i .p) (i .x) (i .y) (i .z))))
 
   spare : T (leb (2 ^ 59) (2 ^ (120 + 6 * suc j)))
   unfolding spareOk
@@ -249,15 +262,19 @@ module _ {k j : ℕ} {s s' : Round} (h : j < 100) (i : Inv k (suc j) s s') (L : 
     z = some (Z .two);
     p = P .two;
     a = quarter-two (i .a) L;
-    delta = widen-two (div-two (i .delta) (lit-two (bits 0x4050_0000_0000_0000) tt) (and-l (divOk binary64 (productK (suc j)) sixtyFourK) _ (products j h)))
+    delta = widen-two (div-two (i .delta) (lit-two (bits 0x4050_0000_0000_0000) tt)
+        (and-l (divOk binary64 (productK (suc j)) sixtyFourK) _ (products j h)))
         (and-r (divOk binary64 (productK (suc j)) sixtyFourK) _ (products j h));
-    w = widen-two (div-two (i .w) (lit-two four tt) (and-l (divOk binary64 (fourthK (suc j)) fourK) _ (fourths j h))) (and-r (divOk binary64 (fourthK (suc j)) fourK) _ (fourths j h));
+    w = widen-two (div-two (i .w) (lit-two four tt) (and-l (divOk binary64 (fourthK (suc j)) fourK) _ (fourths j h)))
+        (and-r (divOk binary64 (fourthK (suc j)) fourK) _ (fourths j h));
     sum = sum-fair j h (i .sum) added;
     small = small-kept (i .delta .m) _ _ _ _ _ _ _ (sixty-fourth (i .delta .m) (digits-of (i .delta .first)) (many (i .delta .in-first) spare))
-        (pair-falls (i .p .m) (units (i .x)) (P .two .m) (X .two .m) (P .more) (X .more)) (pair-falls (i .p .m) (units (i .y)) (P .two .m) (Y .two .m) (P .more) (Y .more))
+        (pair-falls (i .p .m) (units (i .x)) (P .two .m) (X .two .m) (P .more) (X .more))
+        (pair-falls (i .p .m) (units (i .y)) (P .two .m) (Y .two .m) (P .more) (Y .more))
         (pair-falls (i .p .m) (units (i .z)) (P .two .m) (Z .two .m) (P .more) (Z .more)) (i .small);
     small' = small-kept (i .delta .n) _ _ _ _ _ _ _ (sixty-fourth (i .delta .n) (digits-of (i .delta .second)) (many (i .delta .in-second) spare))
-        (pair-falls (i .p .n) (units' (i .x)) (P .two .n) (X .two .n) (P .more') (X .more')) (pair-falls (i .p .n) (units' (i .y)) (P .two .n) (Y .two .n) (P .more') (Y .more'))
+        (pair-falls (i .p .n) (units' (i .x)) (P .two .n) (X .two .n) (P .more') (X .more'))
+        (pair-falls (i .p .n) (units' (i .y)) (P .two .n) (Y .two .n) (P .more') (Y .more'))
         (pair-falls (i .p .n) (units' (i .z)) (P .two .n) (Z .two .n) (P .more') (Z .more')) (i .small');
   }
 
@@ -270,7 +287,8 @@ pub record Whole (k j : ℕ) (s s' : Round) : Type 0 where
   pub inv : Inv k j s s'
   pub all-some : T (some? (inv .x) && some? (inv .y) && some? (inv .z))
 
-next-maybe : {k : ℕ} {x x' v v' : Float} (a : Maybe binary64 k meanK x x') → T (some? a) → Two binary64 k lambdaK v v' → Next k (units a) (units' a) ((x ⊕ v) ⊘ four) ((x' ⊕ v') ⊘ four)
+next-maybe : {k : ℕ} {x x' v v' : Float} (a : Maybe binary64 k meanK x x') → T (some? a) → Two binary64 k lambdaK v v'
+    → Next k (units a) (units' a) ((x ⊕ v) ⊘ four) ((x' ⊕ v') ⊘ four)
 next-maybe (none z) t L = absurd t
 next-maybe (some a) t L = next a L
 

@@ -31,7 +31,8 @@ loop-holds : tie.Need-loop-holds Inv-loop μ-loop
 loop-holds c = (omega arith, lit< tt, rw add-zero)
 
 -- there is room for one digit more
-grown : (c : tie.Else2 Inv-loop μ-loop) → c .before .before .before .before .loop .value * 16 + c .before .digit .result < 16 ^ (c .before .before .before .before .loop .i + 1)
+grown : (c : tie.Else2 Inv-loop μ-loop) → c .before .before .before .before .loop .value * 16 + c .before .digit .result
+    < 16 ^ (c .before .before .before .before .loop .i + 1)
 grown c = digit-room _ _ _ (c .before .before .before .before .loop .inv .1) (c .if2 .left)
 
 more-fits : (c : tie.Else2 Inv-loop μ-loop) → c .before .before .before .before .loop .value * 16 + c .before .digit .result < 2 ^ 64
@@ -43,7 +44,8 @@ loop-again c =
     let a = c .before .before .before .before .before .before .before .before .args in (
       omega arith,
       grown c,
-      digit-more 16 (l .value) (now (a .line)) (a .at + 1 + l .i) (16 - l .i) (c .before .digit .result) (omega arith) (c .before .digit .ensures) (a .at + 1 + (l .i + 1))
+      digit-more 16 (l .value) (now (a .line)) (a .at + 1 + l .i) (16 - l .i) (c .before .digit .result) (omega arith)
+          (c .before .digit .ensures) (a .at + 1 + (l .i + 1))
           (16 - (l .i + 1)) (omega arith) (omega arith) (c .if2 .left)
           ∙ l .inv .2,
     )
@@ -55,7 +57,8 @@ returns-2 c =
     let k = c .before .before .before .before .before in
     let a = k .before .before .before .args in
     rw (eq-eqb _ _ (k .if1 .left))
-    (digit-none 16 (l .value) (now (a .line)) (a .at + 1 + l .i) (16 - l .i) (c .before .digit .result) (omega arith) (c .before .digit .ensures) (16 - (l .i + 1)) (omega arith)
+    (digit-none 16 (l .value) (now (a .line)) (a .at + 1 + l .i) (16 - l .i) (c .before .digit .result) (omega arith) (c .before .digit .ensures)
+    (16 - (l .i + 1)) (omega arith)
     (c .if2 .taken)
     ∙ l .inv .2)
 

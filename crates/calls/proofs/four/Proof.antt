@@ -12,7 +12,8 @@ use Rattle.calls.proofs.four.Tie as tie
 first : (k : tie.After-known-told) → wordAt (now (k .before .before .before .before .before .args .line)) 2 ≡ Is (k .before .x .given .0 .0)
 first k = sym (k .before .before .before .argument .ensures) ∙ k .before .x .given .1
 
-second : (k : tie.After-known-told2) → wordAt (now (k .before .before .before .before .before .before .before .before .before .args .line)) 19 ≡ Is (k .before .y .given .0 .0)
+second : (k : tie.After-known-told2) → wordAt (now (k .before .before .before .before .before .before .before .before .before .args .line)) 19
+    ≡ Is (k .before .y .given .0 .0)
 second k = sym (k .before .before .before .argument2 .ensures) ∙ k .before .y .given .1
 
 third : (k : tie.After-known-told3) → wordAt (now (k .before .before .before .before .before .before .before .before .before .before .before .before .before .args .line)) 36 ≡ Is (k .before .z .given .0 .0)
@@ -31,19 +32,42 @@ returns-2 c = rw (first (c .before .before .before), sym (c .before .before .arg
 
 returns-3 : tie.Need-returns-3
 unfolding andThen wordsAt named
-returns-3 c = rw (first (c .before .before .before .before .before .before .before), second (c .before .before .before), sym (c .before .before .argument3 .ensures) ∙ c .enum-told3 .given .1)
+returns-3 c = rw (
+  first (c .before .before .before .before .before .before .before),
+  second (c .before .before .before),
+  sym (c .before .before .argument3 .ensures) ∙ c .enum-told3 .given .1,
+)
 
 returns-4 : tie.Need-returns-4
 unfolding andThen wordsAt named
-returns-4 c = rw (first (c .before .before .before .before .before .before .before .before .before .before .before), second (c .before .before .before .before .before .before .before), third (c .before .before .before), sym (c .before .before .argument4 .ensures) ∙ c .enum-told4 .given .1)
+returns-4 c = rw (
+  first (c .before .before .before .before .before .before .before .before .before .before .before),
+  second (c .before .before .before .before .before .before .before),
+  third (c .before .before .before),
+  sym (c .before .before .argument4 .ensures) ∙ c .enum-told4 .given .1,
+)
 
 returns-5 : tie.Need-returns-5
 unfolding andThen wordsAt named
-returns-5 c = rw (first (c .before .before .before .before .before .before .before .before .before .before .before .before .before .before), second (c .before .before .before .before .before .before .before .before .before .before), third (c .before .before .before .before .before .before), fourth (c .before .before), sym (c .before .initial .ensures), eq-eqb _ _ (c .if1 .taken))
+returns-5 c = rw (
+  first (c .before .before .before .before .before .before .before .before .before .before .before .before .before .before),
+  second (c .before .before .before .before .before .before .before .before .before .before),
+  third (c .before .before .before .before .before .before),
+  fourth (c .before .before),
+  sym (c .before .initial .ensures),
+  eq-eqb _ _ (c .if1 .taken),
+)
 
 returns-6 : tie.Need-returns-6
 unfolding andThen wordsAt named
-returns-6 c = rw (first (c .before .before .before .before .before .before .before .before .before .before .before .before .before .before), second (c .before .before .before .before .before .before .before .before .before .before), third (c .before .before .before .before .before .before), fourth (c .before .before), sym (c .before .initial .ensures), ne-eqb _ _ (c .if1 .left))
+returns-6 c = rw (
+  first (c .before .before .before .before .before .before .before .before .before .before .before .before .before .before),
+  second (c .before .before .before .before .before .before .before .before .before .before),
+  third (c .before .before .before .before .before .before),
+  fourth (c .before .before),
+  sym (c .before .initial .ensures),
+  ne-eqb _ _ (c .if1 .left),
+)
 
 pub four-spec : {M : Type 1} → statement M
 four-spec =

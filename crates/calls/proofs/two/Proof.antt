@@ -12,7 +12,8 @@ use Rattle.calls.proofs.two.Tie as tie
 first : (k : tie.After-known-told) → wordAt (now (k .before .before .before .before .before .args .line)) 2 ≡ Is (k .before .x .given .0 .0)
 first k = sym (k .before .before .before .argument .ensures) ∙ k .before .x .given .1
 
-second : (k : tie.After-known-told2) → wordAt (now (k .before .before .before .before .before .before .before .before .before .args .line)) 19 ≡ Is (k .before .y .given .0 .0)
+second : (k : tie.After-known-told2) → wordAt (now (k .before .before .before .before .before .before .before .before .before .args .line)) 19
+    ≡ Is (k .before .y .given .0 .0)
 second k = sym (k .before .before .before .argument2 .ensures) ∙ k .before .y .given .1
 
 returns : tie.Need-returns
@@ -25,11 +26,21 @@ returns-2 c = rw (first (c .before .before .before), sym (c .before .before .arg
 
 returns-3 : tie.Need-returns-3
 unfolding andThen wordsAt named
-returns-3 c = rw (first (c .before .before .before .before .before .before), second (c .before .before), sym (c .before .initial .ensures), eq-eqb _ _ (c .if1 .taken))
+returns-3 c = rw (
+  first (c .before .before .before .before .before .before),
+  second (c .before .before),
+  sym (c .before .initial .ensures),
+  eq-eqb _ _ (c .if1 .taken),
+)
 
 returns-4 : tie.Need-returns-4
 unfolding andThen wordsAt named
-returns-4 c = rw (first (c .before .before .before .before .before .before), second (c .before .before), sym (c .before .initial .ensures), ne-eqb _ _ (c .if1 .left))
+returns-4 c = rw (
+  first (c .before .before .before .before .before .before),
+  second (c .before .before),
+  sym (c .before .initial .ensures),
+  ne-eqb _ _ (c .if1 .left),
+)
 
 pub two-spec : {M : Type 1} → statement M
 two-spec =

@@ -14,7 +14,11 @@ elliprf-spec =
     (λ c κs. tt)
     (λ c. rw (sym (c .before .before .before .any-nan3 .ensures) ∙ c .before .before .if1 .left, sym (c .before .below3 .ensures) ∙ c .if2 .taken))
     (λ c κs. tt)
-    (λ c. rw (sym (c .before .before .before .before .before .any-nan3 .ensures) ∙ c .before .before .before .before .if1 .left, sym (c .before .before .before .below3 .ensures) ∙ c .before .before .if2 .left, sym (c .before .zeros3 .ensures) ∙ c .if3 .taken))
+    (λ c. rw (
+      sym (c .before .before .before .before .before .any-nan3 .ensures) ∙ c .before .before .before .before .if1 .left,
+      sym (c .before .before .before .below3 .ensures) ∙ c .before .before .if2 .left,
+      sym (c .before .zeros3 .ensures) ∙ c .if3 .taken,
+    ))
     (λ c κs. tt)
     (λ c κs. tt)
     (λ c. rw (sym (c .before .before .before .before .before .before .before .before .any-nan3 .ensures) ∙ c .before .before .before .before .before .before .before .if1 .left, sym (c .before .before .before .before .before .before .below3 .ensures) ∙ c .before .before .before .before .before .if2 .left, sym (c .before .before .before .before .zeros3 .ensures) ∙ c .before .before .before .if3 .left, sym (c .before .before .any-infinite3 .ensures) ∙ c .before .if4 .taken) (c .infinite .ensures))

@@ -13,8 +13,17 @@ elliprf-unchecked-spec =
     (λ c κs. tt)
     (λ c κs. tt)
     (λ c κs. tt)
-    (λ c. rw (sym (c .before .before .before .before .before .scale3 .ensures), sym (c .before .before .before .before .beyond .ensures) ∙ c .before .before .before .if1 .taken, sym (c .before .before .stay3 .ensures) ∙ c .before .if2 .taken) (c .rescaled .ensures))
+    (λ c. rw (
+      sym (c .before .before .before .before .before .scale3 .ensures),
+      sym (c .before .before .before .before .beyond .ensures) ∙ c .before .before .before .if1 .taken,
+      sym (c .before .before .stay3 .ensures) ∙ c .before .if2 .taken,
+    ) (c .rescaled .ensures))
     (λ c κs. tt)
-    (λ c. rw (sym (c .before .before .before .before .before .scale3 .ensures), sym (c .before .before .before .before .beyond .ensures) ∙ c .before .before .before .if1 .taken, sym (c .before .before .stay3 .ensures) ∙ c .before .if2 .left) (c .steps .ensures))
+    (λ c. rw (
+      sym (c .before .before .before .before .before .scale3 .ensures),
+      sym (c .before .before .before .before .beyond .ensures) ∙ c .before .before .before .if1 .taken,
+      sym (c .before .before .stay3 .ensures) ∙ c .before .if2 .left,
+    ) (c .steps .ensures))
     (λ c κs. tt)
-    (λ c. rw (sym (c .before .before .before .scale3 .ensures), sym (c .before .before .beyond .ensures) ∙ c .before .if1 .left) (c .steps2 .ensures)))
+    (λ c. rw (sym (c .before .before .before .scale3 .ensures), sym (c .before .before .beyond .ensures) ∙ c .before .if1 .left)
+    (c .steps2 .ensures)))

@@ -19,8 +19,18 @@ steps-spec =
     (λ c κs. tt)
     (λ c. rw (c .before .before .before .if1 .left, c .before .before .if4 .taken, c .before .if5 .left) (c .two-equal2 .ensures))
     (λ c κs. tt)
-    (λ c. rw (c .before .before .before .before .if1 .left, c .before .before .before .if4 .left, c .before .before .if6 .taken, c .before .if7 .taken) (c .one-zero3 .ensures))
+    (λ c. rw (
+      c .before .before .before .before .if1 .left,
+      c .before .before .before .if4 .left,
+      c .before .before .if6 .taken,
+      c .before .if7 .taken,
+    ) (c .one-zero3 .ensures))
     (λ c κs. tt)
-    (λ c. rw (c .before .before .before .before .if1 .left, c .before .before .before .if4 .left, c .before .before .if6 .taken, c .before .if7 .left) (c .two-equal3 .ensures))
+    (λ c. rw (
+      c .before .before .before .before .if1 .left,
+      c .before .before .before .if4 .left,
+      c .before .before .if6 .taken,
+      c .before .if7 .left,
+    ) (c .two-equal3 .ensures))
     (λ c κs. tt)
     (λ c. rw (c .before .before .before .if1 .left, c .before .before .if4 .left, c .before .if6 .left) (c .general .ensures)))

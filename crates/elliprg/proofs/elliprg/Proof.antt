@@ -14,4 +14,8 @@ elliprg-spec =
     (λ c κs. tt)
     (λ c κs. tt)
     (λ c κs. tt)
-    (λ c. rw (sym (c .before .before .before .before .below3 .ensures) ∙ c .before .before .before .if1 .left, sym (c .before .before .elliprg-unchecked .ensures), sym (c .before .any-nan3 .ensures)) (c .settled .ensures)))
+    (λ c. rw (
+      sym (c .before .before .before .before .below3 .ensures) ∙ c .before .before .before .if1 .left,
+      sym (c .before .before .elliprg-unchecked .ensures),
+      sym (c .before .any-nan3 .ensures),
+    ) (c .settled .ensures)))

@@ -60,52 +60,65 @@ call-at t = and 0 call-kinds.ps (is 0 call-kinds.ps μ-call t) call.Pre
 abbrev call-below : ℕ → In 0 call-kinds.ps
 call-below t = and 0 call-kinds.ps (falls 0 call-kinds.ps _<_ μ-call t) call.Pre
 
-call-returns : (t : ℕ) → call-lts.Need-returns (planned-reads.Asked, planned-reads.Learnt, call-below t, call.Post, over-scale-reads.Asked, over-scale-reads.Learnt, carried-reads.Asked, carried-reads.Learnt) (call-at t) call.Post
+-- what is asked and learnt of the functions called, in their order
+abbrev claims : ℕ → call-lts.Claims
+claims t = (
+  planned-reads.Asked,
+  planned-reads.Learnt,
+  call-below t,
+  call.Post,
+  over-scale-reads.Asked,
+  over-scale-reads.Learnt,
+  carried-reads.Asked,
+  carried-reads.Learnt,
+)
+
+call-returns : (t : ℕ) → call-lts.Need-returns (claims t) (call-at t) call.Post
 call-returns t c = spent (c .before .args .left) _ (c .if1 .taken)
 
-call-planned-requires : (t : ℕ) → call-lts.Need-planned-requires (planned-reads.Asked, planned-reads.Learnt, call-below t, call.Post, over-scale-reads.Asked, over-scale-reads.Learnt, carried-reads.Asked, carried-reads.Learnt) (call-at t) call.Post
+call-planned-requires : (t : ℕ) → call-lts.Need-planned-requires (claims t) (call-at t) call.Post
 call-planned-requires t c κs = tt
 
-call-enum-known-plan : (t : ℕ) → call-lts.Need-enum-known-plan (planned-reads.Asked, planned-reads.Learnt, call-below t, call.Post, over-scale-reads.Asked, over-scale-reads.Learnt, carried-reads.Asked, carried-reads.Learnt) (call-at t) call.Post
+call-enum-known-plan : (t : ℕ) → call-lts.Need-enum-known-plan (claims t) (call-at t) call.Post
 call-enum-known-plan t c = search needs
 
-call-enum-known-plan-2 : (t : ℕ) → call-lts.Need-enum-known-plan-2 (planned-reads.Asked, planned-reads.Learnt, call-below t, call.Post, over-scale-reads.Asked, over-scale-reads.Learnt, carried-reads.Asked, carried-reads.Learnt) (call-at t) call.Post
+call-enum-known-plan-2 : (t : ℕ) → call-lts.Need-enum-known-plan-2 (claims t) (call-at t) call.Post
 call-enum-known-plan-2 t c = search needs
 
-call-sub-call : (t : ℕ) → call-lts.Need-sub-call (planned-reads.Asked, planned-reads.Learnt, call-below t, call.Post, over-scale-reads.Asked, over-scale-reads.Learnt, carried-reads.Asked, carried-reads.Learnt) (call-at t) call.Post
+call-sub-call : (t : ℕ) → call-lts.Need-sub-call (claims t) (call-at t) call.Post
 call-sub-call t c = pos-of-ne-zero (c .before .before .before .before .if1 .left)
 
-call-call-requires : (t : ℕ) → call-lts.Need-call-requires (planned-reads.Asked, planned-reads.Learnt, call-below t, call.Post, over-scale-reads.Asked, over-scale-reads.Learnt, carried-reads.Asked, carried-reads.Learnt) (call-at t) call.Post
+call-call-requires : (t : ℕ) → call-lts.Need-call-requires (claims t) (call-at t) call.Post
 call-call-requires t c κs = let b = c .before .before .before .before in (less (b .before .args .left) t (b .before .pre .0) (b .if1 .left), tt)
 
-call-over-scale-requires : (t : ℕ) → call-lts.Need-over-scale-requires (planned-reads.Asked, planned-reads.Learnt, call-below t, call.Post, over-scale-reads.Asked, over-scale-reads.Learnt, carried-reads.Asked, carried-reads.Learnt) (call-at t) call.Post
+call-over-scale-requires : (t : ℕ) → call-lts.Need-over-scale-requires (claims t) (call-at t) call.Post
 call-over-scale-requires t c κs = tt
 
-call-enum-known-plan-3 : (t : ℕ) → call-lts.Need-enum-known-plan-3 (planned-reads.Asked, planned-reads.Learnt, call-below t, call.Post, over-scale-reads.Asked, over-scale-reads.Learnt, carried-reads.Asked, carried-reads.Learnt) (call-at t) call.Post
+call-enum-known-plan-3 : (t : ℕ) → call-lts.Need-enum-known-plan-3 (claims t) (call-at t) call.Post
 call-enum-known-plan-3 t c = search needs
 
-call-sub-call-2 : (t : ℕ) → call-lts.Need-sub-call-2 (planned-reads.Asked, planned-reads.Learnt, call-below t, call.Post, over-scale-reads.Asked, over-scale-reads.Learnt, carried-reads.Asked, carried-reads.Learnt) (call-at t) call.Post
+call-sub-call-2 : (t : ℕ) → call-lts.Need-sub-call-2 (claims t) (call-at t) call.Post
 call-sub-call-2 t c = pos-of-ne-zero (c .before .before .before .before .if1 .left)
 
-call-call-requires-2 : (t : ℕ) → call-lts.Need-call-requires-2 (planned-reads.Asked, planned-reads.Learnt, call-below t, call.Post, over-scale-reads.Asked, over-scale-reads.Learnt, carried-reads.Asked, carried-reads.Learnt) (call-at t) call.Post
+call-call-requires-2 : (t : ℕ) → call-lts.Need-call-requires-2 (claims t) (call-at t) call.Post
 call-call-requires-2 t c κs = let b = c .before .before .before .before in (less (b .before .args .left) t (b .before .pre .0) (b .if1 .left), tt)
 
-call-carried-requires : (t : ℕ) → call-lts.Need-carried-requires (planned-reads.Asked, planned-reads.Learnt, call-below t, call.Post, over-scale-reads.Asked, over-scale-reads.Learnt, carried-reads.Asked, carried-reads.Learnt) (call-at t) call.Post
+call-carried-requires : (t : ℕ) → call-lts.Need-carried-requires (claims t) (call-at t) call.Post
 call-carried-requires t c κs = tt
 
-call-returns-2 : (t : ℕ) → call-lts.Need-returns-2 (planned-reads.Asked, planned-reads.Learnt, call-below t, call.Post, over-scale-reads.Asked, over-scale-reads.Learnt, carried-reads.Asked, carried-reads.Learnt) (call-at t) call.Post
+call-returns-2 : (t : ℕ) → call-lts.Need-returns-2 (claims t) (call-at t) call.Post
 call-returns-2 t c =
     let k = c .before .before .before in
     done (k .before .before .args .left) (k .planned .result) _ _ (k .before .if1 .left) (k .planned .ensures) (c .before .plan .given .1)
 
-call-returns-3 : (t : ℕ) → call-lts.Need-returns-3 (planned-reads.Asked, planned-reads.Learnt, call-below t, call.Post, over-scale-reads.Asked, over-scale-reads.Learnt, carried-reads.Asked, carried-reads.Learnt) (call-at t) call.Post
+call-returns-3 : (t : ℕ) → call-lts.Need-returns-3 (claims t) (call-at t) call.Post
 call-returns-3 t c =
     let k = c .before .before .before .before .before in
     let d = c .before .before .before .plan2 .given in
     c .over-scale .ensures ∙ ap (λ (a : Answer). overScale a (d .0 .0 .scale)) (c .before .call .ensures)
     ∙ rescales (k .before .before .args .left) (k .planned .result) _ (d .0 .0) (k .before .if1 .left) (k .planned .ensures) (d .1)
 
-call-returns-4 : (t : ℕ) → call-lts.Need-returns-4 (planned-reads.Asked, planned-reads.Learnt, call-below t, call.Post, over-scale-reads.Asked, over-scale-reads.Learnt, carried-reads.Asked, carried-reads.Learnt) (call-at t) call.Post
+call-returns-4 : (t : ℕ) → call-lts.Need-returns-4 (claims t) (call-at t) call.Post
 call-returns-4 t c =
     let k = c .before .before .before .before .before in
     let d = c .before .before .before .plan3 .given in
@@ -113,7 +126,7 @@ call-returns-4 t c =
     ∙ reduces (k .before .before .args .left) (k .planned .result) _ (d .0 .0) (k .before .if1 .left) (k .planned .ensures) (d .1)
 
 pub +call-spec : {M : Type 1} → statement M
-+call-spec = close μ-call λ t. call-lts.spec (planned-reads.Asked, planned-reads.Learnt, call-below t, call.Post, over-scale-reads.Asked, over-scale-reads.Learnt, carried-reads.Asked, carried-reads.Learnt)
++call-spec = close μ-call λ t. call-lts.spec (claims t)
     (call-at t)
     call.Post
     (call-returns t)

@@ -13,9 +13,18 @@ elliprj-spec =
     (λ c. rw (sym (c .before .any-nan4 .ensures) ∙ c .if1 .taken))
     (λ c. rw (sym (c .before .before .any-nan4 .ensures) ∙ c .before .if1 .left, c .if2 .taken))
     (λ c κs. tt)
-    (λ c. rw (sym (c .before .before .before .before .any-nan4 .ensures) ∙ c .before .before .before .if1 .left, c .before .before .if2 .left, sym (c .before .below3 .ensures) ∙ c .if3 .taken))
+    (λ c. rw (
+      sym (c .before .before .before .before .any-nan4 .ensures) ∙ c .before .before .before .if1 .left,
+      c .before .before .if2 .left,
+      sym (c .before .below3 .ensures) ∙ c .if3 .taken,
+    ))
     (λ c κs. tt)
-    (λ c. rw (sym (c .before .before .before .before .before .before .any-nan4 .ensures) ∙ c .before .before .before .before .before .if1 .left, c .before .before .before .before .if2 .left, sym (c .before .before .before .below3 .ensures) ∙ c .before .before .if3 .left, sym (c .before .zeros3 .ensures) ∙ c .if4 .taken))
+    (λ c. rw (
+      sym (c .before .before .before .before .before .before .any-nan4 .ensures) ∙ c .before .before .before .before .before .if1 .left,
+      c .before .before .before .before .if2 .left,
+      sym (c .before .before .before .below3 .ensures) ∙ c .before .before .if3 .left,
+      sym (c .before .zeros3 .ensures) ∙ c .if4 .taken,
+    ))
     (λ c κs. tt)
     (λ c κs. tt)
     (λ c. rw (sym (c .before .before .before .before .before .before .before .before .before .any-nan4 .ensures) ∙ c .before .before .before .before .before .before .before .before .if1 .left, c .before .before .before .before .before .before .before .if2 .left, sym (c .before .before .before .before .before .before .below3 .ensures) ∙ c .before .before .before .before .before .if3 .left, sym (c .before .before .before .before .zeros3 .ensures) ∙ c .before .before .before .if4 .left, sym (c .before .before .any-infinite4 .ensures) ∙ c .before .if5 .taken) (c .infinite .ensures))

@@ -16,7 +16,8 @@ returns c =
     let a = c .before .before .args in
     let p = c .write-answer .ensures in
     let full : length (now (a .out)) ≡ 31 = search needs in
-    let most : c .write-answer .result ≤ length (c .write-answer .last .1 .1 .0) = omega (arith, put-length p, p .place, text-length (a .call) (a .answer)) in
+    let most : c .write-answer .result ≤ length (c .write-answer .last .1 .1 .0) = omega
+    (arith, put-length p, p .place, text-length (a .call) (a .answer)) in
     (p, (most, sym (length-take-le _ _ most)))
 
 pub answer-text-spec : {M : Type 1} → statement M

@@ -15,7 +15,8 @@ put-count-requires c κs =
 
 returns : tie.Need-returns
 unfolding refusalText
-returns c = put-more (tried-put (omega arith) (c .before .before .before .before .before .before .put-text .ensures)) (c .before .before .put-count .ensures)
+returns c = put-more (tried-put (omega arith) (c .before .before .before .before .before .before .put-text .ensures))
+    (c .before .before .put-count .ensures)
 
 pub put-refusal-spec : {M : Type 1} → statement M
 put-refusal-spec =

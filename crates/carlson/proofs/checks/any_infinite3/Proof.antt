@@ -4,4 +4,5 @@ use Rattle.carlson.proofs.checks.any_infinite3.Statement.{statement}
 use Rattle.carlson.proofs.checks.any_infinite3.Tie as tie
 
 pub any-infinite3-spec : {M : Type 1} → statement M
-any-infinite3-spec = tie.close (tie.spec (λ c κs. tt) (λ c κs. tt) (λ c κs. tt) (λ c. rw (sym (c .before .before .any-infinite2 .ensures), sym (c .before .is-infinite .ensures), sym (c .either .ensures))))
+any-infinite3-spec = tie.close (tie.spec (λ c κs. tt) (λ c κs. tt) (λ c κs. tt)
+    (λ c. rw (sym (c .before .before .any-infinite2 .ensures), sym (c .before .is-infinite .ensures), sym (c .either .ensures))))

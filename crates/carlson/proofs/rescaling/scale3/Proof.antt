@@ -4,4 +4,5 @@ use Rattle.carlson.proofs.rescaling.scale3.Statement.{statement}
 use Rattle.carlson.proofs.rescaling.scale3.Tie as tie
 
 pub scale3-spec : {M : Type 1} → statement M
-scale3-spec = tie.close (tie.spec (λ c κs. tt) (λ c κs. tt) (λ c κs. tt) (λ c. rw (sym (c .before .before .scale2 .ensures), sym (c .before .abs .ensures), sym (c .max .ensures))))
+scale3-spec = tie.close (tie.spec (λ c κs. tt) (λ c κs. tt) (λ c κs. tt)
+    (λ c. rw (sym (c .before .before .scale2 .ensures), sym (c .before .abs .ensures), sym (c .max .ensures))))

@@ -4,4 +4,5 @@ use Rattle.carlson.proofs.rescaling.stay2.Statement.{statement}
 use Rattle.carlson.proofs.rescaling.stay2.Tie as tie
 
 pub stay2-spec : {M : Type 1} → statement M
-stay2-spec = tie.close (tie.spec (λ c κs. tt) (λ c κs. tt) (λ c κs. tt) (λ c. rw (sym (c .before .before .stays .ensures), sym (c .before .stays2 .ensures), sym (c .both .ensures))))
+stay2-spec = tie.close (tie.spec (λ c κs. tt) (λ c κs. tt) (λ c κs. tt)
+    (λ c. rw (sym (c .before .before .stays .ensures), sym (c .before .stays2 .ensures), sym (c .both .ensures))))

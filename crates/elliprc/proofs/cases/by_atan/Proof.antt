@@ -6,4 +6,5 @@ use Rattle.elliprc.proofs.cases.by_atan.Tie as tie
 
 pub by-atan-spec : {M : Type 1} → statement M
 unfolding byAtan
-by-atan-spec = tie.close (tie.spec (λ c κs. tt) (λ c κs. tt) (λ c κs. tt) (λ c. rw (sym (c .before .before .sqrt .ensures), sym (c .before .atan .ensures), sym (c .sqrt2 .ensures))))
+by-atan-spec = tie.close (tie.spec (λ c κs. tt) (λ c κs. tt) (λ c κs. tt)
+    (λ c. rw (sym (c .before .before .sqrt .ensures), sym (c .before .atan .ensures), sym (c .sqrt2 .ensures))))

@@ -15,6 +15,16 @@ cases-spec =
     (λ c κs. tt)
     (λ c. rw (c .before .before .before .if1 .left, c .before .before .if2 .left, c .before .if3 .taken) (c .by-atan .ensures))
     (λ c κs. tt)
-    (λ c. rw (c .before .before .before .before .if1 .left, c .before .before .before .if2 .left, c .before .before .if3 .left, c .before .if4 .taken) (c .by-ln-1p .ensures))
+    (λ c. rw (
+      c .before .before .before .before .if1 .left,
+      c .before .before .before .if2 .left,
+      c .before .before .if3 .left,
+      c .before .if4 .taken,
+    ) (c .by-ln-1p .ensures))
     (λ c κs. tt)
-    (λ c. rw (c .before .before .before .before .if1 .left, c .before .before .before .if2 .left, c .before .before .if3 .left, c .before .if4 .left) (c .by-ln .ensures)))
+    (λ c. rw (
+      c .before .before .before .before .if1 .left,
+      c .before .before .before .if2 .left,
+      c .before .before .if3 .left,
+      c .before .if4 .left,
+    ) (c .by-ln .ensures)))

@@ -6,4 +6,10 @@ use Rattle.elliprd.proofs.duplicate.series.Tie as tie
 
 pub series-spec : {M : Type 1} → statement M
 unfolding rdSeries
-series-spec = tie.close (tie.spec (λ c κs. tt) (λ c κs. tt) (λ c κs. tt) (λ c κs. tt) (λ c. rw (sym (c .before .before .before .correction .ensures), sym (c .before .before .correction2 .ensures), sym (c .before .factor .ensures), sym (c .pow-neg-3-2 .ensures))))
+series-spec = tie.close (tie.spec (λ c κs. tt) (λ c κs. tt) (λ c κs. tt) (λ c κs. tt)
+    (λ c. rw (
+      sym (c .before .before .before .correction .ensures),
+      sym (c .before .before .correction2 .ensures),
+      sym (c .before .factor .ensures),
+      sym (c .pow-neg-3-2 .ensures),
+    )))

@@ -43,9 +43,11 @@ loop-again c =
     let l = k .before .loop in
     let a = k .before .before in (
       omega arith,
-      goes-on sumsOf rdTogether (rdAgmFound (a .before .sqrt .result) (a .sqrt2 .result) (a .before .before .args .y) (a .before .before .args .z)) rdAgmSpent 40
+      goes-on sumsOf rdTogether (rdAgmFound (a .before .sqrt .result) (a .sqrt2 .result) (a .before .before .args .y)
+          (a .before .before .args .z)) rdAgmSpent 40
           (rdTogether (l .s)) (rdTogether (c .next-sums .result)) (l .s) (c .next-sums .result) (l .n)
-          (test (k .still-apart .result) (l .s) _ (k .still-apart .ensures) (c .before .before .if1 .taken)) (omega arith) (c .next-sums .ensures) refl (l .inv .1),
+          (test (k .still-apart .result) (l .s) _ (k .still-apart .ensures)
+          (c .before .before .if1 .taken)) (omega arith) (c .next-sums .ensures) refl (l .inv .1),
     )
 
 returns : tie.Need-returns Inv-loop μ-loop
@@ -54,7 +56,8 @@ returns c =
     let l = k .before .loop in
     let a = k .before .before in
     let b = a .before .before .args in
-    ends-spent sumsOf rdTogether (rdAgmFound (a .before .sqrt .result) (a .sqrt2 .result) (b .y) (b .z)) rdAgmSpent 40 (rdTogether (l .s)) (l .s) (l .n)
+    ends-spent sumsOf rdTogether (rdAgmFound (a .before .sqrt .result) (a .sqrt2 .result) (b .y) (b .z)) rdAgmSpent 40 (rdTogether (l .s)) (l .s)
+    (l .n)
     (test (k .still-apart .result) (l .s) _ (k .still-apart .ensures) (c .before .if1 .taken)) (c .if2 .taken) (l .inv .1)
     ∙ whole (b .y) (b .z) _ _ (a .before .sqrt .ensures) (a .sqrt2 .ensures)
 
@@ -65,7 +68,8 @@ returns-2 c =
     let a = k .before .before in
     let b = a .before .before .args in
     ap Value (c .agm .ensures ∙ ap (λ (v : Float). countedAt v (l .n)) (c .before .value-of .ensures))
-    ∙ ends-found sumsOf rdTogether (rdAgmFound (a .before .sqrt .result) (a .sqrt2 .result) (b .y) (b .z)) rdAgmSpent (40 - l .n) (rdTogether (l .s)) (l .s) (l .n)
+    ∙ ends-found sumsOf rdTogether (rdAgmFound (a .before .sqrt .result) (a .sqrt2 .result) (b .y) (b .z)) rdAgmSpent (40 - l .n)
+    (rdTogether (l .s)) (l .s) (l .n)
     (test (k .still-apart .result) (l .s) _ (k .still-apart .ensures) (c .before .before .if1 .left)) (l .inv .1)
     ∙ whole (b .y) (b .z) _ _ (a .before .sqrt .ensures) (a .sqrt2 .ensures)
 

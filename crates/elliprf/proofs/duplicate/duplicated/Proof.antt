@@ -29,7 +29,8 @@ loop-again c =
     let a = c .before .before .before .before .before in
     let s = c .before .before .step in (
       omega arith,
-      goes-on rfStep rfClose (rfFound (a .before .args .x) (a .before .args .y) (a .begin .result .an)) rfSpent 11 false false (l .at) (s .result) (l .n) refl (omega arith)
+      goes-on rfStep rfClose (rfFound (a .before .args .x) (a .before .args .y) (a .begin .result .an)) rfSpent 11 false false (l .at)
+          (s .result) (l .n) refl (omega arith)
           (s .ensures) (sym (c .if2 .left) ∙ c .before .close .ensures) (l .inv .1),
     )
 
@@ -54,7 +55,8 @@ returns-2 c =
     let f = rfFound x y (a .begin .result .an) in
     c .duplication2 .ensures ∙ ap (λ (v : Float). countedAt v (l .n + 1)) (c .before .series .ensures)
     ∙ ends-found rfStep rfClose f rfSpent (11 - (l .n + 1)) (k .close .result) (s .result) (l .n + 1) (c .before .before .if2 .taken)
-    (goes-on rfStep rfClose f rfSpent 11 false (k .close .result) (l .at) (s .result) (l .n) refl (omega arith) (s .ensures) (k .close .ensures) (l .inv .1))
+    (goes-on rfStep rfClose f rfSpent 11 false (k .close .result) (l .at) (s .result) (l .n) refl (omega arith) (s .ensures) (k .close .ensures)
+    (l .inv .1))
     ∙ whole x y (a .before .args .z) (a .begin .result) (a .begin .ensures)
 
 pub duplicated-spec : {M : Type 1} → statement M

@@ -40,7 +40,8 @@ loop-again c =
     let l = k .before .loop in (
       omega arith,
       goes-on meansOf together agmCount agmCount 11 (together (l .m)) (together (c .next-means .result)) (l .m) (c .next-means .result) (l .n)
-          (test (k .still-apart .result) (l .m) _ (k .still-apart .ensures) (c .before .before .if1 .taken)) (omega arith) (c .next-means .ensures) refl (l .inv .1),
+          (test (k .still-apart .result) (l .m) _ (k .still-apart .ensures)
+          (c .before .before .if1 .taken)) (omega arith) (c .next-means .ensures) refl (l .inv .1),
     )
 
 returns : tie.Need-returns Inv-loop μ-loop
@@ -51,7 +52,8 @@ returns c =
     let b = a .before .before .args in
     c .agm .ensures ∙ ap (λ (v : Float). countedAt v (l .n)) (c .before .value-of .ensures)
     ∙ ends-spent meansOf together agmCount agmCount 11 (together (l .m)) (l .m) (l .n)
-    (test (k .still-apart .result) (l .m) _ (k .still-apart .ensures) (c .before .before .before .if1 .taken)) (c .before .before .if2 .taken) (l .inv .1)
+    (test (k .still-apart .result) (l .m) _ (k .still-apart .ensures) (c .before .before .before .if1 .taken)) (c .before .before .if2 .taken)
+    (l .inv .1)
     ∙ whole (b .x) (b .y) _ (started (b .x) (b .y) _ _ (a .before .sqrt .ensures) (a .sqrt2 .ensures))
 
 returns-2 : tie.Need-returns-2 Inv-loop μ-loop

@@ -6,4 +6,5 @@ use Rattle.elliprg.proofs.sorting.sorted.Tie as tie
 
 pub sorted-spec : {M : Type 1} → statement M
 unfolding sortedOf
-sorted-spec = tie.close (tie.spec (λ c κs. tt) (λ c κs. tt) (λ c κs. tt) (λ c. rw (sym (c .before .before .sort-xy .ensures), sym (c .before .sort-xz .ensures), sym (c .sort-yz .ensures))))
+sorted-spec = tie.close (tie.spec (λ c κs. tt) (λ c κs. tt) (λ c κs. tt)
+    (λ c. rw (sym (c .before .before .sort-xy .ensures), sym (c .before .sort-xz .ensures), sym (c .sort-yz .ensures))))

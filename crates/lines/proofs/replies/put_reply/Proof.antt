@@ -16,7 +16,8 @@ use Rattle.calls.specs.declared.Line.the-variants.{Good, Bad}
 use Rattle.lines.proofs.replies.put_reply.Statement.{statement}
 use Rattle.lines.proofs.replies.put_reply.Tie as tie
 
-good : (l o out : List ℕ) (at next : ℕ) (c : Call) (a : Answer) → callOf l ≡ Good c → a ≡ answerOf c → Put o at (textOf c a) out next → Put o at (replyOf l) out next
+good : (l o out : List ℕ) (at next : ℕ) (c : Call) (a : Answer) → callOf l ≡ Good c → a ≡ answerOf c → Put o at (textOf c a) out next
+    → Put o at (replyOf l) out next
 unfolding replyOf replyTo
 good l o out at next c a e f p = rw e (rw f at p)
 
@@ -29,7 +30,8 @@ returns c =
     let k = c .before .before in
     let a = k .before .before in
     let g = a .before .before in
-    good _ _ _ _ _ _ _ (sym (g .before .before .call-of .ensures) ∙ g .call .given .1) (a .answer-of .ensures) (tried-put (omega arith) (k .put-answer .ensures))
+    good _ _ _ _ _ _ _ (sym (g .before .before .call-of .ensures) ∙ g .call .given .1) (a .answer-of .ensures)
+    (tried-put (omega arith) (k .put-answer .ensures))
 
 returns-2 : tie.Need-returns-2
 returns-2 c =

@@ -32,7 +32,8 @@ returns c =
     let f = c .feed-all .ensures in
     let held : length (now (s .args .held)) ≡ 71 = search needs in
     let full : length (now (s .args .out)) ≡ 65536 = search needs in
-    let most : c .feed-all .result .used ≤ length (c .feed-all .last .1 .1 .1 .0) = omega (arith, put-length (f .0 .said), f .1, length-take-le (k .least .result) (now (s .args .block)) (k .least .ensures .0)) in
+    let most : c .feed-all .result .used ≤ length (c .feed-all .last .1 .1 .1 .0) = omega
+    (arith, put-length (f .0 .said), f .1, length-take-le (k .least .result) (now (s .args .block)) (k .least .ensures .0)) in
     (cut _ _ _ _ _ _ _ _ _ _ held (a .least2 .ensures .2) (k .least .ensures .2) (f .0), (most, sym (length-take-le _ _ most)))
 
 pub feed-spec : {M : Type 1} → statement M

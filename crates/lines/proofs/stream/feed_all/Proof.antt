@@ -28,9 +28,11 @@ nothing held after before n h e = record { rest = e; few = h; said = record { by
 one-more :
     (block held middle after before half out : List ℕ) (i m h n next : ℕ) → i < length block → Fed held (take i block) middle before 0 half m h
     → Fed (take m middle) (getD block i 0 ∷ []) after half h out n next → Fed held (take (i + 1) block) after before 0 out n next
-one-more block held middle after before half out i m h n next k p q = rw (add-one, take-suc block i 0 k) (fed-more (take i block) (getD block i 0 ∷ []) p q)
+one-more block held middle after before half out i m h n next k p q = rw (add-one, take-suc block i 0 k)
+    (fed-more (take i block) (getD block i 0 ∷ []) p q)
 
-all-of : (block held after before out : List ℕ) (i n next : ℕ) → length block ≤ i → Fed held (take i block) after before 0 out n next → Fed held block after before 0 out n next
+all-of : (block held after before out : List ℕ) (i n next : ℕ) → length block ≤ i → Fed held (take i block) after before 0 out n next
+    → Fed held block after before 0 out n next
 all-of block held after before out i n next h p = rw (take-all i block h) at p
 
 -- what a step wrote is at most 31 bytes

@@ -18,8 +18,10 @@ returns c =
     let p = c .last .ensures in
     let held : length (now (s .args .held)) ≡ 71 = search needs in
     let full : length (now (s .args .out)) ≡ 65536 = search needs in
-    let most : c .last .result ≤ length (c .last .last .1 .1 .0) = omega (arith, put-length (p .0), p .1) in
-    (rw (take-least (now (s .args .held)) 71 (s .args .n) (l .least .result) held (l .least .ensures .2)) at (p .0), (most, sym (length-take-le _ _ most)))
+    let most : c .last .result ≤ length (c .last .last .1 .1 .0) = omega (arith, put-length (p .0), p .1) in (
+      rw (take-least (now (s .args .held)) 71 (s .args .n) (l .least .result) held (l .least .ensures .2)) at (p .0),
+      (most, sym (length-take-le _ _ most)),
+    )
 
 pub finish-spec : {M : Type 1} → statement M
 finish-spec = tie.close (tie.spec (λ c κs. search needs) (λ c κs. search needs) returns)

@@ -29,10 +29,13 @@ returns-2 : tie.Need-returns-2
 returns-2 c =
     let k = c .before .before in
     let s = k .before .before .before .before .before .before in
-    let p = k .put-reply .ensures in
-    (rw (some (now (s .args .held)) (s .args .n) (k .before .before .before .if1 .left) (s .pre .0)) p, omega (arith, p .place, reply-length (take (s .args .n) (now (s .args .held)))))
+    let p = k .put-reply .ensures in (
+      rw (some (now (s .args .held)) (s .args .n) (k .before .before .before .if1 .left) (s .pre .0)) p,
+      omega (arith, p .place, reply-length (take (s .args .n) (now (s .args .held)))),
+    )
 
 pub last-spec : {M : Type 1} → statement M
 last-spec =
     tie.close
-    (tie.spec (λ c. (none _ _ _ (c .if1 .taken), omega arith)) (λ c. sym (length-take-le _ _ (omega arith))) (λ c κs. search needs) (λ c. search needs) returns-2)
+    (tie.spec (λ c. (none _ _ _ (c .if1 .taken), omega arith)) (λ c. sym (length-take-le _ _ (omega arith))) (λ c κs. search needs)
+    (λ c. search needs) returns-2)

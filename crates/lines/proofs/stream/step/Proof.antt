@@ -19,7 +19,8 @@ use Rattle.lines.proofs.stream.step.Statement.{statement}
 use Rattle.lines.proofs.stream.step.Tie as tie
 
 -- the line has ended
-ended : (held after before out : List ℕ) (b at next : ℕ) → b ≡ 10 → Put before at (replyOf held) out next → Fed held (b ∷ []) after before at out 0 next
+ended : (held after before out : List ℕ) (b at next : ℕ) → b ≡ 10 → Put before at (replyOf held) out next
+    → Fed held (b ∷ []) after before at out 0 next
 unfolding restOf saidOf heldAfter saidAt
 ended held after before out b at next e p = record {
   rest = rw (eq-eqb b 10 e);
@@ -66,7 +67,8 @@ returns-2 : tie.Need-returns-2
 returns-2 c =
     let k = c .before .before in
     let s = k .before .before .before .before .before in
-    goes-on (now (s .args .held)) _ _ _ _ (s .args .n) _ (s .pre .0) (s .pre .1 .0) (k .before .before .if1 .left) (k .push .ensures .0) (k .push .ensures .1)
+    goes-on (now (s .args .held)) _ _ _ _ (s .args .n) _ (s .pre .0) (s .pre .1 .0) (k .before .before .if1 .left) (k .push .ensures .0)
+    (k .push .ensures .1)
 
 pub step-spec : {M : Type 1} → statement M
 step-spec =

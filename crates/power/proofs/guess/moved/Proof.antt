@@ -40,7 +40,8 @@ shr-result : tie.Need-shr-result
 shr-result c = search needs
 
 add-result-2 : tie.Need-add-result-2
-add-result-2 c = let a = c .before .before .args in record { fits = omega (arith, shr-le (a .b % 2 ^ 52 + 2 ^ 52) (3 * a .y - (a .b / 2 ^ 52 + 3066))) }
+add-result-2 c = let a = c .before .before .args in
+    record { fits = omega (arith, shr-le (a .b % 2 ^ 52 + 2 ^ 52) (3 * a .y - (a .b / 2 ^ 52 + 3066))) }
 
 returns-4 : tie.Need-returns-4
 returns-4 c = search needs

@@ -32,7 +32,8 @@ loop-again c =
     let a = c .before .before .before .before .before in
     let b = a .before .before .before .args in (
       omega arith,
-      goes-on (jointNext (b .x) (b .y) (a .before .before .mean-of .result) (a .before .mean-of2 .result)) allDone rfRdOf rfRdOf 50 false false (l .at) (s .result) (l .n)
+      goes-on (jointNext (b .x) (b .y) (a .before .before .mean-of .result) (a .before .mean-of2 .result)) allDone rfRdOf rfRdOf 50 false false
+          (l .at) (s .result) (l .n)
           refl (omega arith) (s .ensures) (sym (c .if2 .left) ∙ c .before .all-done .ensures) (l .inv .1),
     )
 
@@ -44,7 +45,8 @@ returns c =
     let r = a .before .before .mean-of in
     let d = a .before .mean-of2 in
     c .result .ensures
-    ∙ ends-spent (jointNext (b .x) (b .y) (r .result) (d .result)) allDone rfRdOf rfRdOf 50 false (l .at) (l .n) refl (c .before .if1 .taken) (l .inv .1)
+    ∙ ends-spent (jointNext (b .x) (b .y) (r .result) (d .result)) allDone rfRdOf rfRdOf 50 false (l .at) (l .n) refl (c .before .if1 .taken)
+    (l .inv .1)
     ∙ whole (b .x) (b .y) (b .z) (r .result) (d .result) (a .begin .result) (r .ensures) (d .ensures) (a .begin .ensures)
 
 returns-2 : tie.Need-returns-2 Inv-loop μ-loop
@@ -59,7 +61,8 @@ returns-2 c =
     let f = jointNext (b .x) (b .y) (r .result) (d .result) in
     c .result2 .ensures
     ∙ ends-found f allDone rfRdOf rfRdOf (50 - (l .n + 1)) (k .all-done .result) (s .result) (l .n + 1) (c .before .if2 .taken)
-    (goes-on f allDone rfRdOf rfRdOf 50 false (k .all-done .result) (l .at) (s .result) (l .n) refl (omega arith) (s .ensures) (k .all-done .ensures) (l .inv .1))
+    (goes-on f allDone rfRdOf rfRdOf 50 false (k .all-done .result) (l .at) (s .result) (l .n) refl (omega arith) (s .ensures)
+    (k .all-done .ensures) (l .inv .1))
     ∙ whole (b .x) (b .y) (b .z) (r .result) (d .result) (a .begin .result) (r .ensures) (d .ensures) (a .begin .ensures)
 
 pub elliprf-rd-unchecked-spec : {M : Type 1} → statement M

@@ -6,4 +6,5 @@ use Rattle.rgjoint.proofs.joint.rd_begin.Tie as tie
 
 pub rd-begin-spec : {M : Type 1} → statement M
 unfolding rdBegun
-rd-begin-spec = tie.close (tie.spec (λ c κs. tt) (λ c κs. tt) (λ c κs. tt) (λ c. rw (sym (c .before .before .mean-of .ensures), sym (c .before .start-of .ensures), sym (c .not-a-number .ensures))))
+rd-begin-spec = tie.close (tie.spec (λ c κs. tt) (λ c κs. tt) (λ c κs. tt)
+    (λ c. rw (sym (c .before .before .mean-of .ensures), sym (c .before .start-of .ensures), sym (c .not-a-number .ensures))))

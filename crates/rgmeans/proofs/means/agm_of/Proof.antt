@@ -17,7 +17,8 @@ use Rattle.rgmeans.proofs.means.agm_of.Tie as tie
 abbrev Inv-loop : tie.InvT-loop
 Inv-loop x z s₀ n₀ s n =
     (n ≤ 40)
-    × (capped rgNext rgTogether rgAgmFound rgAgmSpent (40 - n) (rgTogether s) s n ≡ capped rgNext rgTogether rgAgmFound rgAgmSpent 40 (rgTogether s₀) s₀ 0)
+    × (capped rgNext rgTogether rgAgmFound rgAgmSpent (40 - n) (rgTogether s) s n
+    ≡ capped rgNext rgTogether rgAgmFound rgAgmSpent 40 (rgTogether s₀) s₀ 0)
 
 abbrev μ-loop : tie.MeasureT-loop
 μ-loop x z s₀ n₀ s n = 40 - n
@@ -37,7 +38,8 @@ loop-again c =
     let l = k .before .loop in (
       omega arith,
       goes-on rgNext rgTogether rgAgmFound rgAgmSpent 40 (rgTogether (l .s)) (rgTogether (c .next-sums .result)) (l .s) (c .next-sums .result) (l .n)
-          (test (k .still-apart .result) (l .s) _ (k .still-apart .ensures) (c .before .before .if1 .taken)) (omega arith) (c .next-sums .ensures) refl (l .inv .1),
+          (test (k .still-apart .result) (l .s) _ (k .still-apart .ensures)
+          (c .before .before .if1 .taken)) (omega arith) (c .next-sums .ensures) refl (l .inv .1),
     )
 
 returns : tie.Need-returns Inv-loop μ-loop

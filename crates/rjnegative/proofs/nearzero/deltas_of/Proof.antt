@@ -6,4 +6,5 @@ use Rattle.rjnegative.proofs.nearzero.deltas_of.Tie as tie
 
 pub deltas-of-spec : {M : Type 1} → statement M
 unfolding deltasOf
-deltas-of-spec = tie.close (tie.spec (λ c κs. tt) (λ c κs. tt) (λ c κs. tt) (λ c. rw (sym (c .before .before .mul-add .ensures), sym (c .before .mul-add2 .ensures), sym (c .mul-add3 .ensures))))
+deltas-of-spec = tie.close (tie.spec (λ c κs. tt) (λ c κs. tt) (λ c κs. tt)
+    (λ c. rw (sym (c .before .before .mul-add .ensures), sym (c .before .mul-add2 .ensures), sym (c .mul-add3 .ensures))))

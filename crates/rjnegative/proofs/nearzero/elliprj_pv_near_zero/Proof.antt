@@ -15,5 +15,17 @@ elliprj-pv-near-zero-spec =
     (λ c κs. tt)
     (λ c κs. tt)
     (λ c κs. tt)
-    (λ c. rw (root-epsilon, sym (c .before .before .before .before .before .far-off .ensures) ∙ c .before .before .before .before .if1 .left, sym (c .before .before .before .deltas-of .ensures), sym (c .before .before .largest .ensures), c .before .if2 .taken) (ap Taylor (c .value-of .ensures)))
-    (λ c. rw (root-epsilon, sym (c .before .before .before .before .far-off .ensures) ∙ c .before .before .before .if1 .left, sym (c .before .before .deltas-of .ensures), sym (c .before .largest .ensures), c .if2 .left)))
+    (λ c. rw (
+      root-epsilon,
+      sym (c .before .before .before .before .before .far-off .ensures) ∙ c .before .before .before .before .if1 .left,
+      sym (c .before .before .before .deltas-of .ensures),
+      sym (c .before .before .largest .ensures),
+      c .before .if2 .taken,
+    ) (ap Taylor (c .value-of .ensures)))
+    (λ c. rw (
+      root-epsilon,
+      sym (c .before .before .before .before .far-off .ensures) ∙ c .before .before .before .if1 .left,
+      sym (c .before .before .deltas-of .ensures),
+      sym (c .before .largest .ensures),
+      c .if2 .left,
+    )))

@@ -6,4 +6,11 @@ use Rattle.rjnegative.proofs.nearzero.largest.Tie as tie
 
 pub largest-spec : {M : Type 1} → statement M
 unfolding largestOf
-largest-spec = tie.close (tie.spec (λ c κs. tt) (λ c κs. tt) (λ c κs. tt) (λ c κs. tt) (λ c κs. tt) (λ c. rw (sym (c .before .before .before .before .abs .ensures), sym (c .before .before .before .abs2 .ensures), sym (c .before .before .max .ensures), sym (c .before .abs3 .ensures), sym (c .max2 .ensures))))
+largest-spec = tie.close (tie.spec (λ c κs. tt) (λ c κs. tt) (λ c κs. tt) (λ c κs. tt) (λ c κs. tt)
+    (λ c. rw (
+      sym (c .before .before .before .before .abs .ensures),
+      sym (c .before .before .before .abs2 .ensures),
+      sym (c .before .before .max .ensures),
+      sym (c .before .abs3 .ensures),
+      sym (c .max2 .ensures),
+    )))

@@ -6,4 +6,11 @@ use Rattle.rjnegative.proofs.nearzero.value_of.Tie as tie
 
 pub value-of-spec : {M : Type 1} → statement M
 unfolding taylorOf
-value-of-spec = tie.close (tie.spec (λ c κs. tt) (λ c κs. tt) (λ c κs. tt) (λ c κs. tt) (λ c κs. tt) (λ c. rw (sym (c .before .before .before .before .before .before .before .linear .ensures), sym (c .before .before .before .before .before .before .linear-error .ensures), sym (c .before .before .quadratic .ensures), sym (c .before .cubic .ensures), sym (c .sqrt .ensures))))
+value-of-spec = tie.close (tie.spec (λ c κs. tt) (λ c κs. tt) (λ c κs. tt) (λ c κs. tt) (λ c κs. tt)
+    (λ c. rw (
+      sym (c .before .before .before .before .before .before .before .linear .ensures),
+      sym (c .before .before .before .before .before .before .linear-error .ensures),
+      sym (c .before .before .quadratic .ensures),
+      sym (c .before .cubic .ensures),
+      sym (c .sqrt .ensures),
+    )))

@@ -6,4 +6,5 @@ use Rattle.rjnegative.proofs.reduction.risen.Tie as tie
 
 pub risen-spec : {M : Type 1} → statement M
 unfolding rising
-risen-spec = tie.close (tie.spec (λ c κs. tt) (λ c κs. tt) (λ c κs. tt) (λ c. rw (sym (c .before .before .sort-xy .ensures), sym (c .before .sort-yz .ensures), sym (c .sort-xy2 .ensures))))
+risen-spec = tie.close (tie.spec (λ c κs. tt) (λ c κs. tt) (λ c κs. tt)
+    (λ c. rw (sym (c .before .before .sort-xy .ensures), sym (c .before .sort-yz .ensures), sym (c .sort-xy2 .ensures))))

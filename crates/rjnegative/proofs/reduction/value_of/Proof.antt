@@ -6,4 +6,5 @@ use Rattle.rjnegative.proofs.reduction.value_of.Tie as tie
 
 pub value-of-spec : {M : Type 1} → statement M
 unfolding reducedValue
-value-of-spec = tie.close (tie.spec (λ c κs. tt) (λ c κs. tt) (λ c. rw (sym (c .before .before .before .before .elliprc-unchecked .ensures), sym (c .before .sqrt .ensures))))
+value-of-spec = tie.close (tie.spec (λ c κs. tt) (λ c κs. tt)
+    (λ c. rw (sym (c .before .before .before .before .elliprc-unchecked .ensures), sym (c .before .sqrt .ensures))))

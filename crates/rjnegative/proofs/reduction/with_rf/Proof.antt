@@ -6,4 +6,5 @@ use Rattle.rjnegative.proofs.reduction.with_rf.Tie as tie
 
 pub with-rf-spec : {M : Type 1} → statement M
 unfolding reducedFound
-with-rf-spec = tie.close (tie.spec (λ c κs. tt) (λ c κs. tt) (λ c κs. tt) (λ c. rw (sym (c .before .before .value-of .ensures), sym (c .before .wrapping-add-u32 .ensures), sym (c .reduction .ensures))))
+with-rf-spec = tie.close (tie.spec (λ c κs. tt) (λ c κs. tt) (λ c κs. tt)
+    (λ c. rw (sym (c .before .before .value-of .ensures), sym (c .before .wrapping-add-u32 .ensures), sym (c .reduction .ensures))))

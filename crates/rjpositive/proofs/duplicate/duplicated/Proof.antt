@@ -14,7 +14,8 @@ use Rattle.rjpositive.proofs.duplicate.duplicated.Tie as tie
 abbrev Inv-loop : tie.InvT-loop
 Inv-loop x y z p at₀ a0 q n₀ at n =
     (n ≤ 100)
-    × (capped rjStep (rjClose q) (rjFound x y z a0) rjSpent (100 - n) false at n ≡ capped rjStep (rjClose q) (rjFound x y z a0) rjSpent 100 false at₀ 0)
+    × (capped rjStep (rjClose q) (rjFound x y z a0) rjSpent (100 - n) false at n
+    ≡ capped rjStep (rjClose q) (rjFound x y z a0) rjSpent 100 false at₀ 0)
 
 abbrev μ-loop : tie.MeasureT-loop
 μ-loop x y z p at₀ a0 q n₀ at n = 100 - n
@@ -31,7 +32,8 @@ loop-again c =
     let a = c .before .before .before .before .before in
     let b = a .before .before .args in (
       omega arith,
-      goes-on rjStep (rjClose (a .start-of .result)) (rjFound (b .x) (b .y) (b .z) (a .before .begin .result .an)) rjSpent 100 false false (l .at) (s .result) (l .n)
+      goes-on rjStep (rjClose (a .start-of .result)) (rjFound (b .x) (b .y) (b .z) (a .before .begin .result .an)) rjSpent 100 false false
+          (l .at) (s .result) (l .n)
           refl (omega arith) (s .ensures) (sym (c .if2 .left) ∙ c .before .close .ensures) (l .inv .1),
     )
 
@@ -58,7 +60,8 @@ returns-2 c =
     let w = rjClose (a .start-of .result) in
     c .duplication2 .ensures ∙ ap (λ (v : Float). countedAt v (l .n + 1)) (c .before .series .ensures)
     ∙ ends-found rjStep w f rjSpent (100 - (l .n + 1)) (k .close .result) (s .result) (l .n + 1) (c .before .before .if2 .taken)
-    (goes-on rjStep w f rjSpent 100 false (k .close .result) (l .at) (s .result) (l .n) refl (omega arith) (s .ensures) (k .close .ensures) (l .inv .1))
+    (goes-on rjStep w f rjSpent 100 false (k .close .result) (l .at) (s .result) (l .n) refl (omega arith) (s .ensures) (k .close .ensures)
+    (l .inv .1))
     ∙ whole (b .x) (b .y) (b .z) (b .p) (a .start-of .result) (g .result) (g .ensures) (a .start-of .ensures)
 
 pub duplicated-spec : {M : Type 1} → statement M

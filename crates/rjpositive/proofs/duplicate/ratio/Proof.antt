@@ -13,4 +13,9 @@ ratio-spec =
     (λ c κs. tt)
     (λ c κs. tt)
     (λ c κs. tt)
-    (λ c. rw (c .before .before .before .before .before .before .if1 .left, sym (c .before .before .before .before .share .ensures), sym (c .before .before .share2 .ensures), sym (c .share3 .ensures))))
+    (λ c. rw (
+      c .before .before .before .before .before .before .if1 .left,
+      sym (c .before .before .before .before .share .ensures),
+      sym (c .before .before .share2 .ensures),
+      sym (c .share3 .ensures),
+    )))

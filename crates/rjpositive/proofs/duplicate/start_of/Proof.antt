@@ -6,4 +6,13 @@ use Rattle.rjpositive.proofs.duplicate.start_of.Tie as tie
 
 pub start-of-spec : {M : Type 1} → statement M
 unfolding rjStart
-start-of-spec = tie.close (tie.spec (λ c κs. tt) (λ c κs. tt) (λ c κs. tt) (λ c κs. tt) (λ c κs. tt) (λ c κs. tt) (λ c κs. tt) (λ c. rw (sym (c .before .before .before .before .before .before .abs .ensures), sym (c .before .before .before .before .before .abs2 .ensures), sym (c .before .before .before .before .max .ensures), sym (c .before .before .before .abs3 .ensures), sym (c .before .before .max2 .ensures), sym (c .before .abs4 .ensures), sym (c .max3 .ensures))))
+start-of-spec = tie.close (tie.spec (λ c κs. tt) (λ c κs. tt) (λ c κs. tt) (λ c κs. tt) (λ c κs. tt) (λ c κs. tt) (λ c κs. tt)
+    (λ c. rw (
+      sym (c .before .before .before .before .before .before .abs .ensures),
+      sym (c .before .before .before .before .before .abs2 .ensures),
+      sym (c .before .before .before .before .max .ensures),
+      sym (c .before .before .before .abs3 .ensures),
+      sym (c .before .before .max2 .ensures),
+      sym (c .before .abs4 .ensures),
+      sym (c .max3 .ensures),
+    )))

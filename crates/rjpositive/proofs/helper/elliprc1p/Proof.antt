@@ -16,8 +16,28 @@ elliprc1p-spec =
     (λ c. rw (sym (c .before .before .before .abs .ensures), c .before .before .if1 .left, c .before .if2 .taken) (c .by-atan .ensures))
     (λ c. rw (sym (c .before .before .before .abs .ensures), c .before .before .if1 .left, c .before .if2 .left, c .if3 .taken))
     (λ c κs. tt)
-    (λ c. rw (sym (c .before .before .before .before .before .abs .ensures), c .before .before .before .before .if1 .left, c .before .before .before .if2 .left, c .before .before .if3 .left, c .before .if4 .taken) (c .by-logs .ensures))
+    (λ c. rw (
+      sym (c .before .before .before .before .before .abs .ensures),
+      c .before .before .before .before .if1 .left,
+      c .before .before .before .if2 .left,
+      c .before .before .if3 .left,
+      c .before .if4 .taken,
+    ) (c .by-logs .ensures))
     (λ c κs. tt)
-    (λ c. rw (sym (c .before .before .before .before .before .before .abs .ensures), c .before .before .before .before .before .if1 .left, c .before .before .before .before .if2 .left, c .before .before .before .if3 .left, c .before .before .if4 .left, c .before .if5 .taken) (c .by-rc .ensures))
+    (λ c. rw (
+      sym (c .before .before .before .before .before .before .abs .ensures),
+      c .before .before .before .before .before .if1 .left,
+      c .before .before .before .before .if2 .left,
+      c .before .before .before .if3 .left,
+      c .before .before .if4 .left,
+      c .before .if5 .taken,
+    ) (c .by-rc .ensures))
     (λ c κs. tt)
-    (λ c. rw (sym (c .before .before .before .before .before .before .abs .ensures), c .before .before .before .before .before .if1 .left, c .before .before .before .before .if2 .left, c .before .before .before .if3 .left, c .before .before .if4 .left, c .before .if5 .left) (c .by-ln .ensures)))
+    (λ c. rw (
+      sym (c .before .before .before .before .before .before .abs .ensures),
+      c .before .before .before .before .before .if1 .left,
+      c .before .before .before .before .if2 .left,
+      c .before .before .before .if3 .left,
+      c .before .before .if4 .left,
+      c .before .if5 .left,
+    ) (c .by-ln .ensures)))

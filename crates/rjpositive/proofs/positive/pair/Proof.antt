@@ -14,8 +14,18 @@ pair-spec =
     (λ c κs. tt)
     (λ c κs. tt)
     (λ c κs. tt)
-    (λ c. rw (c .before .before .before .before .before .if1 .left, sym (c .before .before .before .before .well-apart .ensures) ∙ c .before .before .before .if2 .taken, sym (c .before .before .max .ensures), c .before .if3 .taken) (c .two-equal .ensures))
+    (λ c. rw (
+      c .before .before .before .before .before .if1 .left,
+      sym (c .before .before .before .before .well-apart .ensures) ∙ c .before .before .before .if2 .taken,
+      sym (c .before .before .max .ensures),
+      c .before .if3 .taken,
+    ) (c .two-equal .ensures))
     (λ c κs. tt)
-    (λ c. rw (c .before .before .before .before .before .if1 .left, sym (c .before .before .before .before .well-apart .ensures) ∙ c .before .before .before .if2 .taken, sym (c .before .before .max .ensures), c .before .if3 .left) (c .last .ensures))
+    (λ c. rw (
+      c .before .before .before .before .before .if1 .left,
+      sym (c .before .before .before .before .well-apart .ensures) ∙ c .before .before .before .if2 .taken,
+      sym (c .before .before .max .ensures),
+      c .before .if3 .left,
+    ) (c .last .ensures))
     (λ c κs. tt)
     (λ c. rw (c .before .before .before .if1 .left, sym (c .before .before .well-apart .ensures) ∙ c .before .if2 .left) (c .last2 .ensures)))

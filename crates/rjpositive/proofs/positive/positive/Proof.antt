@@ -13,9 +13,19 @@ positive-spec =
     (λ c. rw (c .before .before .before .if1 .taken, c .before .before .if2 .taken, c .before .if3 .taken) (c .all-equal .ensures))
     (λ c κs. tt)
     (λ c κs. tt)
-    (λ c. rw (c .before .before .before .before .before .if1 .taken, c .before .before .before .before .if2 .taken, c .before .before .before .if3 .left, sym (c .before .before .well-apart .ensures) ∙ c .before .if4 .taken) (c .three-equal .ensures))
+    (λ c. rw (
+      c .before .before .before .before .before .if1 .taken,
+      c .before .before .before .before .if2 .taken,
+      c .before .before .before .if3 .left,
+      sym (c .before .before .well-apart .ensures) ∙ c .before .if4 .taken,
+    ) (c .three-equal .ensures))
     (λ c κs. tt)
-    (λ c. rw (c .before .before .before .before .before .if1 .taken, c .before .before .before .before .if2 .taken, c .before .before .before .if3 .left, sym (c .before .before .well-apart .ensures) ∙ c .before .if4 .left) (c .cases .ensures))
+    (λ c. rw (
+      c .before .before .before .before .before .if1 .taken,
+      c .before .before .before .before .if2 .taken,
+      c .before .before .before .if3 .left,
+      sym (c .before .before .well-apart .ensures) ∙ c .before .if4 .left,
+    ) (c .cases .ensures))
     (λ c κs. tt)
     (λ c. rw (c .before .before .if1 .taken, c .before .if2 .left) (c .cases2 .ensures))
     (λ c κs. tt)

@@ -56,8 +56,13 @@ loop-again-2 c =
     let l = c .before .before .before .loop in
     let s = known (c .before .before) in
     let e : l .low + 1 * 2 ^ (l .turns - 1) % 2 ^ 64 ≡ l .low + 2 ^ (l .turns - 1) = omega arith in
-    let n = c .before .before .before .before .args .n in
-    (omega arith, omega arith, l .inv .2, subst (λ (z : ℕ). n * 2 ^ 52 ≤ z * (z + 1)) e (ltb-false _ _ (sym (c .before .above .ensures) ∙ c .if1 .left)))
+    let n = c .before .before .before .before .args .n in (
+      omega arith,
+      omega arith,
+      l .inv .2,
+      subst (λ (z : ℕ). n * 2 ^ 52
+          ≤ z * (z + 1)) e (ltb-false _ _ (sym (c .before .above .ensures) ∙ c .if1 .left)),
+    )
 
 add-result : tie.Need-add-result Inv-loop μ-loop
 add-result c = let l = c .before .loop in record { fits = omega (arith, l .inv .1) }

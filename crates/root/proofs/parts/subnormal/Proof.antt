@@ -34,7 +34,8 @@ loop-again : tie.Need-loop-again Inv-loop μ-loop
 loop-again c = let l = c .before .loop in (step (l .n) (l .y) (more c) ∙ l .inv .0, omega arith, omega arith)
 
 returns : tie.Need-returns Inv-loop μ-loop
-returns c = let l = c .before .loop in let a = c .before .before in subnormal-is (a .args .b) (l .n) (l .y) (a .pre .1) (l .inv .0) (omega arith) (l .inv .1) (l .inv .2)
+returns c = let l = c .before .loop in let a = c .before .before in
+    subnormal-is (a .args .b) (l .n) (l .y) (a .pre .1) (l .inv .0) (omega arith) (l .inv .1) (l .inv .2)
 
 pub subnormal-spec : {M : Type 1} → statement M
 subnormal-spec =

@@ -14,7 +14,8 @@ put-number-requires c κs =
 
 returns : tie.Need-returns
 unfolding refusedText
-returns c = put-more (tried-put (omega arith) (c .before .before .before .before .before .before .put-text .ensures)) (c .before .before .put-number .ensures)
+returns c = put-more (tried-put (omega arith) (c .before .before .before .before .before .before .put-text .ensures))
+    (c .before .before .put-number .ensures)
 
 pub put-refused-spec : {M : Type 1} → statement M
 put-refused-spec = tie.close (tie.spec (λ c. search needs) (λ c κs. search needs) put-number-requires (λ c. put-length (returns c)) returns)

@@ -11,7 +11,8 @@ use Rattle.writing.proofs.room.has_room.Tie as tie
 
 moved : (at room l : ℕ) → at ≤ l → leb room (l - at) ≡ leb (at + room) l
 moved at room l h =
-    ⊎-elim (λ k. rw (lt-leb room (l - at) k, lt-leb (at + room) l (omega arith))) (λ k. rw (le-leb room (l - at) k, le-leb (at + room) l (omega arith)))
+    ⊎-elim (λ k. rw (lt-leb room (l - at) k, lt-leb (at + room) l (omega arith)))
+    (λ k. rw (le-leb room (l - at) k, le-leb (at + room) l (omega arith)))
     (lt-or-le (l - at) room)
 
 pub has-room-spec : {M : Type 1} → statement M

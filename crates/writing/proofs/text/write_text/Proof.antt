@@ -1,4 +1,5 @@
--- `write_text` meets its contract. The invariant: what is left of the text, written where the loop stands, gives what all of it gives. Assumes nothing.
+-- `write_text` meets its contract. The invariant: what is left of the text, written where the loop stands, gives what all of it gives.
+-- Assumes nothing.
 use Prim.Native.Nat.{ℕ, _+_, _-_, _≤_, _<_}
 use mathlib.Core.Path.{_≡_, refl, sym, _∙_}
 use mathlib.Core.List.{List, []}
