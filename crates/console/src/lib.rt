@@ -1,8 +1,8 @@
-// Standard input to standard output, for the programs of the swing's lines: what is written is swinglines' to say.
+// Standard input to standard output, for the programs of the swing's lines: what is written is swing_stream' to say.
 use libc::STDERR_FILENO;
 use libc::STDIN_FILENO;
 use libc::STDOUT_FILENO;
-use swinglines::State;
+use swing_stream::State;
 ghost use Rattle.io.specs.Counts.{Counts};
 
 // What a read led to.
@@ -37,7 +37,7 @@ fn read_some(state: State, out: &mut [u8; 65536]) -> Turn {
         return Turn::End;
     }
     let size = io::count(got, &block);
-    let fed = swinglines::feed(&block[..size], state, out);
+    let fed = swing_stream::feed(&block[..size], state, out);
     if written(out, fed.used) {
         let after = fed.state;
         return Turn::On(after);
@@ -47,7 +47,7 @@ fn read_some(state: State, out: &mut [u8; 65536]) -> Turn {
 
 // Replies to what is left at the input's end.
 fn end(state: State, out: &mut [u8; 65536]) {
-    let used = swinglines::finish(state, out);
+    let used = swing_stream::finish(state, out);
     written(out, used);
 }
 

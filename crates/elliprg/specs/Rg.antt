@@ -10,8 +10,8 @@ use Rattle.carlson.specs.Answer.{closedAt, settledLate}
 use Rattle.carlson.specs.declared.answer.Answer.{Answer}
 use Rattle.carlson.specs.declared.answer.Answer.the-variants.{Value, Refused}
 use Rattle.elliprc.specs.Rc.{rcUnchecked}
-use Rattle.rgmeans.specs.Means.{rgAgmOf}
-use Rattle.rgjoint.specs.Joint.{rgJoint}
+use Rattle.rg_means.specs.Means.{rgAgmOf}
+use Rattle.rg_joint.specs.Joint.{rgJoint}
 use Rattle.elliprg.specs.Sorting.{sortedOf}
 
 -- ---- special cases (DLMF 19.20(ii))

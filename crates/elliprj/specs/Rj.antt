@@ -11,11 +11,11 @@ use Rattle.carlson.specs.Answer.{closedAt, infiniteAt, settled}
 use Rattle.carlson.specs.declared.answer.Answer.{Answer}
 use Rattle.carlson.specs.declared.answer.Answer.the-variants.{Value, Refused}
 use Rattle.elliprd.specs.Rd.{overScale}
-use Rattle.rjpositive.specs.Positive.{rjPositive}
-use Rattle.rjnegative.specs.declared.nearzero.Near.{Near}
-use Rattle.rjnegative.specs.declared.nearzero.Near.the-variants.{Taylor, Far}
-use Rattle.rjnegative.specs.NearZero.{nearZero}
-use Rattle.rjnegative.specs.Reduction.{rising, reduceOf, reducedAnswer}
+use Rattle.rj_positive.specs.Positive.{rjPositive}
+use Rattle.rj_negative.specs.declared.nearzero.Near.{Near}
+use Rattle.rj_negative.specs.declared.nearzero.Near.the-variants.{Taylor, Far}
+use Rattle.rj_negative.specs.NearZero.{nearZero}
+use Rattle.rj_negative.specs.Reduction.{rising, reduceOf, reducedAnswer}
 use Rattle.elliprj.specs.declared.plan.Plan.{Plan}
 use Rattle.elliprj.specs.declared.plan.Plan.the-variants.{Done, Rescale, Reduce}
 

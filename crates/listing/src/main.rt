@@ -36,7 +36,7 @@ fn read_some(held: &mut [u8; 71], n: usize, out: &mut [u8; 65536]) -> Turn {
         return Turn::End;
     }
     let size = io::count(got, &block);
-    let fed = lines::feed(&block[..size], held, n, out);
+    let fed = listing_stream::feed(&block[..size], held, n, out);
     if written(out, fed.used) {
         return Turn::Held(fed.held);
     }
@@ -45,7 +45,7 @@ fn read_some(held: &mut [u8; 71], n: usize, out: &mut [u8; 65536]) -> Turn {
 
 // Replies to what is held at the input's end.
 fn end(held: &[u8; 71], n: usize, out: &mut [u8; 65536]) {
-    let used = lines::finish(held, n, out);
+    let used = listing_stream::finish(held, n, out);
     written(out, used);
 }
 

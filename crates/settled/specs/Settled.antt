@@ -16,9 +16,9 @@ use Rattle.elliprf.specs.Rf.{rf, rfUnchecked, rfSteps, allEqual, oneZero}
 use Rattle.elliprd.specs.Rd.{rd, rdUnchecked, rdSteps, rdOrdered, rdEqual, rdSettled}
 use Rattle.elliprg.specs.Sorting as order
 use Rattle.elliprg.specs.Rg.{rg, rgUnchecked, rgSteps, rgSorted, rgLow, rgAlone, rgSettled}
-use Rattle.rjpositive.specs.Positive.{rjAll, rjPositive}
-use Rattle.rjnegative.specs.Reduction.{sortXY, sortYZ, rising}
-use Rattle.rjnegative.specs.NearZero.{largestOf, distant, deltasOf, linearOf, errorOf, quadraticOf, cubicOf, taylorOf, nearZero}
+use Rattle.rj_positive.specs.Positive.{rjAll, rjPositive}
+use Rattle.rj_negative.specs.Reduction.{sortXY, sortYZ, rising}
+use Rattle.rj_negative.specs.NearZero.{largestOf, distant, deltasOf, linearOf, errorOf, quadraticOf, cubicOf, taylorOf, nearZero}
 use Rattle.elliprj.specs.Rj.{rj, rjUnchecked, rjRun, rjSettled, planOf, planNear, planScaled, planUnscaled}
 
 -- ---- a row: an entry, its arguments, and the answer

@@ -10,8 +10,8 @@ use Rattle.carlson.specs.Constants.{too-deep}
 use Rattle.carlson.specs.declared.answer.Answer.{Answer}
 use Rattle.carlson.specs.declared.answer.Answer.the-variants.{Refused}
 use Rattle.elliprd.specs.Rd.{overScale}
-use Rattle.rjnegative.specs.declared.reduction.Reduced.{Reduced}
-use Rattle.rjnegative.specs.Reduction.{reducedAnswer}
+use Rattle.rj_negative.specs.declared.reduction.Reduced.{Reduced}
+use Rattle.rj_negative.specs.Reduction.{reducedAnswer}
 use Rattle.elliprj.specs.declared.plan.Plan.{Plan}
 use Rattle.elliprj.specs.declared.plan.Rescaled.{Rescaled}
 use Rattle.elliprj.specs.declared.plan.Plan.the-variants.{Done, Rescale, Reduce}
@@ -20,7 +20,7 @@ use Rattle.elliprj.proofs.call.Reads as call
 use Rattle.elliprj.proofs.call.Kinds as call-kinds
 use Rattle.elliprj.proofs.+call.Lts-call as call-lts
 use Rattle.elliprd.proofs.over_scale.Reads as over-scale-reads
-use Rattle.rjnegative.proofs.carried.Reads as carried-reads
+use Rattle.rj_negative.proofs.carried.Reads as carried-reads
 use Rattle.elliprj.proofs.plan.planned.Reads as planned-reads
 use Rattle.elliprj.proofs.+call.{statement}
 use Rattle.elliprj.proofs.+call.Tie.{close}

@@ -1,0 +1,33 @@
+-- How long the replies are. Assumes nothing.
+use Prim.Native.Nat.{ℕ, _≤_}
+use mathlib.Core.Bool.{Bool, true, false, cond}
+use mathlib.Core.List.{List, [], _∷_, append-nil}
+use native.Mathlib.Omega.{arith}
+use lib.Dec.{eqb}
+use lib.ListN.{length}
+use Rattle.calls.specs.Calls.{callOf}
+use Rattle.answers.specs.Answers.{answerOf}
+use Rattle.listing_write.specs.Lengths.{text-length}
+use Rattle.listing_stream.specs.Replies.{replyTo, replyOf}
+use Rattle.listing_stream.specs.Stream.{saidAt, saidOf}
+use Rattle.calls.specs.declared.Line.{Line}
+use Rattle.calls.specs.declared.Line.the-variants.{Good, Bad}
+
+reply-to-length : (r : Line) → length (replyTo r) ≤ 31
+unfolding replyTo
+reply-to-length (Good c) = text-length c (answerOf c)
+reply-to-length Bad = omega arith
+
+-- no reply is longer than 31 bytes
+pub reply-length : (l : List ℕ) → length (replyOf l) ≤ 31
+unfolding replyOf
+reply-length l = reply-to-length (callOf l)
+
+-- nor is what is said to one byte
+pub said-length : (held : List ℕ) (b : ℕ) → length (saidOf held (b ∷ [])) ≤ 31
+unfolding saidOf saidAt
+said-length held b = rw append-nil (go (eqb b 10))
+  where
+    go : (t : Bool) → length (cond t (replyOf held) []) ≤ 31
+    go true = reply-length held
+    go false = omega arith

@@ -1,0 +1,24 @@
+-- How long the texts are. Assumes nothing.
+use Prim.Native.Nat.{ℕ, _≤_}
+use native.Mathlib.Omega.{arith}
+use lib.ListN.{length, length-append}
+use Rattle.carlson.specs.declared.answer.Answer.{Answer}
+use Rattle.carlson.specs.declared.answer.Answer.the-variants.{Value, Refused}
+use Rattle.writing.specs.Decimal.{decimal}
+use Rattle.writing.specs.Places.{places-most}
+use Rattle.calls.specs.CallLaws.{digits-length, word-length}
+use Rattle.calls.specs.declared.Call.{Call}
+use Rattle.listing_write.specs.Text.{countText, valueText, refusalText, afterName, textOf}
+
+pub count-length : (n : ℕ) → length (countText n) ≤ 11
+unfolding countText decimal
+count-length n = rw (length-append, digits-length) (omega (arith, places-most 9 n))
+
+answer-length : (a : Answer) → length (afterName a) ≤ 29
+unfolding afterName valueText refusalText
+answer-length (Value f) = rw (length-append, word-length) (omega (arith, count-length (f .rounds)))
+answer-length (Refused n) = omega (arith, count-length n)
+
+pub text-length : (c : Call) (a : Answer) → length (textOf c a) ≤ 31
+unfolding textOf
+text-length c a = omega (arith, answer-length a)

@@ -1,0 +1,66 @@
+-- `feed_all` meets its contract. The invariant: what was fed so far is the block's beginning. Assumes nothing.
+use Prim.Native.Nat.{ℕ, _+_, _-_, _*_, _≤_, _<_}
+use mathlib.Core.Path.{_≡_, refl, _∙_}
+use mathlib.Core.List.{List, []}
+use native.Mathlib.Numerals.{add-one}
+use native.Mathlib.Omega.{arith}
+use lib.ListN.{length, getD, take}
+use lib.Seq.{take-suc, take-all}
+use Rattle.writing.specs.Written.{put-length}
+use Rattle.swing_stream.specs.Stream.{stateAfter, saidAt, restOf, saidOf, Told}
+use Rattle.swing_stream.specs.StreamLaws.{told-more}
+use Rattle.swing_stream.specs.declared.stream.State.{State}
+use Rattle.swing_stream.proofs.Lengths.{said-at-length, place-most}
+use Rattle.swing_stream.proofs.stream.feed_all.Statement.{statement}
+use Rattle.swing_stream.proofs.stream.feed_all.Tie as tie
+
+abbrev Inv-loop : tie.InvT-loop
+Inv-loop block out₀ s used₀ i₀ out state used i =
+    (i ≤ length block) × (used ≤ 51 * i) × (length out ≡ length out₀) × Told (restOf s (take i block)) (saidOf s (take i block)) state out₀ 0 out used
+
+abbrev μ-loop : tie.MeasureT-loop
+μ-loop block out₀ s used₀ i₀ out state used i = length block - i
+
+nothing : (s : State) (o : List ℕ) → Told (restOf s []) (saidOf s []) s o 0 o 0
+unfolding restOf saidOf
+nothing s o = record { state = refl; words = record { bytes = refl; place = refl } }
+
+one-more :
+    (block o half out : List ℕ) (s m after : State) (i h next : ℕ) → i < length block
+    → Told (restOf s (take i block)) (saidOf s (take i block)) m o 0 half h
+    → Told (stateAfter m (getD block i 0)) (saidAt m (getD block i 0)) after half h out next
+    → Told (restOf s (take (i + 1) block)) (saidOf s (take (i + 1) block)) after o 0 out next
+one-more block o half out s m after i h next k p q = rw (add-one, take-suc block i 0 k) (told-more (take i block) (getD block i 0) s p q)
+
+all-of :
+    (block o out : List ℕ) (s t : State) (i next : ℕ) → length block ≤ i → Told (restOf s (take i block)) (saidOf s (take i block)) t o 0 out next
+    → Told (restOf s block) (saidOf s block) t o 0 out next
+all-of block o out s t i next h p = rw (take-all i block h) at p
+
+loop-again : tie.Need-loop-again Inv-loop μ-loop
+loop-again c =
+    let k = c .before .before .before in
+    let l = k .before .before .before .before .loop in (
+      omega arith,
+      omega (arith, place-most 51 (k .byte .ensures .words) (said-at-length _ _)),
+      put-length (k .byte .ensures .words) ∙ l .inv .2,
+      one-more _ _ _ _ _ _ _ _ _ _ (k .before .before .before .loop-test .taken) (l .inv .3) (k .byte .ensures),
+    )
+
+returns : tie.Need-returns Inv-loop μ-loop
+returns c = let l = c .before .loop in (all-of _ _ _ _ _ _ _ (c .loop-test .left) (l .inv .3), omega arith)
+
+pub feed-all-spec : {M : Type 1} → statement M
+feed-all-spec =
+    tie.close
+    (tie.spec
+    Inv-loop
+    μ-loop
+    (λ c. (omega arith, omega arith, refl, nothing _ _))
+    (λ c. omega arith)
+    (λ c κs. omega (arith, c .before .before .before .loop .inv .2))
+    (λ c. omega arith)
+    (λ c. omega arith)
+    loop-again
+    (λ c. c .before .loop .inv .2)
+    returns)
