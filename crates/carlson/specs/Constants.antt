@@ -41,6 +41,10 @@ limit = bits 0x47EF_FFFF_FFFF_FFFF
 abbrev pub reciprocal : Float
 reciprocal = bits 0x37F0_0000_0000_0001
 
+-- document 01, Rounds: "RD's and RG's AGM have no cap in the Rust; the port adds 40"
+abbrev pub meanCap : ℕ
+meanCap = 40
+
 -- ---- document 01, "Numbers for no"
 -- an argument is NaN
 abbrev pub nan-given : ℕ

@@ -6,10 +6,11 @@ use Rattle.binary64.specs.Leaves.{absolute}
 use Rattle.binary64.specs.Operators.{_⊕_, _⊖_, _⊗_, _⊘_}
 use Rattle.root.specs.Root.{root}
 use Rattle.carlson.specs.Constants.{zero, one, two, three, four}
-use Rattle.carlson.specs.Common.{lambdaOf}
+use Rattle.carlson.specs.Common.{lambdaWith}
 use Rattle.carlson.specs.Loop.{capped}
-use Rattle.carlson.specs.Answer.{countedAt}
+use Rattle.carlson.specs.Answer.{jointAt}
 use Rattle.carlson.specs.declared.answer.Found.{Found}
+use Rattle.carlson.specs.declared.common.Lambda.{Lambda}
 use Rattle.elliprf.specs.Duplicate.{meanOf, rfStart, rfSeries}
 use Rattle.elliprd.specs.Duplicate.{rdMean, rdStart, rdSeries}
 use Rattle.rg_joint.specs.declared.joint.RfPart.{RfPart}
@@ -62,17 +63,17 @@ unfoldable pub rdNext : RdPart → Float → Float → Float → Float → Float
 rdNext p lambda rz zn x y a0 = cond (p .done) p (rdEnded (rdMoved p lambda rz zn) x y a0)
 
 -- ---- a pass of both
-unfoldable pub jointMoved : Joint → Float → Float → Float → Float → Float → Float → Joint
-jointMoved s lambda rz x y arf ard = record {
-  xn = (s .xn ⊕ lambda) ⊘ four;
-  yn = (s .yn ⊕ lambda) ⊘ four;
-  zn = (s .zn ⊕ lambda) ⊘ four;
-  rf = rfNext (s .rf) lambda x y arf;
-  rd = rdNext (s .rd) lambda rz (s .zn) x y ard;
+unfoldable pub jointMoved : Joint → Lambda → Float → Float → Float → Float → Joint
+jointMoved s l x y arf ard = record {
+  xn = (s .xn ⊕ l .lambda) ⊘ four;
+  yn = (s .yn ⊕ l .lambda) ⊘ four;
+  zn = (s .zn ⊕ l .lambda) ⊘ four;
+  rf = rfNext (s .rf) (l .lambda) x y arf;
+  rd = rdNext (s .rd) (l .lambda) (l .rz) (s .zn) x y ard;
 }
 
 unfoldable pub jointNext : Float → Float → Float → Float → Joint → Joint
-jointNext x y arf ard s = jointMoved s (lambdaOf (root (s .xn)) (root (s .yn)) (root (s .zn))) (root (s .zn)) x y arf ard
+jointNext x y arf ard s = jointMoved s (lambdaWith (root (s .xn)) (root (s .yn)) (root (s .zn))) x y arf ard
 
 unfoldable pub allDone : Joint → Bool
 allDone s = s .rf .done && s .rd .done
@@ -80,14 +81,18 @@ allDone s = s .rf .done && s .rd .done
 unfoldable pub rfRdOf : Joint → ℕ → RfRd
 rfRdOf s n = record { rf = s .rf .res; rd = s .rd .res; rounds = n }
 
--- document 01, Rounds: the joint loop's cap is 50; counted are the passes begun. What is not close by then stays NaN.
+-- "RG's joint loop 50"
+abbrev pub jointCap : ℕ
+jointCap = 50
+
+-- document 01, Rounds: counted are the passes begun. What is not close when the cap is spent stays NaN.
 unfoldable pub jointOf : Float → Float → Float → RfRd
 jointOf x y z =
-    capped (jointNext x y (meanOf x y z) (rdMean x y z)) allDone rfRdOf rfRdOf 50 false (jointBegun x y z) 0
+    capped (jointNext x y (meanOf x y z) (rdMean x y z)) allDone rfRdOf rfRdOf jointCap false (jointBegun x y z) 0
 
 -- (DLMF 19.21.10)
 unfoldable pub rgValue : Float → Float → Float → Float → Float → Float
 rgValue x y z rf rd = (z ⊗ rf ⊖ (x ⊖ z) ⊗ (y ⊖ z) ⊗ rd ⊘ three ⊕ root (x ⊗ y ⊘ z)) ⊘ two
 
 unfoldable pub rgJoint : Float → Float → Float → Found
-rgJoint x y z = let r = jointOf x y z in countedAt (rgValue x y z (r .rf) (r .rd)) (r .rounds)
+rgJoint x y z = let r = jointOf x y z in jointAt (rgValue x y z (r .rf) (r .rd)) (r .rounds)

@@ -4,7 +4,8 @@ use carlson::answer::Found;
 use carlson::answer::joint;
 use carlson::answer::not_a_number;
 use carlson::checks::both;
-use carlson::common::lambda_of;
+use carlson::common::Lambda;
+use carlson::common::lambda_with;
 use root::sqrt;
 ghost use mathlib.Core.Path.{_≡_};
 ghost use Rattle.rg_joint.specs.Joint.{rfBegun, rdBegun, jointBegun, rfMoved, rfEnded, rfNext, rdMoved, rdEnded, rdNext, jointMoved, jointNext, allDone, rfRdOf, rgValue, jointOf, rgJoint};
@@ -172,15 +173,16 @@ fn rd_step(p: RdPart, lambda: f64, rz: f64, zn: f64, x: f64, y: f64, a0: f64) ->
 }
 
 // One pass, with its lambda and the root of zn; x, y and the means are those of the start.
-fn moved(s: Joint, lambda: f64, rz: f64, x: f64, y: f64, arf: f64, ard: f64) -> Joint
-    ensures { λ r. ⌜ r ≡ jointMoved s lambda rz x y arf ard ⌝ }
+fn moved(s: Joint, l: Lambda, x: f64, y: f64, arf: f64, ard: f64) -> Joint
+    ensures { λ r. ⌜ r ≡ jointMoved s l x y arf ard ⌝ }
 {
+    let lambda = l.lambda;
     let xn = s.xn;
     let yn = s.yn;
     let zn = s.zn;
     let p = s.rf;
     let q = s.rd;
-    let rd = rd_step(q, lambda, rz, zn, x, y, ard);
+    let rd = rd_step(q, lambda, l.rz, zn, x, y, ard);
     let rf = rf_step(p, lambda, x, y, arf);
     Joint {
         xn: (xn + lambda) / 4.0,
@@ -194,9 +196,8 @@ fn moved(s: Joint, lambda: f64, rz: f64, x: f64, y: f64, arf: f64, ard: f64) -> 
 fn step(s: Joint, x: f64, y: f64, arf: f64, ard: f64) -> Joint
     ensures { λ r. ⌜ r ≡ jointNext x y arf ard s ⌝ }
 {
-    let rz = sqrt(s.zn);
-    let lambda = lambda_of(sqrt(s.xn), sqrt(s.yn), rz);
-    moved(s, lambda, rz, x, y, arf, ard)
+    let l = lambda_with(sqrt(s.xn), sqrt(s.yn), sqrt(s.zn));
+    moved(s, l, x, y, arf, ard)
 }
 
 fn all_done(s: Joint) -> bool

@@ -5,10 +5,10 @@ use lib.Ieee.{Float, neg}
 use Rattle.binary64.specs.Operators.{_⊕_, _⊖_, _⊗_, _⊘_, bits}
 use Rattle.root.specs.Root.{root}
 use Rattle.fused.specs.Fused.{fused}
-use Rattle.carlson.specs.Constants.{two, pi, agm-spent}
+use Rattle.carlson.specs.Constants.{two, pi, agm-spent, meanCap}
 use Rattle.carlson.specs.Common.{apart}
 use Rattle.carlson.specs.Loop.{capped}
-use Rattle.carlson.specs.Answer.{countedAt}
+use Rattle.carlson.specs.Answer.{agmAt}
 use Rattle.carlson.specs.declared.answer.Answer.{Answer}
 use Rattle.carlson.specs.declared.answer.Answer.the-variants.{Value, Refused}
 use Rattle.rg_means.specs.declared.means.Sums.{Sums}
@@ -39,13 +39,13 @@ abbrev pub rgTogether : Sums → Bool
 rgTogether s = not (apart (s .xn) (s .yn))
 
 abbrev pub rgAgmFound : Sums → ℕ → Answer
-rgAgmFound s n = Value (countedAt (rgMeanValue s) n)
+rgAgmFound s n = Value (agmAt (rgMeanValue s) n)
 
 abbrev pub rgAgmSpent : Sums → ℕ → Answer
 rgAgmSpent s n = Refused agm-spent
 
--- document 01, Rounds: the added cap is 40, and it is refused with 9 if the test still says go on
+-- document 01, Rounds: with the added cap spent it is refused with 9, if the test still says go on
 unfoldable pub rgAgmOf : Float → Float → Answer
 rgAgmOf x z =
     let s = rgBegin (root x) (root z) in
-    capped rgNext rgTogether rgAgmFound rgAgmSpent 40 (rgTogether s) s 0
+    capped rgNext rgTogether rgAgmFound rgAgmSpent meanCap (rgTogether s) s 0

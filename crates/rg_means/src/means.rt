@@ -3,14 +3,12 @@ use carlson::answer::Answer;
 use carlson::answer::agm;
 use carlson::common::still_apart;
 use carlson::constants::AGM_SPENT;
+use carlson::constants::MEAN_CAP;
 use carlson::constants::PI;
 use fused::mul_add;
 use root::sqrt;
 ghost use mathlib.Core.Path.{_≡_};
 ghost use Rattle.rg_means.specs.Means.{rgBegin, rgMoved, rgNext, rgMeanValue, rgAgmOf};
-
-// The Rust has no cap here; document 01 adds one.
-const CAP: u32 = 40;
 
 // The running means, the sum with what its rounding lost, and the power of two.
 pub struct Sums {
@@ -73,7 +71,7 @@ pub fn agm_of(x: f64, z: f64) -> Answer
     let mut n: u32 = 0;
     loop {
         if still_apart(s.xn, s.yn) {
-            if n == CAP {
+            if n == MEAN_CAP {
                 break Answer::Refused(AGM_SPENT);
             }
             s = next_sums(s);

@@ -5,7 +5,5 @@ mod reduction;
 pub use crate::nearzero::Near;
 pub use crate::nearzero::elliprj_pv_near_zero;
 pub use crate::reduction::Reduced;
-pub use crate::reduction::Triple;
 pub use crate::reduction::carried;
 pub use crate::reduction::reduce;
-pub use crate::reduction::risen;

@@ -6,11 +6,13 @@ use Rattle.binary64.specs.Leaves.{absolute, maximum}
 use Rattle.binary64.specs.Operators.{_⊕_, _⊖_, _⊗_, _⊘_, bits}
 use Rattle.root.specs.Root.{root}
 use Rattle.power.specs.Power.{power}
+use Rattle.starts.specs.Starts.{rj-start}
 use Rattle.carlson.specs.Constants.{zero, one, two, three, four, half}
-use Rattle.carlson.specs.Common.{lambdaOf, thirdKind}
+use Rattle.carlson.specs.Common.{lambdaWith, thirdKind}
 use Rattle.carlson.specs.Loop.{capped}
-use Rattle.carlson.specs.Answer.{countedAt}
+use Rattle.carlson.specs.Answer.{duplicationAt}
 use Rattle.carlson.specs.declared.answer.Found.{Found}
+use Rattle.carlson.specs.declared.common.Lambda.{Lambda}
 use Rattle.elliprc.specs.Rc.{rcUnchecked}
 use Rattle.rj_positive.specs.Helper.{rc1p}
 use Rattle.rj_positive.specs.declared.duplicate.Round.{Round}
@@ -22,7 +24,7 @@ rjMean x y z p = (x ⊕ y ⊕ z ⊕ two ⊗ p) ⊘ bits 0x4014_0000_0000_0000
 -- the start factor of epsilon / 5, times the largest distance from the mean
 unfoldable pub rjStart : Float → Float → Float → Float → Float → Float
 rjStart an x y z p =
-    bits 0x405B_AB78_E4D1_420D
+    rj-start
     ⊗ maximum (maximum (maximum (absolute (an ⊖ x)) (absolute (an ⊖ y))) (absolute (an ⊖ z))) (absolute (an ⊖ p))
 
 unfoldable pub rjBegin : Float → Float → Float → Float → Round
@@ -56,15 +58,15 @@ rjMiddle pn r dn = two ⊗ r .p ⊗ (pn ⊕ r .x ⊗ (r .y ⊕ r .z) ⊕ r .y �
 -- between -3/2 and -1/2 RC itself, at an argument that keeps its digits
 unfoldable pub rjTerm : Float → Roots → Float → Float → Float
 rjTerm pn r dn en =
-    cond (lt en (neg half)) (cond (lt (neg (bits 0x3FF8_0000_0000_0000)) en) (rcUnchecked one (rjMiddle pn r dn)) (rc1p en)) (rc1p en)
+    cond (lt en (neg half)) (cond (lt (neg (bits 0x3FF8_0000_0000_0000)) en) (rcUnchecked one (rjMiddle pn r dn) .value) (rc1p en)) (rc1p en)
 
-unfoldable pub rjMoved : Round → Float → Float → Round
-rjMoved s lambda added = record {
-  an = (s .an ⊕ lambda) ⊘ four;
-  xn = (s .xn ⊕ lambda) ⊘ four;
-  yn = (s .yn ⊕ lambda) ⊘ four;
-  zn = (s .zn ⊕ lambda) ⊘ four;
-  pn = (s .pn ⊕ lambda) ⊘ four;
+unfoldable pub rjMoved : Round → Lambda → Float → Round
+rjMoved s l added = record {
+  an = (s .an ⊕ l .lambda) ⊘ four;
+  xn = (s .xn ⊕ l .lambda) ⊘ four;
+  yn = (s .yn ⊕ l .lambda) ⊘ four;
+  zn = (s .zn ⊕ l .lambda) ⊘ four;
+  pn = (s .pn ⊕ l .lambda) ⊘ four;
   delta = s .delta ⊘ bits 0x4050_0000_0000_0000;
   fmn = s .fmn ⊘ four;
   sum = s .sum ⊕ added;
@@ -73,7 +75,7 @@ rjMoved s lambda added = record {
 unfoldable pub rjWith : Round → Roots → Round
 rjWith s r =
     let dn = rjDenominator r in
-    rjMoved s (lambdaOf (r .x) (r .y) (r .z)) (s .fmn ⊘ dn ⊗ rjTerm (s .pn) r dn (rjRatio s r dn))
+    rjMoved s (lambdaWith (r .x) (r .y) (r .z)) (s .fmn ⊘ dn ⊗ rjTerm (s .pn) r dn (rjRatio s r dn))
 
 unfoldable pub rjStep : Round → Round
 rjStep s = rjWith s (record { x = root (s .xn); y = root (s .yn); z = root (s .zn); p = root (s .pn) })
@@ -101,14 +103,18 @@ rjSeries x y z a0 s =
     s .fmn ⊗ power (s .an) ⊗ rjFactor (rjCorrection (s .fmn) a0 x (s .an)) (rjCorrection (s .fmn) a0 y (s .an)) (rjCorrection (s .fmn) a0 z (s .an))
     ⊕ bits 0x4018_0000_0000_0000 ⊗ s .sum
 
+-- "RJ 100"
+abbrev pub rjCap : ℕ
+rjCap = 100
+
 abbrev pub rjFound : Float → Float → Float → Float → Round → ℕ → Found
-rjFound x y z a0 s n = countedAt (rjSeries x y z a0 s) n
+rjFound x y z a0 s n = duplicationAt (rjSeries x y z a0 s) n
 
 abbrev pub rjSpent : Round → ℕ → Found
-rjSpent s n = countedAt nan n
+rjSpent s n = duplicationAt nan n
 
--- document 01, Rounds: RJ's cap is 100; counted are the passes begun. With the cap spent there is no number.
+-- document 01, Rounds: counted are the passes begun. With the cap spent there is no number.
 unfoldable pub rjDuplication : Float → Float → Float → Float → Found
 rjDuplication x y z p =
     let s = rjBegin x y z p in
-    capped rjStep (rjClose (rjStart (s .an) x y z p)) (rjFound x y z (s .an)) rjSpent 100 false s 0
+    capped rjStep (rjClose (rjStart (s .an) x y z p)) (rjFound x y z (s .an)) rjSpent rjCap false s 0

@@ -21,7 +21,7 @@ byLogs1p y = let arg = root (neg y) in (ln-1p arg ⊖ ln-1p (neg arg)) ⊘ (two 
 
 -- for y below -1, the Cauchy principal value
 unfoldable pub byRc1p : Float → Float
-byRc1p y = root (one ⊘ neg y) ⊗ rcUnchecked (neg y) (neg one ⊖ y)
+byRc1p y = root (one ⊘ neg y) ⊗ rcUnchecked (neg y) (neg one ⊖ y) .value
 
 -- else
 unfoldable pub byLn1p : Float → Float

@@ -5,7 +5,7 @@ use Rattle.binary64.specs.Leaves.{maximum, minimum}
 use Rattle.binary64.specs.Operators.{_⊖_, _⊗_, _⊘_, bits}
 use Rattle.root.specs.Root.{root}
 use Rattle.carlson.specs.Constants.{one, three}
-use Rattle.carlson.specs.Answer.{closedAt}
+use Rattle.carlson.specs.Answer.{bothWays, closedAt, carriedAt}
 use Rattle.carlson.specs.declared.answer.Answer.{Answer}
 use Rattle.carlson.specs.declared.answer.Answer.the-variants.{Value}
 use Rattle.elliprc.specs.Rc.{rcUnchecked}
@@ -22,11 +22,14 @@ rjAll x = Value (closedAt (one ⊘ (x ⊗ root x)))
 
 -- RJ(x, x, x, p)
 unfoldable pub rjThree : Float → Float → Answer
-rjThree x p = Value (closedAt (three ⊘ (x ⊖ p) ⊗ (rcUnchecked x p ⊖ one ⊘ root x)))
+rjThree x p = let rc = rcUnchecked x p in Value (carriedAt (three ⊘ (x ⊖ p) ⊗ (rc .value ⊖ one ⊘ root x)) (rc .way))
 
 -- RJ(x, y, y, p)
 unfoldable pub rjTwo : Float → Float → Float → Answer
-rjTwo x y p = Value (closedAt (three ⊗ (rcUnchecked x y ⊖ rcUnchecked x p) ⊘ (p ⊖ y)))
+rjTwo x y p =
+    let first = rcUnchecked x y in
+    let second = rcUnchecked x p in
+    Value (carriedAt (three ⊗ (first .value ⊖ second .value) ⊘ (p ⊖ y)) (bothWays (first .way) (second .way)))
 
 -- RJ(x, y, z, z) is RD(x, y, z); else duplication
 unfoldable pub rjLast : Float → Float → Float → Float → Answer

@@ -5,7 +5,8 @@ use binary64::max;
 use carlson::answer::Found;
 use carlson::answer::duplication;
 use carlson::answer::not_a_number;
-use carlson::common::lambda_of;
+use carlson::common::Lambda;
+use carlson::common::lambda_with;
 use carlson::common::third_kind;
 use elliprc::elliprc_unchecked;
 use power::pow_neg_3_2;
@@ -104,22 +105,23 @@ fn term(pn: f64, r: Roots, dn: f64, en: f64) -> f64
 {
     if en < -0.5 {
         if en > -1.5 {
-            return elliprc_unchecked(1.0, middle(pn, r, dn));
+            let rc = elliprc_unchecked(1.0, middle(pn, r, dn));
+            return rc.value;
         }
         return elliprc1p(en);
     }
     elliprc1p(en)
 }
 
-fn moved(s: Round, lambda: f64, added: f64) -> Round
-    ensures { λ r. ⌜ r ≡ rjMoved s lambda added ⌝ }
+fn moved(s: Round, l: Lambda, added: f64) -> Round
+    ensures { λ r. ⌜ r ≡ rjMoved s l added ⌝ }
 {
     Round {
-        an: (s.an + lambda) / 4.0,
-        xn: (s.xn + lambda) / 4.0,
-        yn: (s.yn + lambda) / 4.0,
-        zn: (s.zn + lambda) / 4.0,
-        pn: (s.pn + lambda) / 4.0,
+        an: (s.an + l.lambda) / 4.0,
+        xn: (s.xn + l.lambda) / 4.0,
+        yn: (s.yn + l.lambda) / 4.0,
+        zn: (s.zn + l.lambda) / 4.0,
+        pn: (s.pn + l.lambda) / 4.0,
         delta: s.delta / 64.0,
         fmn: s.fmn / 4.0,
         sum: s.sum + added,
@@ -132,7 +134,7 @@ fn with_roots(s: Round, r: Roots) -> Round
 {
     let dn = denominator(r);
     let added = s.fmn / dn * term(s.pn, r, dn, ratio(s, r, dn));
-    moved(s, lambda_of(r.x, r.y, r.z), added)
+    moved(s, lambda_with(r.x, r.y, r.z), added)
 }
 
 fn step(s: Round) -> Round

@@ -28,7 +28,8 @@ fn by_logs(y: f64) -> f64
 fn by_rc(y: f64) -> f64
     ensures { λ r. ⌜ r ≡ byRc1p y ⌝ }
 {
-    sqrt(1.0 / -y) * elliprc_unchecked(-y, -1.0 - y)
+    let rc = elliprc_unchecked(-y, -1.0 - y);
+    sqrt(1.0 / -y) * rc.value
 }
 
 // else

@@ -3,6 +3,8 @@ use crate::duplicate::duplicated;
 use binary64::max;
 use binary64::min;
 use carlson::answer::Answer;
+use carlson::answer::both_ways;
+use carlson::answer::carried;
 use carlson::answer::closed;
 use elliprc::elliprc_unchecked;
 use elliprd::elliprd_unchecked;
@@ -28,14 +30,18 @@ fn all_equal(x: f64) -> Answer
 fn three_equal(x: f64, p: f64) -> Answer
     ensures { λ r. ⌜ r ≡ rjThree x p ⌝ }
 {
-    Answer::Value(closed((3.0 / (x - p)) * (elliprc_unchecked(x, p) - 1.0 / sqrt(x))))
+    let rc = elliprc_unchecked(x, p);
+    Answer::Value(carried((3.0 / (x - p)) * (rc.value - 1.0 / sqrt(x)), rc.way))
 }
 
 // RJ(x, y, y, p)
 fn two_equal(x: f64, y: f64, p: f64) -> Answer
     ensures { λ r. ⌜ r ≡ rjTwo x y p ⌝ }
 {
-    Answer::Value(closed(3.0 * (elliprc_unchecked(x, y) - elliprc_unchecked(x, p)) / (p - y)))
+    let first = elliprc_unchecked(x, y);
+    let second = elliprc_unchecked(x, p);
+    let way = both_ways(first.way, second.way);
+    Answer::Value(carried(3.0 * (first.value - second.value) / (p - y), way))
 }
 
 // No two of x, y, z are of use; RJ(x, y, z, z) is RD.

@@ -5,9 +5,10 @@ use mathlib.Core.Bool.{Bool, not}
 use native.Mathlib.Omega.{arith}
 use lib.Ieee.{Float}
 use Rattle.root.specs.Root.{root}
-use Rattle.carlson.specs.Answer.{countedAt}
+use Rattle.carlson.specs.Answer.{agmAt}
 use Rattle.carlson.specs.Common.{apart}
-use Rattle.carlson.specs.Loop.{capped, ends-spent, ends-found, goes-on}
+use Rattle.carlson.specs.Constants.{meanCap}
+use Rattle.carlson.specs.Loop.{capped, Left, left-begins, left-on, left-spent, left-found}
 use Rattle.carlson.specs.declared.answer.Answer.the-variants.{Value}
 use Rattle.rg_means.specs.declared.means.Sums.{Sums}
 use Rattle.rg_means.specs.Means.{rgBegin, rgNext, rgTogether, rgAgmFound, rgAgmSpent, rgAgmOf}
@@ -15,41 +16,27 @@ use Rattle.rg_means.proofs.means.agm_of.Statement.{statement}
 use Rattle.rg_means.proofs.means.agm_of.Tie as tie
 
 abbrev Inv-loop : tie.InvT-loop
-Inv-loop x z s₀ n₀ s n =
-    (n ≤ 40)
-    × (capped rgNext rgTogether rgAgmFound rgAgmSpent (40 - n) (rgTogether s) s n
-    ≡ capped rgNext rgTogether rgAgmFound rgAgmSpent 40 (rgTogether s₀) s₀ 0)
+Inv-loop x z s₀ n₀ s n = Left rgNext rgTogether rgAgmFound rgAgmSpent meanCap (rgTogether s₀) s₀ (rgTogether s) s n
 
 abbrev μ-loop : tie.MeasureT-loop
-μ-loop x z s₀ n₀ s n = 40 - n
+μ-loop x z s₀ n₀ s n = meanCap - n
 
 whole : (x z a b : Float) (s : Sums) → a ≡ root x → b ≡ root z → s ≡ rgBegin a b
-    → capped rgNext rgTogether rgAgmFound rgAgmSpent 40 (rgTogether s) s 0 ≡ rgAgmOf x z
+    → capped rgNext rgTogether rgAgmFound rgAgmSpent meanCap (rgTogether s) s 0 ≡ rgAgmOf x z
 unfolding rgAgmOf
 whole x z a b s e f g = rw (g, e, f)
-
--- what the test said, as the loop sees it
-test : (b : Bool) (s : Sums) (t : Bool) → b ≡ apart (s .xn) (s .yn) → b ≡ t → rgTogether s ≡ not t
-test b s t e f = ap not (sym e ∙ f)
 
 loop-again : tie.Need-loop-again Inv-loop μ-loop
 loop-again c =
     let k = c .before .before .before in
-    let l = k .before .loop in (
-      omega arith,
-      goes-on rgNext rgTogether rgAgmFound rgAgmSpent 40 (rgTogether (l .s)) (rgTogether (c .next-sums .result)) (l .s) (c .next-sums .result) (l .n)
-          (test (k .still-apart .result) (l .s) _ (k .still-apart .ensures)
-          (c .before .before .if1 .taken)) (omega arith) (c .next-sums .ensures) refl (l .inv .1),
-    )
+    left-on (k .before .loop .inv) (ap not (sym (k .still-apart .ensures) ∙ c .before .before .if1 .taken)) (omega arith) (c .next-sums .ensures) refl
 
 returns : tie.Need-returns Inv-loop μ-loop
 returns c =
     let k = c .before .before in
-    let l = k .before .loop in
     let a = k .before .before in
     let b = a .before .before .before .args in
-    ends-spent rgNext rgTogether rgAgmFound rgAgmSpent 40 (rgTogether (l .s)) (l .s) (l .n)
-    (test (k .still-apart .result) (l .s) _ (k .still-apart .ensures) (c .before .if1 .taken)) (c .if2 .taken) (l .inv .1)
+    left-spent (k .before .loop .inv) (ap not (sym (k .still-apart .ensures) ∙ c .before .if1 .taken)) (c .if2 .taken)
     ∙ whole (b .x) (b .z) _ _ (a .begin .result) (a .before .before .sqrt .ensures) (a .before .sqrt2 .ensures) (a .begin .ensures)
 
 returns-2 : tie.Need-returns-2 Inv-loop μ-loop
@@ -58,9 +45,8 @@ returns-2 c =
     let l = k .before .loop in
     let a = k .before .before in
     let b = a .before .before .before .args in
-    ap Value (c .agm .ensures ∙ ap (λ (v : Float). countedAt v (l .n)) (c .before .value-of .ensures))
-    ∙ ends-found rgNext rgTogether rgAgmFound rgAgmSpent (40 - l .n) (rgTogether (l .s)) (l .s) (l .n)
-    (test (k .still-apart .result) (l .s) _ (k .still-apart .ensures) (c .before .before .if1 .left)) (l .inv .1)
+    ap Value (c .agm .ensures ∙ ap (λ (v : Float). agmAt v (l .n)) (c .before .value-of .ensures))
+    ∙ left-found (l .inv) (ap not (sym (k .still-apart .ensures) ∙ c .before .before .if1 .left))
     ∙ whole (b .x) (b .z) _ _ (a .begin .result) (a .before .before .sqrt .ensures) (a .before .sqrt2 .ensures) (a .begin .ensures)
 
 pub agm-of-spec : {M : Type 1} → statement M
@@ -72,7 +58,7 @@ agm-of-spec =
     (λ c κs. tt)
     (λ c κs. tt)
     (λ c κs. tt)
-    (λ c. (omega arith, refl))
+    (λ c. left-begins)
     (λ c κs. tt)
     (λ c κs. tt)
     (λ c. record { fits = omega arith })

@@ -1,41 +1,31 @@
 -- `duplicated` meets its contract. The invariant: what is left of the loop gives what the whole loop gives. Assumes nothing.
-use Prim.Native.Nat.{_+_, _≤_, _-_}
+use Prim.Native.Nat.{_+_, _-_}
 use mathlib.Core.Path.{_≡_, refl, sym, ap, _∙_}
 use mathlib.Core.Bool.{false}
 use native.Mathlib.Omega.{arith}
 use lib.Ieee.{Float}
-use Rattle.carlson.specs.Answer.{countedAt}
-use Rattle.carlson.specs.Loop.{capped, ends-spent, ends-found, goes-on}
+use Rattle.carlson.specs.Answer.{duplicationAt}
+use Rattle.carlson.specs.Loop.{capped, Left, left-begins, left-on, left-spent, left-found}
 use Rattle.rj_positive.specs.declared.duplicate.Round.{Round}
-use Rattle.rj_positive.specs.Duplicate.{rjBegin, rjStart, rjStep, rjClose, rjFound, rjSpent, rjDuplication}
+use Rattle.rj_positive.specs.Duplicate.{rjCap, rjBegin, rjStart, rjStep, rjClose, rjFound, rjSpent, rjDuplication}
 use Rattle.rj_positive.proofs.duplicate.duplicated.Statement.{statement}
 use Rattle.rj_positive.proofs.duplicate.duplicated.Tie as tie
 
 abbrev Inv-loop : tie.InvT-loop
-Inv-loop x y z p at₀ a0 q n₀ at n =
-    (n ≤ 100)
-    × (capped rjStep (rjClose q) (rjFound x y z a0) rjSpent (100 - n) false at n
-    ≡ capped rjStep (rjClose q) (rjFound x y z a0) rjSpent 100 false at₀ 0)
+Inv-loop x y z p at₀ a0 q n₀ at n = Left rjStep (rjClose q) (rjFound x y z a0) rjSpent rjCap false at₀ false at n
 
 abbrev μ-loop : tie.MeasureT-loop
-μ-loop x y z p at₀ a0 q n₀ at n = 100 - n
+μ-loop x y z p at₀ a0 q n₀ at n = rjCap - n
 
 whole : (x y z p q : Float) (s : Round) → s ≡ rjBegin x y z p → q ≡ rjStart (s .an) x y z p
-    → capped rjStep (rjClose q) (rjFound x y z (s .an)) rjSpent 100 false s 0 ≡ rjDuplication x y z p
+    → capped rjStep (rjClose q) (rjFound x y z (s .an)) rjSpent rjCap false s 0 ≡ rjDuplication x y z p
 unfolding rjDuplication
 whole x y z p q s e f = rw (f, e)
 
 loop-again : tie.Need-loop-again Inv-loop μ-loop
 loop-again c =
-    let s = c .before .before .step in
     let l = c .before .before .before .before .loop in
-    let a = c .before .before .before .before .before in
-    let b = a .before .before .args in (
-      omega arith,
-      goes-on rjStep (rjClose (a .start-of .result)) (rjFound (b .x) (b .y) (b .z) (a .before .begin .result .an)) rjSpent 100 false false
-          (l .at) (s .result) (l .n)
-          refl (omega arith) (s .ensures) (sym (c .if2 .left) ∙ c .before .close .ensures) (l .inv .1),
-    )
+    left-on (l .inv) refl (omega arith) (c .before .before .step .ensures) (sym (c .if2 .left) ∙ c .before .close .ensures)
 
 returns : tie.Need-returns Inv-loop μ-loop
 returns c =
@@ -43,25 +33,19 @@ returns c =
     let a = c .before .before .before .before in
     let b = a .before .before .args in
     let g = a .before .begin in
-    c .duplication .ensures ∙ ap (λ (v : Float). countedAt v (l .n)) (c .before .not-a-number .ensures)
-    ∙ ends-spent rjStep (rjClose (a .start-of .result)) (rjFound (b .x) (b .y) (b .z) (g .result .an)) rjSpent 100 false (l .at) (l .n)
-    refl (c .before .before .if1 .taken) (l .inv .1)
+    c .duplication .ensures ∙ ap (λ (v : Float). duplicationAt v (l .n)) (c .before .not-a-number .ensures)
+    ∙ left-spent (l .inv) refl (c .before .before .if1 .taken)
     ∙ whole (b .x) (b .y) (b .z) (b .p) (a .start-of .result) (g .result) (g .ensures) (a .start-of .ensures)
 
 returns-2 : tie.Need-returns-2 Inv-loop μ-loop
 returns-2 c =
     let k = c .before .before .before in
-    let s = k .before .step in
     let l = k .before .before .before .loop in
     let a = k .before .before .before .before in
     let b = a .before .before .args in
     let g = a .before .begin in
-    let f = rjFound (b .x) (b .y) (b .z) (g .result .an) in
-    let w = rjClose (a .start-of .result) in
-    c .duplication2 .ensures ∙ ap (λ (v : Float). countedAt v (l .n + 1)) (c .before .series .ensures)
-    ∙ ends-found rjStep w f rjSpent (100 - (l .n + 1)) (k .close .result) (s .result) (l .n + 1) (c .before .before .if2 .taken)
-    (goes-on rjStep w f rjSpent 100 false (k .close .result) (l .at) (s .result) (l .n) refl (omega arith) (s .ensures) (k .close .ensures)
-    (l .inv .1))
+    c .duplication2 .ensures ∙ ap (λ (v : Float). duplicationAt v (l .n + 1)) (c .before .series .ensures)
+    ∙ left-found (left-on (l .inv) refl (omega arith) (k .before .step .ensures) (k .close .ensures)) (c .before .before .if2 .taken)
     ∙ whole (b .x) (b .y) (b .z) (b .p) (a .start-of .result) (g .result) (g .ensures) (a .start-of .ensures)
 
 pub duplicated-spec : {M : Type 1} → statement M
@@ -72,7 +56,7 @@ duplicated-spec =
     μ-loop
     (λ c κs. tt)
     (λ c κs. tt)
-    (λ c. (omega arith, refl))
+    (λ c. left-begins)
     (λ c κs. tt)
     (λ c κs. tt)
     (λ c κs. tt)

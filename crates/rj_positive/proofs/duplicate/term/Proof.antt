@@ -11,7 +11,12 @@ term-spec =
     (tie.spec
     (λ c κs. tt)
     (λ c κs. tt)
-    (λ c. rw (c .before .before .before .if1 .taken, c .before .before .if2 .taken, sym (c .before .middle .ensures)) (c .elliprc-unchecked .ensures))
+    (λ c. rw (
+      c .before .before .before .if1 .taken,
+      c .before .before .if2 .taken,
+      sym (c .before .middle .ensures),
+      sym (c .elliprc-unchecked .ensures),
+    ))
     (λ c κs. tt)
     (λ c. rw (c .before .before .if1 .taken, c .before .if2 .left) (c .elliprc1p .ensures))
     (λ c κs. tt)

@@ -6,5 +6,10 @@ use Rattle.rj_positive.proofs.positive.two_equal.Tie as tie
 
 pub two-equal-spec : {M : Type 1} → statement M
 unfolding rjTwo
-two-equal-spec = tie.close (tie.spec (λ c κs. tt) (λ c κs. tt) (λ c κs. tt)
-    (λ c. rw (sym (c .before .before .elliprc-unchecked .ensures), sym (c .before .elliprc-unchecked2 .ensures), sym (c .closed .ensures))))
+two-equal-spec = tie.close (tie.spec (λ c κs. tt) (λ c κs. tt) (λ c κs. tt) (λ c κs. tt)
+    (λ c. rw (
+      sym (c .before .before .before .before .before .elliprc-unchecked .ensures),
+      sym (c .before .before .before .before .elliprc-unchecked2 .ensures),
+      sym (c .before .before .before .both-ways .ensures),
+      sym (c .carried .ensures),
+    )))

@@ -1,0 +1,1 @@
+// Laws only: the three start factors of duplication, shown to be nearest.
