@@ -1,4 +1,5 @@
--- The constants of the Rust and of document 01 by their bits, and document 01's numbers for no. Definitions only.
+-- The constants of the Rust and of document 01 by their bits, and document 01's numbers for no. (Those that are what a formula
+-- says are in the crate `derived`.) Definitions only.
 use Prim.Native.Nat.{ℕ}
 use lib.Ieee.{Float}
 use Rattle.binary64.specs.Operators.{bits}
@@ -33,13 +34,6 @@ epsilon = bits 0x3CB0_0000_0000_0000
 
 abbrev pub infinity : Float
 infinity = bits 0x7FF0_0000_0000_0000
-
--- document 01, Rescaling: the limit, and its rounded reciprocal
-abbrev pub limit : Float
-limit = bits 0x47EF_FFFF_FFFF_FFFF
-
-abbrev pub reciprocal : Float
-reciprocal = bits 0x37F0_0000_0000_0001
 
 -- document 01, Rounds: "RD's and RG's AGM have no cap in the Rust; the port adds 40"
 abbrev pub meanCap : ℕ

@@ -4,7 +4,8 @@ use lib.Ieee.{Float, lt, eq, ne}
 use lib.Ieee.Scale.{finite}
 use Rattle.binary64.specs.Leaves.{absolute, maximum}
 use Rattle.binary64.specs.Operators.{_⊘_}
-use Rattle.carlson.specs.Constants.{zero, limit, reciprocal}
+use Rattle.derived.specs.Limits.{limit, reciprocal}
+use Rattle.carlson.specs.Constants.{zero}
 
 -- scale is the largest argument size
 abbrev pub scaleOf2 : Float → Float → Float

@@ -6,7 +6,7 @@ use Rattle.binary64.specs.Leaves.{maximum}
 use Rattle.binary64.specs.Operators.{_⊕_, _⊖_, _⊗_, _⊘_, bits}
 use Rattle.root.specs.Root.{root}
 use Rattle.power.specs.Power.{power}
-use Rattle.starts.specs.Starts.{rd-start}
+use Rattle.derived.specs.Starts.{rd-start}
 use Rattle.carlson.specs.Constants.{zero, one, three, four}
 use Rattle.carlson.specs.Common.{lambdaWith, thirdKind}
 use Rattle.carlson.specs.Loop.{capped}

@@ -5,7 +5,7 @@ use lib.Ieee.{Float, nan, neg, lt}
 use Rattle.binary64.specs.Leaves.{absolute, maximum}
 use Rattle.binary64.specs.Operators.{_⊕_, _⊖_, _⊗_, _⊘_, bits}
 use Rattle.root.specs.Root.{root}
-use Rattle.starts.specs.Starts.{rf-start}
+use Rattle.derived.specs.Starts.{rf-start}
 use Rattle.carlson.specs.Constants.{one, three, four}
 use Rattle.carlson.specs.Common.{lambdaWith}
 use Rattle.carlson.specs.Loop.{capped}

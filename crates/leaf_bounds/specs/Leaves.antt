@@ -31,7 +31,7 @@ use Rattle.series.specs.Arguments.{one-is, above-one, inverse-is, seed-above, s
 use Rattle.series.specs.Names.{signed-bits}
 use Rattle.scaling.specs.Units.{Is, neg-units}
 use Rattle.leaf_bounds.specs.Pattern.{pattern, bits-are, named, value-back}
-use Rattle.leaf_bounds.specs.Rounded.{Between, rounded-between, sum-between}
+use Rattle.leaf_bounds.specs.Rounded.{Powers, rounded-between, sum-between}
 
 -- the powers of two in units of 2 ^ -1074: the argument's, and the answer's
 abbrev pub least : ℕ
@@ -53,7 +53,7 @@ value-le : (a b : ℕ) → a ≤ b → value a ≤ value b
 value-le a b h = elim (lt-or-le a b) [ inl l ↦ le-of-lt (value-lt a b l) | inr l ↦ le-of-eq (ap value (let e : a ≡ b = omega arith in e)) ]
 
 -- a rule's answer A of 60 to 64 digits, in units of 2 ^ -t
-answer : (s : Bool) (A t : ℕ) → 2 ^ 59 ≤ A → A < 2 ^ 64 → 52 ≤ t → t ≤ 150 → Between binary64 s low high (round binary64 s A (2 ^ t))
+answer : (s : Bool) (A t : ℕ) → 2 ^ 59 ≤ A → A < 2 ^ 64 → 52 ≤ t → t ≤ 150 → Powers binary64 s low high (round binary64 s A (2 ^ t))
 answer s A t h l few many = rounded-between binary64 s A t low high 59 64 h (le-of-lt l) (omega arith) (omega arith) fits
 
 module _ {x : Float} {n : ℕ} (is : Is binary64 x false n) (from : 2 ^ least ≤ n) (to : n ≤ 2 ^ most) where
@@ -80,7 +80,7 @@ module _ {x : Float} {n : ℕ} (is : Is binary64 x false n) (from : 2 ^ least �
   unsigned = let l = finite in omega arith
 
   -- the argument itself, where it is below 2 ^ 16
-  itself : (c : ℕ) → b < c → value c ≤ 2 ^ high → Between binary64 false low high x
+  itself : (c : ℕ) → b < c → value c ≤ 2 ^ high → Powers binary64 false low high x
   itself c h l = record {
     n = n;
     is = is;
@@ -93,7 +93,7 @@ module _ {x : Float} {n : ℕ} (is : Is binary64 x false n) (from : 2 ^ least �
   unfolding value
   atan-tiny = lit≤ tt
 
-  atan-below : arc.tiny ≤ b → b < arc.one → Between binary64 false low high (atan x)
+  atan-below : arc.tiny ≤ b → b < arc.one → Powers binary64 false low high (atan x)
   atan-below h l =
       let case = cases.atan-below-one x b bits (rw same h) (rw same l) in
       let is : arc.below-one false b ≡ atan x = rw (same, unsigned) at case in
@@ -103,38 +103,38 @@ module _ {x : Float} {n : ℕ} (is : Is binary64 x false n) (from : 2 ^ least �
       let tau-high : tau ≤ 2 ^ 62 = omega arith in
       let long = atan-size j tau tau-high tau-low in
       let short = atan-fits j tau tau-high in
-      subst (Between binary64 false low high) is (answer false (atan-answer j tau) (62 + j) (omega arith) (omega arith) (omega arith) (omega arith))
+      subst (Powers binary64 false low high) is (answer false (atan-answer j tau) (62 + j) (omega arith) (omega arith) (omega arith) (omega arith))
 
-  atan-one : b ≡ arc.one → Between binary64 false low high (atan x)
+  atan-one : b ≡ arc.one → Powers binary64 false low high (atan x)
   atan-one e =
       let case = cases.atan-at-one x b bits (same ∙ e) in
       let is : arc.at-one false ≡ atan x = rw unsigned at case in
       let long = atan-size 0 (2 ^ 62) (lit≤ tt) (lit≤ tt) in
       let short = atan-fits 0 (2 ^ 62) (lit≤ tt) in
-      subst (Between binary64 false low high) is (answer false (atan-answer 0 (2 ^ 62)) 62 (omega arith) (omega arith) (omega arith) (omega arith))
+      subst (Powers binary64 false low high) is (answer false (atan-answer 0 (2 ^ 62)) 62 (omega arith) (omega arith) (omega arith) (omega arith))
 
   steep-word : (t : ℕ) → steep-answer t < 2 ^ 64
   unfolding steep-answer
   steep-word t = omega arith
 
-  atan-above : arc.one < b → b < arc.far → Between binary64 false low high (atan x)
+  atan-above : arc.one < b → b < arc.far → Powers binary64 false low high (atan x)
   atan-above h l =
       let case = cases.atan-above-one x b bits (rw same (omega arith)) (rw same (λ e. omega arith)) (rw same l) in
       let is : arc.above-one false b ≡ atan x = rw (same, unsigned) at case in
       let tau = 2 ^ 114 / digits b / 2 ^ (field b - 1023) in
       let long : 2 ^ 61 ≤ steep-answer tau = subst (λ (t : ℕ). 2 ^ 61 ≤ steep-answer t) (inverse-is b h) (steep-size (number b) (above-one b h)) in
       let short = steep-word tau in
-      subst (Between binary64 false low high) is (answer false (steep-answer tau) 62 (omega arith) short (omega arith) (omega arith))
+      subst (Powers binary64 false low high) is (answer false (steep-answer tau) 62 (omega arith) short (omega arith) (omega arith))
 
-  atan-far : arc.far ≤ b → Between binary64 false low high (atan x)
+  atan-far : arc.far ≤ b → Powers binary64 false low high (atan x)
   atan-far h =
       let case = cases.atan-far x b bits (rw same h) (rw same (le-of-lt finite)) in
       let is : arc.at-infinity false ≡ atan x = rw unsigned at case in
-      subst (Between binary64 false low high) is (answer false half-pi 62 (lit≤ tt) (lit< tt) (omega arith) (omega arith))
+      subst (Powers binary64 false low high) is (answer false half-pi 62 (lit≤ tt) (lit< tt) (omega arith) (omega arith))
 
-  pub atan-between : Between binary64 false low high (atan x)
+  pub atan-between : Powers binary64 false low high (atan x)
   atan-between = elim (lt-or-le b arc.tiny) [
-    | inl h ↦ subst (Between binary64 false low high) (cases.atan-tiny x b bits (rw same h)) (itself arc.tiny h atan-tiny)
+    | inl h ↦ subst (Powers binary64 false low high) (cases.atan-tiny x b bits (rw same h)) (itself arc.tiny h atan-tiny)
     | inr h ↦
         elim (lt-or-le b arc.one) [
           | inl l ↦ atan-below h l
@@ -147,7 +147,7 @@ module _ {x : Float} {n : ℕ} (is : Is binary64 x false n) (from : 2 ^ least �
   ]
 
   -- ---- ln
-  pub ln-between : (ln x ≡ nan) ⊎ Between binary64 false low high (ln x)
+  pub ln-between : (ln x ≡ nan) ⊎ Powers binary64 false low high (ln x)
   ln-between = elim (lt-or-le b logarithm.two) [
     | inl h ↦ inl (sym (cases.ln-below x b bits h))
     | inr h ↦
@@ -156,7 +156,7 @@ module _ {x : Float} {n : ℕ} (is : Is binary64 x false n) (from : 2 ^ least �
         let range = cases.ln-range b h finite in
         let few = digits-most e m range in
         let long = answer-size e m range in
-        inr (subst (Between binary64 false low high) (cases.ln-from x b bits h finite)
+        inr (subst (Powers binary64 false low high) (cases.ln-from x b bits h finite)
         (answer false (ln-answer (size e) e m) (63 - size e) (omega arith) (answer-fits e m range) (omega arith) (omega arith)))
   ]
 
@@ -179,7 +179,7 @@ module _ {x : Float} {n : ℕ} (is : Is binary64 x false n) (from : 2 ^ least �
   unfolding value
   one-plus-tiny = lit≤ tt
 
-  gain-between : one-plus.tiny ≤ b → b ≤ one-plus.last → Between binary64 false low high (ln-1p x)
+  gain-between : one-plus.tiny ≤ b → b ≤ one-plus.last → Powers binary64 false low high (ln-1p x)
   gain-between h l =
       let case = cases.ln-1p-small x b bits (rw same h) (rw same l) in
       let is : one-plus.ln-1p-of false b ≡ ln-1p x = rw (same, unsigned) at case in
@@ -190,9 +190,9 @@ module _ {x : Float} {n : ℕ} (is : Is binary64 x false n) (from : 2 ^ least �
       let some = gain-size j (digits b) (range .low) in
       let long = le-trans some (T-size (gain (number b)) j sg seed) in
       let short = T-fits (gain (number b)) j sg seed in
-      subst (Between binary64 false low high) is (answer false (T-answer j sg) (61 + j) long (omega arith) (omega arith) (omega arith))
+      subst (Powers binary64 false low high) is (answer false (T-answer j sg) (61 + j) long (omega arith) (omega arith) (omega arith))
 
-  loss-between : one-plus.tiny ≤ b → b ≤ one-plus.last → Between binary64 true low high (ln-1p (neg x))
+  loss-between : one-plus.tiny ≤ b → b ≤ one-plus.last → Powers binary64 true low high (ln-1p (neg x))
   loss-between h l =
       let case = cases.ln-1p-small (neg x) c negative-bits (rw same-size h) (rw same-size l) in
       let is : one-plus.ln-1p-of true b ≡ ln-1p (neg x) = rw (same-size, signed) at case in
@@ -205,10 +205,10 @@ module _ {x : Float} {n : ℕ} (is : Is binary64 x false n) (from : 2 ^ least �
       let some = loss-size j (digits b) (range .low) digit in
       let long = le-trans some (T-size (loss (number b) proper) j sg seed) in
       let short = T-fits (loss (number b) proper) j sg seed in
-      subst (Between binary64 true low high) is (answer true (T-answer j sg) (61 + j) long (omega arith) (omega arith) (omega arith))
+      subst (Powers binary64 true low high) is (answer true (T-answer j sg) (61 + j) long (omega arith) (omega arith) (omega arith))
 
   -- the negative of a tiny argument
-  opposite : Between binary64 false low high x → Between binary64 true low high (neg x)
+  opposite : Powers binary64 false low high x → Powers binary64 true low high (neg x)
   opposite v = record { n = v .n; is = neg-units (v .is); from = v .from; to = v .to }
 
   abbrev pub spread : Float
@@ -218,15 +218,15 @@ module _ {x : Float} {n : ℕ} (is : Is binary64 x false n) (from : 2 ^ least �
   unfolding sub add
   no-spread e = ap (λ (y : Float). sub binary64 y (ln-1p (neg x))) (sym e)
 
-  both : Between binary64 false low high (ln-1p x) → Between binary64 true low high (ln-1p (neg x)) → Between binary64 false low (high + 1) spread
+  both : Powers binary64 false low high (ln-1p x) → Powers binary64 true low high (ln-1p (neg x)) → Powers binary64 false low (high + 1) spread
   both v w = sum-between binary64 low high v w (lit< tt)
 
-  pub spread-between : (spread ≡ nan) ⊎ Between binary64 false low (high + 1) spread
+  pub spread-between : (spread ≡ nan) ⊎ Powers binary64 false low (high + 1) spread
   spread-between = elim (lt-or-le b one-plus.tiny) [
     | inl h ↦
         let v = itself one-plus.tiny h one-plus-tiny in
-        inr (both (subst (Between binary64 false low high) (cases.ln-1p-tiny x b bits (rw same h)) v)
-        (subst (Between binary64 true low high) (cases.ln-1p-tiny (neg x) c negative-bits (rw same-size h)) (opposite v)))
+        inr (both (subst (Powers binary64 false low high) (cases.ln-1p-tiny x b bits (rw same h)) v)
+        (subst (Powers binary64 true low high) (cases.ln-1p-tiny (neg x) c negative-bits (rw same-size h)) (opposite v)))
     | inr h ↦
         elim (lt-or-le one-plus.last b) [
           | inl l ↦ inl (no-spread (cases.ln-1p-none x b bits (rw same h) (rw same l)))

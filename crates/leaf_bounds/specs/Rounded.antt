@@ -11,7 +11,7 @@ use Rattle.scaling.specs.Near.{near, digits, near-mono, near-exact}
 use Rattle.scaling.specs.Units.{Is, round-units, neg-units, add-units}
 
 -- x has the sign s and from 2 ^ lo to 2 ^ hi units
-pub record Between (f : Format) (s : Bool) (lo hi : ℕ) (x : Float) : Type 0 where
+pub record Powers (f : Format) (s : Bool) (lo hi : ℕ) (x : Float) : Type 0 where
   pub n : ℕ
   pub is : Is f x s n
   pub from : 2 ^ lo ≤ n
@@ -49,7 +49,7 @@ module _ (f : Format) (s : Bool) (A t lo hi i j : ℕ) (least : 2 ^ i ≤ A) (mo
       (le-trans (pow-mono up) (le-of-eq (pow-add 2 hi t)))))))
       (le-of-eq (power f hi))
 
-  pub rounded-between : Between f s lo hi (round f s A (2 ^ t))
+  pub rounded-between : Powers f s lo hi (round f s A (2 ^ t))
   rounded-between = record {
     n = n;
     is = round-units f s A (2 ^ t) (A * 2 ^ low f) (2 ^ t) (pow-pos t) (pow-pos t) refl (lt-of-le-of-lt under fits);
@@ -58,7 +58,7 @@ module _ (f : Format) (s : Bool) (A t lo hi i j : ℕ) (least : 2 ^ i ≤ A) (mo
   }
 
 -- the difference of one above zero and one below, of one size: at most one power of two more
-module _ (f : Format) (lo hi : ℕ) {x y : Float} (v : Between f false lo hi x) (w : Between f true lo hi y) (fits : 2 ^ (hi + 1) < overflow f) where
+module _ (f : Format) (lo hi : ℕ) {x y : Float} (v : Powers f false lo hi x) (w : Powers f true lo hi y) (fits : 2 ^ (hi + 1) < overflow f) where
   abbrev sum : ℕ
   sum = near f (v .n + w .n) 1
 
@@ -78,6 +78,6 @@ module _ (f : Format) (lo hi : ℕ) {x y : Float} (v : Between f false lo hi x) 
       (mul-le-mul-right 1 (le-trans (add-le-add (v .to) (w .to)) (le-of-eq (double ∙ sym (plain (hi + 1)))))))
       (le-of-eq (power f (hi + 1)))
 
-  pub sum-between : Between f false lo (hi + 1) (sub f x y)
+  pub sum-between : Powers f false lo (hi + 1) (sub f x y)
   unfolding sub
   sum-between = record { n = sum; is = add-units (v .is) (neg-units (w .is)) (lt-of-le-of-lt sum-under fits); from = sum-above; to = sum-under }

@@ -16,7 +16,7 @@ count-length n = rw (length-append, digits-length) (omega (arith, places-most 9 
 
 answer-length : (a : Answer) → length (afterName a) ≤ 29
 unfolding afterName valueText refusalText
-answer-length (Value f) = rw (length-append, word-length) (omega (arith, count-length (f .rounds)))
+answer-length (Value f) = rw (length-append, word-length) (omega (arith, count-length (f .way .rounds)))
 answer-length (Refused n) = omega (arith, count-length n)
 
 pub text-length : (c : Call) (a : Answer) → length (textOf c a) ≤ 31

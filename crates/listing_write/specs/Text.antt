@@ -14,7 +14,7 @@ unfoldable pub countText : ℕ → List ℕ
 countText n = decimal 9 n ++ 10 ∷ []
 
 unfoldable pub valueText : Found → List ℕ
-valueText f = wordText (toBits binary64 (f .value)) ++ (32 ∷ countText (f .rounds))
+valueText f = wordText (toBits binary64 (f .value)) ++ (32 ∷ countText (f .way .rounds))
 
 -- " refused ", and the number
 unfoldable pub refusalText : ℕ → List ℕ

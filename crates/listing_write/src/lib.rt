@@ -44,7 +44,7 @@ fn put_value(found: Found, out: &mut [u8], at: usize) -> usize
     out[at] = b' ';
     let end = put_word(split(found.value), out, at + 1);
     out[end] = b' ';
-    put_count(found.rounds, out, end + 1)
+    put_count(found.way.rounds, out, end + 1)
 }
 
 fn put_refusal(number: u32, out: &mut [u8], at: usize) -> usize

@@ -6,7 +6,7 @@ use Rattle.binary64.specs.Leaves.{absolute, maximum}
 use Rattle.binary64.specs.Operators.{_⊕_, _⊖_, _⊗_, _⊘_, bits}
 use Rattle.root.specs.Root.{root}
 use Rattle.power.specs.Power.{power}
-use Rattle.starts.specs.Starts.{rj-start}
+use Rattle.derived.specs.Starts.{rj-start}
 use Rattle.carlson.specs.Constants.{zero, one, two, three, four, half}
 use Rattle.carlson.specs.Common.{lambdaWith, thirdKind}
 use Rattle.carlson.specs.Loop.{capped}

@@ -14,8 +14,10 @@ use Rattle.binary64.specs.Leaves.{absolute, maximum, minimum}
 use Rattle.binary64.specs.Operators.{_⊗_, bits}
 use Rattle.carlson.specs.Constants.{zero as +0, one}
 use Rattle.carlson.specs.Checks.{below3}
-use Rattle.carlson.specs.Rescaling.{scaleOf3, beyondLimits}
-use Rattle.carlson.specs.Answer.{settled}
+use Rattle.carlson.specs.Rescaling.{scaleOf3, beyondLimits, rescaling3}
+use Rattle.carlson.specs.Answer.{carriedAt, settled}
+use Rattle.carlson.specs.Only.{Only, Finite, refused}
+use Rattle.carlson.specs.Only as only
 use Rattle.carlson.specs.declared.answer.Found.{Found}
 use Rattle.carlson.specs.declared.answer.Answer.{Answer}
 use Rattle.carlson.specs.declared.answer.Answer.the-variants.{Value, Refused}
@@ -28,15 +30,12 @@ use Rattle.swing.specs.Period.{
   times,
   swung,
   periodOf,
-  Only,
-  finite-value,
-  length-refused,
-  height-refused,
+  swingNumbers,
   length-or-gravity,
   height-number,
 }
 use Rattle.swing.specs.Ranges.{From1, in-within}
-use Rattle.swing.specs.Between.{Between, has-value, units-of, units-high, product-between}
+use Rattle.between.specs.Between.{Between, has-value, units-of, units-high, product-between}
 use Rattle.swing.specs.Compared.{
   lt-is,
   eq-is,
@@ -117,7 +116,7 @@ module _ {y : Float} (Y : Between (power 998) below-one y) where
   scale-is = rw (size-of-zero, own-size Y, size-of-one, no-nan-zero, above-zero Y, not-nan Y, below-1)
 
   unchecked-is : rfUnchecked +0 y one ≡ agmOf one y
-  unfolding rfUnchecked
+  unfolding rfUnchecked rescaling3
   unchecked-is = rw (scale-is, one-not-beyond, steps-are)
 
   pub rf-is : rf +0 y one ≡ Value (agmOf one y)
@@ -144,11 +143,11 @@ record InRange (l h g : ℕ) : Type 0 where
   gravity-in : From1 g 20000000
   height-in : From1 h (2 * l - 1)
 
--- what a swing of arguments in range takes, with RF's rounds
+-- what a swing of arguments in range takes, with RF's way
 swing-of : ℕ → ℕ → ℕ → Found
 swing-of l h g =
     let f = agmOf one (ratio (2 * l - h) (2 * l)) in
-    record { value = fourRoots l g ⊗ f .value; rounds = f .rounds }
+    carriedAt (fourRoots l g ⊗ f .value) (f .way)
 
 module _ (l h g : ℕ) (R : InRange l h g) where
   argument-in : Between (power 998) below-one (ratio (2 * l - h) (2 * l))
@@ -169,7 +168,7 @@ module _ (l h g : ℕ) (R : InRange l h g) where
   swung-is = rw (rf-is argument-in)
 
   swing-between : Between (power 1012) (power 1042) (swing-of l h g .value)
-  unfolding value swing-of
+  unfolding value swing-of carriedAt
   swing-between =
       product-between (four-roots l g (R .length-in) (R .gravity-in)) (mean (ratio (2 * l - h) (2 * l)) argument-in) (power 1012)
       (power 1042) tt tt tt
@@ -197,12 +196,12 @@ period-bounded l h g = go (within l 10000000) (within g 20000000) (within h (2 *
         } in
         subst Bounded (sym (swung-is l h g R)) (value-in (swing-between l h g R))
 
-bounded-only : (a : Answer) → Bounded a → Only a
-bounded-only (Value f) (value-in v) = finite-value (is-finite v)
-bounded-only (Refused n) no-length = length-refused
-bounded-only (Refused n) no-height = height-refused
+bounded-only : (a : Answer) → Bounded a → Only Finite swingNumbers a
+bounded-only (Value f) (value-in v) = only.value (is-finite v)
+bounded-only (Refused n) no-length = refused tt
+bounded-only (Refused n) no-height = refused tt
 
-pub period-only : (l h g : ℕ) → Only (periodOf l h g)
+pub period-only : (l h g : ℕ) → Only Finite swingNumbers (periodOf l h g)
 period-only l h g = bounded-only (periodOf l h g) (period-bounded l h g)
 
 pub period-value : (l h g : ℕ) (f : Found) → periodOf l h g ≡ Value f → Between (power 1012) (power 1042) (f .value)

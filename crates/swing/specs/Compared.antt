@@ -19,7 +19,7 @@ use Rattle.binary64.specs.Leaves.{absolute}
 use Rattle.binary64.specs.Operators.{bits}
 use Rattle.carlson.specs.Constants.{zero as +0, one}
 use Rattle.swing.specs.Period.{times}
-use Rattle.swing.specs.Between.{Between, form, has-value, units-of, units-pos}
+use Rattle.between.specs.Between.{Between, form, has-value, units-of, units-pos}
 
 -- ---- tests on f64s whose units are known
 module _ (a b c d u w D : ℕ) (P : 0 < D) (C : 0 < c * d) (e : a * D ≡ u * c) (f : b * D ≡ w * d) where

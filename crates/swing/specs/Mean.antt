@@ -8,12 +8,12 @@ use lib.Ieee.{Float}
 use Rattle.rounding.specs.Cut.{value}
 use Rattle.binary64.specs.Operators.{_⊘_}
 use Rattle.carlson.specs.Constants.{one, two, pi}
-use Rattle.carlson.specs.Answer.{countedAt}
+use Rattle.carlson.specs.Answer.{agmAt}
 use Rattle.carlson.specs.Loop.{capped}
 use Rattle.carlson.specs.declared.answer.Found.{Found}
 use Rattle.elliprf.specs.declared.means.Means.{Means}
 use Rattle.elliprf.specs.Means.{meansOf, agmValue, agmStart, agmCount, together, agmOf}
-use Rattle.swing.specs.Between.{solid, Between, sum-between, product-between, quotient-between, root-between, constant}
+use Rattle.between.specs.Between.{solid, Between, sum-between, product-between, quotient-between, root-between, constant}
 use Rattle.swing.specs.Ratios.{power, below-one}
 
 -- ---- the mean's passes keep its two numbers up to 1, and from 2 ^ -4 on after the second
@@ -84,5 +84,5 @@ mean y Y =
     started = unfold value agmStart in
         (root-between (constant (power 1023) tt) (power 1023) (power 1023) tt tt tt, root-between Y (power 1010) (power 1023) tt tt tt)
 
-    counted : (v : Float) (n : ℕ) → countedAt v n .value ≡ v
-    counted v n = unfold countedAt in refl
+    counted : (v : Float) (n : ℕ) → agmAt v n .value ≡ v
+    counted v n = unfold agmAt in refl

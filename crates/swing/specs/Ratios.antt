@@ -15,7 +15,7 @@ use Rattle.algebra.specs.Ring.{con, nxt, _:*_, _≈_, _⊩_, _times_≼_, ring,
 use Rattle.rounding.specs.Cut.{value}
 use Rattle.swing.specs.Period.{whole, ratio, fourRoots, times}
 use Rattle.swing.specs.Ranges.{From1}
-use Rattle.swing.specs.Between.{Between, div-is, form-of, fraction-between, product-between, root-between, constant}
+use Rattle.between.specs.Between.{Between, div-is, form-of, fraction-between, product-between, root-between, constant}
 
 -- the pattern of a power of two, by its exponent's field: 1023 is that of 1
 abbrev pub power : ℕ → ℕ

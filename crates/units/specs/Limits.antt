@@ -16,8 +16,9 @@ use Rattle.scaling.specs.Kind.{In}
 use Rattle.scaling.specs.Two.{Two}
 use Rattle.scaling.specs.One.{litOk, lit-is, abs-units, maximum-units}
 use Rattle.scaling.specs.Tests.{zero-is}
-use Rattle.carlson.specs.Constants.{zero, limit, reciprocal}
-use Rattle.carlson.specs.Rescaling.{scaleOf2, scaleOf3, scaleOf4, beyondLimits}
+use Rattle.derived.specs.Limits.{limit, reciprocal}
+use Rattle.carlson.specs.Constants.{zero}
+use Rattle.carlson.specs.Rescaling.{scaleOf2, scaleOf3, scaleOf4, beyondLimits, rescaling2, rescaling3}
 use Rattle.units.specs.Kinds.{argumentK}
 
 -- a size: zero, or from 2 ^ -64 to 2 ^ 64
@@ -76,6 +77,17 @@ within2 x y a b = within-limits (larger-size a b)
 
 pub within3 : (x y z : Float) → Size (absolute x) → Size (absolute y) → Size (absolute z) → beyondLimits (scaleOf3 x y z) ≡ false
 within3 x y z a b c = within-limits (larger-size (larger-size a b) c)
+
+-- so the steps are made at the arguments themselves
+pub unscaled2 : {A : Type 0} (back : A → Float → A) (steps : Float → Float → A) (x y : Float) → Size (absolute x) → Size (absolute y)
+    → rescaling2 back steps x y ≡ steps x y
+unfolding rescaling2
+unscaled2 back steps x y a b = rw (within2 x y a b)
+
+pub unscaled3 : {A : Type 0} (back : A → Float → A) (steps : Float → Float → Float → A) (x y z : Float) → Size (absolute x) → Size (absolute y)
+    → Size (absolute z) → rescaling3 back steps x y z ≡ steps x y z
+unfolding rescaling3
+unscaled3 back steps x y z a b c = rw (within3 x y z a b c)
 
 pub within4 : (x y z p : Float) → Size (absolute x) → Size (absolute y) → Size (absolute z) → Size (absolute p)
     → beyondLimits (scaleOf4 x y z p) ≡ false

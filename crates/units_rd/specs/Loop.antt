@@ -4,6 +4,7 @@ use Prim.Native.Nat.{ℕ, suc, _+_, _*_, _^_, _≤_, _<_}
 use native.Mathlib.Nat.{le-trans, le-refl, mul-le-mul-right}
 use native.Mathlib.Omega.{arith}
 use mathlib.Core.Bool.{Bool, _||_}
+use mathlib.Core.Logic.{inr}
 use lib.Dec.{T}
 use lib.Ieee.{Float, binary64, low}
 use Rattle.carlson.specs.Loop.{capped}
@@ -11,7 +12,7 @@ use Rattle.elliprd.specs.Duplicate.{rdMean, rdBegin, rdStep, rdClose, rdSeries,
 use Rattle.elliprd.specs.declared.duplicate.Round.{Round}
 use Rattle.scaling.specs.Two.{Two}
 use Rattle.scaling.specs.Signed.{above}
-use Rattle.units.specs.Runs.{Same, counted, spent-both, loop-two}
+use Rattle.units.specs.Runs.{Same, duplicated, neither, loop-two}
 use Rattle.units_rd.specs.Mean.{argK, Arg, some?, units, units'}
 use Rattle.units_rd.specs.Gaps.{bounded, turned}
 use Rattle.units_rd.specs.Step.{Inv, step-inv}
@@ -77,7 +78,7 @@ module _ {k : ℕ} {x x' y y' z z' : Float} (a : Arg k x x') (b : Arg k y y') (c
 
   ends : (j : ℕ) (s t : Round) (n : ℕ) → j ≤ 49 → I j s t → T (rdClose s)
       → Same k valueK (rdFound x y (rdMean x y z) s n) (rdFound x' y' (rdMean x' y' z') t n)
-  ends j s t n l i close = counted n (value-two j s t (let r : j ≤ 50 = omega arith in r) i close)
+  ends j s t n l i close = duplicated n (inr (value-two j s t (let r : j ≤ 50 = omega arith in r) i close))
 
   pub same-test : (j : ℕ) (s t : Round) → I j s t → rdClose s ≡ rdClose t
   unfolding rdClose
@@ -95,4 +96,4 @@ module _ {k : ℕ} {x x' y y' z z' : Float} (a : Arg k x x') (b : Arg k y y') (c
       subst (λ (b : Bool). Same k valueK (rdDuplication x y z) (capped rdStep rdClose (rdFound x' y' (rdMean x' y' z')) rdSpent 49 b t 1))
       (same-test 49 s t i)
       (loop-two rdStep rdClose (rdFound x y (rdMean x y z)) rdSpent (rdFound x' y' (rdMean x' y' z')) rdSpent (Same k valueK) I 49 pass
-      (λ j s t l i. same-test j s t i) ends (λ s t n i. spent-both k valueK n) 49 (rdClose s) s t 1 (le-refl 49) (λ q. q) i)
+      (λ j s t l i. same-test j s t i) ends (λ s t n i. duplicated n neither) 49 (rdClose s) s t 1 (le-refl 49) (λ q. q) i)

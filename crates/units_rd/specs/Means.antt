@@ -4,6 +4,7 @@ use Prim.Native.Nat.{ℕ, suc, _-_, _*_, _^_, _≤_, _<_}
 use native.Mathlib.Nat.{le-refl}
 use native.Mathlib.Omega.{arith}
 use mathlib.Core.Bool.{Bool, true, false, not, _&&_}
+use mathlib.Core.Logic.{inr}
 use lib.Dec.{T}
 use lib.Ieee.{Float, binary64, eq, ofBits}
 use lib.Ieee.Fits.{and-l, and-r}
@@ -22,7 +23,7 @@ use Rattle.scaling.specs.Root.{rootK, rootOk, root-two}
 use Rattle.scaling.specs.Distinct.{distinctK, distinct-two}
 use Rattle.scaling.specs.Nothing.{nothing-two}
 use Rattle.scaling.specs.Every.{all, every}
-use Rattle.units.specs.Runs.{counted, loop-two}
+use Rattle.units.specs.Runs.{mean, loop-two}
 use Rattle.units.specs.Ran.{Ran, refusal, result}
 use Rattle.units_rd.specs.Mean.{argK}
 
@@ -167,7 +168,7 @@ module _ {k : ℕ} {y y' z z' : Float} (Y : Two binary64 k argK y y') (Z : Two b
   unfolding rdMeanValue
   ends j s t n l i =
       let f : j < 41 = omega arith in
-      result (counted n (value-two (side-two Y) (side-two Z) Y Z h (i .x) (i .y) (widen-two (i .sum) (any-squares j f))))
+      result (mean n (inr (value-two (side-two Y) (side-two Z) Y Z h (i .x) (i .y) (widen-two (i .sum) (any-squares j f)))))
 
   pub agm-two : Ran k agmK (rdAgmOf y z) (rdAgmOf y' z')
   unfolding rdAgmOf

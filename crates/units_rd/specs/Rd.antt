@@ -6,12 +6,11 @@ use native.Mathlib.Omega.{arith}
 use mathlib.Core.Bool.{Bool, true, false, not, _&&_, _||_, cond}
 use lib.Dec.{T}
 use lib.Ieee.{Float, binary64, eq, le, lt}
-use Rattle.binary64.specs.Leaves.{minimum}
+use Rattle.binary64.specs.Leaves.{absolute, minimum}
 use Rattle.carlson.specs.Constants.{zero, no-result}
 use Rattle.carlson.specs.Checks.{anyNan3, anyInfinite3}
-use Rattle.carlson.specs.Rescaling.{beyondLimits, scaleOf3, survive3}
 use Rattle.carlson.specs.declared.answer.Answer.{Answer}
-use Rattle.elliprd.specs.Rd.{rdSteps, rdRescaled, rdUnchecked, rdSettled, rd}
+use Rattle.elliprd.specs.Rd.{rdSteps, overScale, rdUnchecked, rdSettled, rd}
 use Rattle.scaling.specs.Kind.{Kind}
 use Rattle.scaling.specs.Units.{Is}
 use Rattle.scaling.specs.Two.{Two}
@@ -22,7 +21,7 @@ use Rattle.scaling.specs.Signs.{bounded, lt-zero-two, above-two}
 use Rattle.units.specs.Statement.{InRange, TimesFour, Alike}
 use Rattle.units.specs.Kinds.{argumentK}
 use Rattle.units.specs.Arguments.{argument, neither-below}
-use Rattle.units.specs.Limits.{first-size, second-size, within3}
+use Rattle.units.specs.Limits.{Size, first-size, second-size, unscaled3}
 use Rattle.units.specs.Answers.{Pair, no, late-same, alike-of, alike-back, times-back, either-way}
 use Rattle.units.specs.Ran.{Ran, refusal, result}
 use Rattle.units_rd.specs.Means.{agmK}
@@ -34,10 +33,9 @@ settle refusal = no
 settle (result s) = late-same no-result s
 
 -- ---- of one run: nothing is rescaled, and no argument is NaN or infinite
-unscaled : (x y z : Float) → beyondLimits (scaleOf3 x y z) ≡ false → rdUnchecked x y z ≡ rdSteps x y z
+unscaled : (x y z : Float) → Size (absolute x) → Size (absolute y) → Size (absolute z) → rdUnchecked x y z ≡ rdSteps x y z
 unfolding rdUnchecked
-unscaled x y z e = ap (λ (b : Bool). cond b (cond (survive3 x y z (scaleOf3 x y z)) (rdRescaled x y z (scaleOf3 x y z)) (rdSteps x y z))
-    (rdSteps x y z)) e
+unscaled x y z a b c = unscaled3 overScale rdSteps x y z a b c
 
 module _ {x y z : Float} {r s t : Bool} {l m n : ℕ} (X : Is binary64 x r l) (Y : Is binary64 y s m) (Z : Is binary64 z t n) where
   no-nan : anyNan3 x y z ≡ false
@@ -59,15 +57,15 @@ module _ {k : ℕ} {x x' y y' z z' : Float} (X : Two binary64 k argumentK x x') 
         no-infinite (X .second) (Y .second) (Z .second),
       )
       (subst₂ (λ a b. Pair k agmK (rdSettled a false false) (rdSettled b false false))
-      (sym (unscaled x y z (within3 x y z (first-size X) (first-size Y) (first-size Z))))
-      (sym (unscaled x' y' z' (within3 x' y' z' (second-size X) (second-size Y) (second-size Z)))) (settle r))
+      (sym (unscaled x y z (first-size X) (first-size Y) (first-size Z)))
+      (sym (unscaled x' y' z' (second-size X) (second-size Y) (second-size Z))) (settle r))
 
   -- RD as RJ calls it, with z above zero
   pub unchecked-ran : T (not (lt x zero)) → T (not (lt y zero)) → T (not (eq x zero && eq y zero)) → T (not (lt z zero)) → T (not (eq z zero))
       → Ran k agmK (rdUnchecked x y z) (rdUnchecked x' y' z')
   unchecked-ran hx hy nz hz n =
-      subst₂ (Ran k agmK) (sym (unscaled x y z (within3 x y z (first-size X) (first-size Y) (first-size Z))))
-      (sym (unscaled x' y' z' (within3 x' y' z' (second-size X) (second-size Y) (second-size Z)))) (steps-two (above-two Z hz n) X Y hx hy nz)
+      subst₂ (Ran k agmK) (sym (unscaled x y z (first-size X) (first-size Y) (first-size Z)))
+      (sym (unscaled x' y' z' (second-size X) (second-size Y) (second-size Z))) (steps-two (above-two Z hz n) X Y hx hy nz)
 
   pub rd-pair : Pair k agmK (rd x y z) (rd x' y' z')
   unfolding rd le

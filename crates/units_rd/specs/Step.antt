@@ -177,7 +177,8 @@ module _ {k j M M' A A' : ℕ} {s s' : Round} (h : j < 50) (i : Kept k (suc j) M
   far : (n : ℕ) → 2 ^ 1008 ≤ n → 2 ^ 55 ≤ n
   far n g = le-trans (pow-mono {i = 55} {j = 1008} (lit≤ tt)) g
 
-  pub moved : {r r' : Float} → Two binary64 k rootsK r r' → Kept k j M M' A A' (rdMoved s v r) (rdMoved s' v' r')
+  pub moved : {r r' : Float} → Two binary64 k rootsK r r'
+      → Kept k j M M' A A' (rdMoved s (record { lambda = v; rz = r })) (rdMoved s' (record { lambda = v'; rz = r' }))
   unfolding rdMoved boundOk fourthOk sumsOk fourK litOk ofBits widen-two div-two plus-two summed lit-two quarter-two
   moved r = record {
     z = quarter-two (i .z) L;

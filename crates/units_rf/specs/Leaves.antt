@@ -15,7 +15,7 @@ use Rattle.series.specs.Ln1p.{ln-1p}
 use Rattle.scaling.specs.Units.{Is}
 use Rattle.scaling.specs.Kind.{Kind, last, floor-le}
 use Rattle.scaling.specs.Leaf.{Leaf, Value}
-use Rattle.leaf_bounds.specs.Rounded.{Between}
+use Rattle.leaf_bounds.specs.Rounded.{Powers}
 use Rattle.leaf_bounds.specs.Leaves.{low, atan-between, ln-between, spread-between}
 use Rattle.leaf_bounds.specs.Leaves as bounds
 
@@ -31,7 +31,7 @@ abbrev pub leafK : Kind
 leafK = record { any = false; zer = false; lo = 2 ^ 970; hi = 2 ^ 1090; g = last binary64 (2 ^ 970); u = 0; d = 0 }
 
 -- ---- the rules
-pub leaf-value : {y : Float} {h : ℕ} → h ≤ 1090 → Between binary64 false low h y → Value binary64 leafK y
+pub leaf-value : {y : Float} {h : ℕ} → h ≤ 1090 → Powers binary64 false low h y → Value binary64 leafK y
 leaf-value {h = h} l v = record {
   s = false;
   n = v .n;

@@ -2,6 +2,7 @@
 use mathlib.Core.Path.{_≡_, ap, subst}
 use Prim.Native.Nat.{ℕ, suc, _^_}
 use mathlib.Core.Bool.{false, not}
+use mathlib.Core.Logic.{inr}
 use lib.Dec.{lit≤}
 use lib.Ieee.{Float, binary64}
 use Rattle.binary64.specs.Operators.{bits}
@@ -17,7 +18,7 @@ use Rattle.carlson.specs.Loop.{capped}
 use Rattle.elliprf.specs.declared.means.Means.{Means}
 use Rattle.elliprf.specs.Means.{meansOf, agmValue, agmStart, agmCount, together, agmOf}
 use Rattle.units.specs.Kinds.{meanK}
-use Rattle.units.specs.Runs.{Same, counted, loop-two}
+use Rattle.units.specs.Runs.{Same, mean, loop-two}
 use Rattle.units_rf.specs.Rc.{resultK}
 
 -- a mean of roots: from 2 ^ -32 to 2 ^ 32, and multiplied by 2 ^ k
@@ -61,4 +62,4 @@ module _ {k : ℕ} where
       (test 11 s t i)
       (loop-two meansOf together agmCount agmCount agmCount agmCount (Same k resultK) (Inv k) 11 (λ j s t h i. pass j s t i)
       (λ j s t h i. test j s t i)
-      (λ j s t n h i p. counted n (value-two j s t i)) (λ s t n i. counted n (value-two 0 s t i)) 11 (together s) s t 0 (lit≤ tt) (λ p. p) i)
+      (λ j s t n h i p. mean n (inr (value-two j s t i))) (λ s t n i. mean n (inr (value-two 0 s t i))) 11 (together s) s t 0 (lit≤ tt) (λ p. p) i)

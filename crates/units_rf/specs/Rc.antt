@@ -26,17 +26,16 @@ use Rattle.scaling.specs.Root.{rootK, rootOk, root-two}
 use Rattle.scaling.specs.Signs.{lt-zero-two, minus, above-two, opposite-two}
 use Rattle.scaling.specs.Pick.{choose}
 use Rattle.carlson.specs.Constants as constant
-use Rattle.carlson.specs.Answer.{closedAt, settledLate}
+use Rattle.carlson.specs.Answer.{settledLate}
 use Rattle.carlson.specs.Checks.{anyNan2, anyInfinite2}
-use Rattle.carlson.specs.Rescaling.{scaleOf2, survive2}
 use Rattle.carlson.specs.declared.answer.Answer.{Answer}
-use Rattle.elliprc.specs.Rc.{rcCases, rcSteps, rcRescaled, rcUnchecked, rc}
+use Rattle.elliprc.specs.Rc.{rcCases, rcSteps, rcFound, overRoot, rcUnchecked, rc}
 use Rattle.units.specs.Statement.{InRange, TimesFour, Alike}
 use Rattle.units.specs.Kinds.{argumentK, meanK}
 use Rattle.units.specs.Arguments.{no-units-of, argument, Argument, above}
 use Rattle.units.specs.Checks.{numbers2, finite2}
-use Rattle.units.specs.Limits.{Size, first-size, second-size, within2}
-use Rattle.units.specs.Runs.{Fair, fair, wider-fair}
+use Rattle.units.specs.Limits.{Size, first-size, second-size, unscaled2}
+use Rattle.units.specs.Runs.{Fair, Same, fair, wider-fair, value-fair}
 use Rattle.units.specs.Answers.{Pair, no, late-same, alike-of, alike-back, onward, backward, either-way}
 use Rattle.units_rf.specs.Cases.{wideK, Carries, cases-fair}
 
@@ -96,11 +95,11 @@ from-zero {x} {y} {s} {n} X Y h =
 
 -- ---- past the checks, and not rescaled
 abbrev late : Float → Float → Bool → Bool → Answer
-late x y a b = settledLate (closedAt (rcUnchecked x y)) a b 7
+late x y a b = settledLate (rcUnchecked x y) a b 7
 
-pub unscaled : (x y : Float) → Size (absolute x) → Size (absolute y) → rcUnchecked x y ≡ rcSteps x y
+pub unscaled : (x y : Float) → Size (absolute x) → Size (absolute y) → rcUnchecked x y ≡ rcFound x y
 unfolding rcUnchecked
-unscaled x y a b = let s = scaleOf2 x y in ap (λ t. cond t (cond (survive2 x y s) (rcRescaled x y s) (rcSteps x y)) (rcSteps x y)) (within2 x y a b)
+unscaled x y a b = unscaled2 overRoot rcFound x y a b
 
 module _ {k : ℕ} where
   -- ---- y above zero
@@ -169,19 +168,24 @@ module _ {k : ℕ} where
       (λ b. wider-fair (above-fair X t (above-two Y b z)) tt)
 
   -- ---- RC as RF, RG and RJ call it, with y above zero
-  pub unchecked-fair : {x y x' y' : Float} → Argument k x x' → Argument k y y' → T (not (eq y constant.zero))
-      → Fair k resultK (rcUnchecked x y) (rcUnchecked x' y')
-  unfolding rcSteps
-  unchecked-fair {x} {y} {x'} {y'} X Y z =
-      subst₂ (Fair k resultK) (sym (unscaled x y (first-size (X .two)) (first-size (Y .two))))
+  pub rc-same : {x y x' y' : Float} → Argument k x x' → Argument k y y' → T (not (eq y constant.zero))
+      → Same k resultK (rcUnchecked x y) (rcUnchecked x' y')
+  unfolding rcSteps rcFound
+  rc-same {x} {y} {x'} {y'} X Y z =
+      subst₂ (Same k resultK) (sym (unscaled x y (first-size (X .two)) (first-size (Y .two))))
       (sym (unscaled x' y' (second-size (X .two)) (second-size (Y .two))))
-      (choose (Fair k resultK) (lt y constant.zero) (lt y' constant.zero) (lt-zero-two (Y .two))
+      (fair (choose (Fair k resultK) (lt y constant.zero) (lt y' constant.zero) (lt-zero-two (Y .two))
       (λ t. absurd (T-not (lt y constant.zero) (Y .plus) t))
-      (λ t. above-fair (X .two) (X .plus) (above Y z)))
+      (λ t. above-fair (X .two) (X .plus) (above Y z))))
+
+  -- its value alone
+  pub unchecked-fair : {x y x' y' : Float} → Argument k x x' → Argument k y y' → T (not (eq y constant.zero))
+      → Fair k resultK (rcUnchecked x y .value) (rcUnchecked x' y' .value)
+  unchecked-fair X Y z = value-fair (rc-same X Y z)
 
   -- ---- the entry
   pub rc-pair : {x y x' y' : Float} → Two binary64 k argumentK x x' → Two binary64 k argumentK y y' → Pair k rcK (rc x y) (rc x' y')
-  unfolding rc
+  unfolding rc rcFound
   rc-pair {x} {y} {x'} {y'} X Y =
       choose (Pair k rcK) (lt x constant.zero) (lt x' constant.zero) (lt-zero-two X) (λ t. no)
       (λ t.
@@ -191,8 +195,8 @@ module _ {k : ℕ} where
       (sym (finite2 (X .first) (Y .first)))
       (subst₂ (λ a b. Pair k rcK (late x y false false) (late x' y' a b)) (sym (numbers2 (X .second) (Y .second)))
       (sym (finite2 (X .second) (Y .second)))
-      (late-same 7 (fair (subst₂ (Fair k rcK) (sym (unscaled x y (first-size X) (first-size Y)))
-      (sym (unscaled x' y' (second-size X) (second-size Y))) (steps-fair X t Y z)))))))
+      (late-same 7 (subst₂ (Same k rcK) (sym (unscaled x y (first-size X) (first-size Y)))
+      (sym (unscaled x' y' (second-size X) (second-size Y))) (fair (steps-fair X t Y z)))))))
 
 upward : (k d : ℕ) (x y x' y' : Float) → InRange x → InRange y → InRange x' → InRange y' → TimesFour (k + d) d x x' → TimesFour (k + d) d y y'
     → Alike d (k + d) (rc x y) (rc x' y')

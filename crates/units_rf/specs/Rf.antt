@@ -17,27 +17,25 @@ use Rattle.scaling.specs.Pick.{choose}
 use Rattle.carlson.specs.Constants.{zero, one, two, pi}
 use Rattle.carlson.specs.Answer.{infiniteAt, settled}
 use Rattle.carlson.specs.Checks.{anyInfinite3, below3, zerosOf3}
-use Rattle.carlson.specs.Rescaling.{scaleOf3, survive3}
 use Rattle.carlson.specs.declared.answer.Answer.{Answer}
 use Rattle.carlson.specs.declared.answer.Answer.the-variants.{Refused}
-use Rattle.elliprf.specs.Rf.{allEqual, oneZero, twoEqual, rfGeneral, rfSteps, rfRescaled, rfUnchecked, rf}
+use Rattle.elliprc.specs.Rc.{overRoot}
+use Rattle.elliprf.specs.Rf.{allEqual, oneZero, twoEqual, rfGeneral, rfSteps, rfUnchecked, rf}
 use Rattle.units.specs.Statement.{InRange, TimesFour, Alike}
 use Rattle.units.specs.Kinds.{argumentK, meanK}
 use Rattle.units.specs.Arguments.{argument, Argument, above, other, distinct}
 use Rattle.units.specs.Checks.{numbers3, finite3, below3-two, above3, zeros3-two, zeros-apart}
-use Rattle.units.specs.Limits.{Size, first-size, second-size, within3}
-use Rattle.units.specs.Runs.{Same, closed, fair}
+use Rattle.units.specs.Limits.{Size, first-size, second-size, unscaled3}
+use Rattle.units.specs.Runs.{Same, closed}
 use Rattle.units.specs.Answers.{Pair, no, settled-same, alike-of, alike-back, onward, backward, either-way}
-use Rattle.units_rf.specs.Rc.{resultK, unchecked-fair}
+use Rattle.units_rf.specs.Rc.{resultK, rc-same}
 use Rattle.units_rf.specs.Rounds.{duplication-same}
 use Rattle.units_rf.specs.Means.{agm-same}
 
 -- no argument in range is rescaled
 pub unscaled : (x y z : Float) → Size (absolute x) → Size (absolute y) → Size (absolute z) → rfUnchecked x y z ≡ rfSteps x y z
 unfolding rfUnchecked
-unscaled x y z a b c =
-    let s = scaleOf3 x y z in
-    ap (λ t. cond t (cond (survive3 x y z s) (rfRescaled x y z s) (rfSteps x y z)) (rfSteps x y z)) (within3 x y z a b c)
+unscaled x y z a b c = unscaled3 overRoot rfSteps x y z a b c
 
 -- what follows the check for NaN
 abbrev numbered : Float → Float → Float → Answer
@@ -58,7 +56,7 @@ module _ {k : ℕ} where
 module _ {k : ℕ} where
   two-equal : {x y x' y' : Float} → Argument k x x' → Argument k y y' → T (not (eq y zero)) → Same k resultK (twoEqual x y) (twoEqual x' y')
   unfolding twoEqual
-  two-equal X Y z = fair (unchecked-fair X Y z)
+  two-equal X Y z = rc-same X Y z
 
   module _ {x y z x' y' z' : Float} (X : Argument k x x') (Y : Argument k y y') (Z : Argument k z z')
       (xy : T (not (eq x zero && eq y zero))) (xz : T (not (eq x zero && eq z zero))) (yz : T (not (eq y zero && eq z zero))) where

@@ -6,6 +6,7 @@ use Prim.Native.Nat.{ℕ, suc, _+_, _-_, _*_, _^_, _≤_, _<_, max}
 use native.Mathlib.Nat.{le-trans, le-of-lt, lt-of-lt-of-le, mul-le-mul-left, mul-le-mul-right, le-max-left, le-max-right}
 use native.Mathlib.Omega.{arith}
 use mathlib.Core.Bool.{Bool, false, _&&_}
+use mathlib.Core.Logic.{inr}
 use lib.Dec.{T, ltb→lt, lit≤, lit<}
 use lib.Pow.{pow-mono}
 use lib.Ieee.{Float, binary64, low, lt, below}
@@ -22,9 +23,9 @@ use Rattle.scaling.specs.Lead.{Ahead, ahead-start, ahead-step, ahead-end}
 use Rattle.scaling.specs.Every.{all, every}
 use Rattle.carlson.specs.Constants.{one, four}
 use Rattle.elliprf.specs.declared.duplicate.Round.{Round}
-use Rattle.elliprf.specs.Duplicate.{meanOf, rfStart, rfBegin, rfStep, rfClose, rfCorrection, rfSeries, rfFound, rfSpent, rfDuplication}
+use Rattle.elliprf.specs.Duplicate.{meanOf, rfStart, rfBegin, rfMoved, rfStep, rfClose, rfCorrection, rfSeries, rfFound, rfSpent, rfDuplication}
 use Rattle.units.specs.Kinds.{meanK}
-use Rattle.units.specs.Runs.{Same, counted, spent-both, loop-two}
+use Rattle.units.specs.Runs.{Same, duplicated, neither, loop-two}
 use Rattle.units_rf.specs.Rc.{resultK}
 use Rattle.units_rf.specs.Series.{smallK, lambda-two, quarter-two, mean-two, factor-two}
 
@@ -94,7 +95,7 @@ module _ {k : ℕ} where
 
   -- ---- a pass
   pub pass : {D D' : ℕ} (j : ℕ) (s t : Round) → j < 50 → Inv k D D' (suc j) s t → Inv k D D' j (rfStep s) (rfStep t)
-  unfolding rfStep fourK quarterOk powerOk litOk widen-two mul-two div-two four-two lit-two
+  unfolding rfStep rfMoved fourK quarterOk powerOk litOk widen-two mul-two div-two four-two lit-two
   pass {D} {D'} j s t h i =
       let l = lambda-two (i .xn) (i .yn) (i .zn) in
       let c = quarters j h in
@@ -206,8 +207,8 @@ module _ {k : ℕ} where
       let a₀' = meanOf x' y' z' in
       loop-two rfStep rfClose (rfFound x y a₀) rfSpent (rfFound x' y' a₀') rfSpent (Same k resultK) (Inv k (max (G .m) (H .m)) (max (G .n) (H .n))) 11
       (λ j s t h. pass j s t (fifty j h)) closes
-      (λ j s t n h i p. counted n (series-two j a₀ x y a₀' x' y' s t G H (more j h) i p))
-      (λ s t n i. spent-both k resultK n)
+      (λ j s t n h i p. duplicated n (inr (series-two j a₀ x y a₀' x' y' s t G H (more j h) i p)))
+      (λ s t n i. duplicated n neither)
       11 false (rfBegin x y z) (rfBegin x' y' z') 0 (lit≤ tt) (λ p. absurd p) (begin 11 (lit< tt) X Y Z G H)
     where
       more : (j : ℕ) → j ≤ 11 → j < 51

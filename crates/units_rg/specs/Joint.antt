@@ -9,7 +9,7 @@ use lib.Ieee.{Float, nan, binary64, ofBits}
 use Rattle.binary64.specs.Operators.{_⊕_, _⊖_, _⊗_, _⊘_}
 use Rattle.root.specs.Root.{root}
 use Rattle.carlson.specs.Constants.{two, three}
-use Rattle.carlson.specs.Answer.{countedAt}
+use Rattle.carlson.specs.Answer.{jointAt}
 use Rattle.elliprf.specs.Duplicate.{meanOf}
 use Rattle.elliprd.specs.Duplicate.{rdMean}
 use Rattle.rg_joint.specs.Joint.{jointBegun, jointMoved, jointNext, allDone, rfRdOf, jointOf, rgValue, rgJoint}
@@ -21,7 +21,7 @@ use Rattle.scaling.specs.One.{lit-two, litOk, widen-two, sub-two}
 use Rattle.scaling.specs.Root.{rootK, rootOk, root-two}
 use Rattle.scaling.specs.Nan.{mul-nan, nan-div, nan-sub, sub-nan, nan-add}
 use Rattle.units.specs.Kinds.{meanK}
-use Rattle.units.specs.Runs.{Fair, Same, counted, spent-both, loops-two}
+use Rattle.units.specs.Runs.{Fair, Same, jointly, loops-two}
 use Rattle.units_rf.specs.Rc.{resultK}
 use Rattle.units_rf.specs.Series.{mean-two}
 use Rattle.units_rf.specs.Rounds.{gapK}
@@ -125,9 +125,5 @@ module _ {k : ℕ} {x y z x' y' z' : Float} (X : Two binary64 k meanK x x') (Y :
       let e = joint-two X Y Z in
       let v = rgValue x y z (r .rf) (r .rd) in
       let w = rgValue x' y' z' (r' .rf) (r' .rd) in
-      subst (λ n. Same k valueK (countedAt v (r .rounds)) (countedAt w n)) (e .rounds)
-      (at (r .rounds) v w (value-two (r .rf) (r .rd) (r' .rf) (r' .rd) (e .rf) (e .rd)))
-    where
-      at : (c : ℕ) (v w : Float) → Fair k valueK v w → Same k valueK (countedAt v c) (countedAt w c)
-      at c v w (inl e) = subst₂ (λ a b. Same k valueK (countedAt a c) (countedAt b c)) (sym (e .0)) (sym (e .1)) (spent-both k valueK c)
-      at c v w (inr a) = counted c a
+      subst (λ n. Same k valueK (jointAt v (r .rounds)) (jointAt w n)) (e .rounds)
+      (jointly (r .rounds) (value-two (r .rf) (r .rd) (r' .rf) (r' .rd) (e .rf) (e .rd)))

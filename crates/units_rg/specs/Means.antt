@@ -5,6 +5,7 @@ use Prim.Native.Nat.{ℕ, suc, _+_, _-_, _*_, _^_, _≤_, _<_}
 use native.Mathlib.Nat.{le-refl}
 use native.Mathlib.Omega.{arith}
 use mathlib.Core.Bool.{Bool, true, not, _&&_}
+use mathlib.Core.Logic.{inr}
 use lib.Dec.{T}
 use lib.Ieee.{Float, binary64, ofBits}
 use lib.Ieee.Fits.{and-l, and-r}
@@ -20,7 +21,7 @@ use Rattle.scaling.specs.One.{lit-two, litOk, widen-two, neg-two, sub-two}
 use Rattle.scaling.specs.Fused.{fusedK, fusedOk, fused-two}
 use Rattle.scaling.specs.Every.{all, every}
 use Rattle.units.specs.Kinds.{meanK}
-use Rattle.units.specs.Runs.{counted, loop-two}
+use Rattle.units.specs.Runs.{mean, loop-two}
 use Rattle.units.specs.Ran.{Ran, refusal, result}
 use Rattle.units_rd.specs.Means.{sideK, doubleK, squareK, any-double, double-two, side-two, half-two, middle-two, apart-two, square-two}
 
@@ -119,7 +120,7 @@ same-test j s t i = ap not (apart-two (i .x) (i .y))
 
 ends : {k : ℕ} (j : ℕ) (s t : Sums) (n : ℕ) → j ≤ 40 → Inv k j s t → Ran k valueK (rgAgmFound s n) (rgAgmFound t n)
 unfolding rgMeanValue
-ends j s t n l i = let f : j < 41 = omega arith in result (counted n (value-two (i .x) (i .y) (widen-two (i .total) (any-total j f))))
+ends j s t n l i = let f : j < 41 = omega arith in result (mean n (inr (value-two (i .x) (i .y) (widen-two (i .total) (any-total j f)))))
 
 pub agm-two : {k : ℕ} {x x' z z' : Float} → Two binary64 k meanK x x' → Two binary64 k meanK z z' → Ran k valueK (rgAgmOf x z) (rgAgmOf x' z')
 unfolding rgAgmOf

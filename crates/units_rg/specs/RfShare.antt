@@ -13,6 +13,7 @@ use Rattle.root.specs.Root.{root}
 use Rattle.carlson.specs.Constants.{four}
 use Rattle.carlson.specs.Common.{lambdaOf}
 use Rattle.elliprf.specs.Duplicate.{meanOf, rfBegin, rfStep, rfClose}
+use Rattle.elliprf.specs.Duplicate as rf
 use Rattle.elliprf.specs.declared.duplicate.Round.{Round}
 use Rattle.rg_joint.specs.Joint.{rfBegun, rfMoved, rfEnded, rfNext}
 use Rattle.rg_joint.specs.declared.joint.RfPart.{RfPart}
@@ -75,7 +76,7 @@ module _ {k : ℕ} (x y z x' y' z' : Float) (G : Two binary64 k gapK (meanOf x y
       → Share k D D' j (moved a b c a) (moved a b c b) (moved a b c c) (moved a' b' c' a') (moved a' b' c' b') (moved a' b' c' c')
       (rfNext p (lambdaOf (root a) (root b) (root c)) x y (meanOf x y z))
       (rfNext p' (lambdaOf (root a') (root b') (root c')) x' y' (meanOf x' y' z'))
-  unfolding rfMoved rfStep
+  unfolding rfMoved rf.rfMoved rfStep
   share-pass j a b c a' b' c' p p' h (on d d' n n' i) =
       let l = lambdaOf (root a) (root b) (root c) in
       let l' = lambdaOf (root a') (root b') (root c') in

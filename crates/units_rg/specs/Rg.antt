@@ -8,9 +8,8 @@ use lib.Ieee.{Float, binary64}
 use Rattle.binary64.specs.Leaves.{absolute}
 use Rattle.carlson.specs.Constants.{rg-no-result}
 use Rattle.carlson.specs.Checks.{below3}
-use Rattle.carlson.specs.Rescaling.{scaleOf3, survive3}
 use Rattle.carlson.specs.declared.answer.Answer.{Answer}
-use Rattle.elliprg.specs.Rg.{rgSteps, rgRescaled, rgUnchecked, rgSettled, rg}
+use Rattle.elliprg.specs.Rg.{rgSteps, timesRoot, rgUnchecked, rgSettled, rg}
 use Rattle.scaling.specs.Kind.{Kind}
 use Rattle.scaling.specs.Two.{Two}
 use Rattle.scaling.specs.Pick.{choose}
@@ -18,7 +17,7 @@ use Rattle.units.specs.Statement.{InRange, TimesFour, Alike}
 use Rattle.units.specs.Kinds.{argumentK}
 use Rattle.units.specs.Arguments.{argument}
 use Rattle.units.specs.Checks.{numbers3, below3-two, above3}
-use Rattle.units.specs.Limits.{Size, first-size, second-size, within3}
+use Rattle.units.specs.Limits.{Size, first-size, second-size, unscaled3}
 use Rattle.units.specs.Answers.{Pair, no, late-same, alike-of, alike-back, onward, backward, either-way}
 use Rattle.units.specs.Ran.{Ran, refusal, result}
 use Rattle.units_rg.specs.Means.{valueK}
@@ -27,9 +26,7 @@ use Rattle.units_rg.specs.Steps.{steps-two}
 -- no argument in range is rescaled
 unscaled : (x y z : Float) → Size (absolute x) → Size (absolute y) → Size (absolute z) → rgUnchecked x y z ≡ rgSteps x y z
 unfolding rgUnchecked
-unscaled x y z a b c =
-    let s = scaleOf3 x y z in
-    ap (λ t. cond t (cond (survive3 x y z s) (rgRescaled x y z s) (rgSteps x y z)) (rgSteps x y z)) (within3 x y z a b c)
+unscaled x y z a b c = unscaled3 timesRoot rgSteps x y z a b c
 
 settle : {k : ℕ} {K : Kind} {a b : Answer} → Ran k K a b → Pair k K (rgSettled a false) (rgSettled b false)
 unfolding rgSettled

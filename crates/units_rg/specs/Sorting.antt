@@ -12,8 +12,8 @@ use Rattle.scaling.specs.Tests.{zero-is, no-units}
 use Rattle.scaling.specs.Signs.{plus}
 use Rattle.scaling.specs.Pick.{choose}
 use Rattle.carlson.specs.Constants.{zero}
-use Rattle.elliprg.specs.Sorting.{sortXY, sortXZ, sortYZ, sortedOf}
-use Rattle.elliprg.specs.declared.sorting.Triple.{Triple}
+use Rattle.sorting.specs.Sorting.{fallXY, fallXZ, riseYZ, largestFirst}
+use Rattle.sorting.specs.declared.Triple.{Triple}
 use Rattle.units.specs.Arguments.{Argument, no-units-of}
 
 -- ---- of two that are not below zero: what a comparison says of zeros
@@ -73,23 +73,23 @@ pub record Sorted (k : ℕ) (t t' : Triple) : Type 0 where
   pub zy : Some (t .y) → Some (t .z)
   pub xz : Some (t .z) → Some (t .x)
 
-first : {k : ℕ} (t t' : Triple) → Three k t t' → First k (sortXY t) (sortXY t')
-unfolding sortXY
+first : {k : ℕ} (t t' : Triple) → Three k t t' → First k (fallXY t) (fallXY t')
+unfolding fallXY
 first {k} t t' a =
     choose (First k) (lt (t .x) (t .y)) (lt (t' .x) (t' .y)) (lt-two (a .x .two) (a .y .two) tt)
     (λ h. record { three = record { x = a .y; y = a .x; z = a .z }; xy = λ n. larger-some (a .x) (a .y) h })
     (λ h. record { three = a; xy = rest-some (a .x) (a .y) h })
 
-second : {k : ℕ} (t t' : Triple) → First k t t' → Second k (sortXZ t) (sortXZ t')
-unfolding sortXZ
+second : {k : ℕ} (t t' : Triple) → First k t t' → Second k (fallXZ t) (fallXZ t')
+unfolding fallXZ
 second {k} t t' f =
     let a = f .three in
     choose (Second k) (lt (t .x) (t .z)) (lt (t' .x) (t' .z)) (lt-two (a .x .two) (a .z .two) tt)
     (λ h. record { three = record { x = a .z; y = a .y; z = a .x }; xy = λ n. larger-some (a .x) (a .z) h; xz = λ n. larger-some (a .x) (a .z) h })
     (λ h. record { three = a; xy = f .xy; xz = rest-some (a .x) (a .z) h })
 
-third : {k : ℕ} (t t' : Triple) → Second k t t' → Sorted k (sortYZ t) (sortYZ t')
-unfolding sortYZ
+third : {k : ℕ} (t t' : Triple) → Second k t t' → Sorted k (riseYZ t) (riseYZ t')
+unfolding riseYZ
 third {k} t t' f =
     let a = f .three in
     choose (Sorted k) (lt (t .z) (t .y)) (lt (t' .z) (t' .y)) (lt-two (a .z .two) (a .y .two) tt)
@@ -97,6 +97,6 @@ third {k} t t' f =
     (λ h. record { x = a .x; y = a .y; z = a .z; zy = rest-some (a .z) (a .y) h; xz = f .xz })
 
 pub sorted-two : {k : ℕ} (t t' : Triple) → Argument k (t .x) (t' .x) → Argument k (t .y) (t' .y) → Argument k (t .z) (t' .z)
-    → Sorted k (sortedOf t) (sortedOf t')
-unfolding sortedOf
-sorted-two t t' x y z = third (sortXZ (sortXY t)) (sortXZ (sortXY t')) (second (sortXY t) (sortXY t') (first t t' (record { x = x; y = y; z = z })))
+    → Sorted k (largestFirst t) (largestFirst t')
+unfolding largestFirst
+sorted-two t t' x y z = third (fallXZ (fallXY t)) (fallXZ (fallXY t')) (second (fallXY t) (fallXY t') (first t t' (record { x = x; y = y; z = z })))

@@ -9,9 +9,9 @@ use Rattle.binary64.specs.Operators.{_⊕_, _⊗_, _⊘_}
 use Rattle.root.specs.Root.{root}
 use Rattle.carlson.specs.Constants.{zero, two, four, pi}
 use Rattle.elliprc.specs.Rc.{rcUnchecked}
-use Rattle.elliprg.specs.Sorting.{sortedOf}
+use Rattle.sorting.specs.Sorting.{largestFirst}
 use Rattle.elliprg.specs.Rg.{rgEqual, rgZero, rgTwo, rgAlone, rgTop, rgLow, rgSorted, rgSteps}
-use Rattle.elliprg.specs.declared.sorting.Triple.{Triple}
+use Rattle.sorting.specs.declared.Triple.{Triple}
 use Rattle.scaling.specs.Kind.{Kind, last, mulK, mulOk, divK, divOk, plusK, plusOk, within}
 use Rattle.scaling.specs.Units.{Is, eq-units}
 use Rattle.scaling.specs.Two.{Two, mul-two, div-two, plus-two}
@@ -23,9 +23,9 @@ use Rattle.scaling.specs.Nan.{mul-nan, nan-add, nan-div}
 use Rattle.scaling.specs.Nothing.{root-nothing, signed-nothing-two}
 use Rattle.units.specs.Kinds.{meanK}
 use Rattle.units.specs.Arguments.{Argument, above, no-units-of}
-use Rattle.units.specs.Runs.{Fair, closed, fair}
+use Rattle.units.specs.Runs.{Fair, closed, carried, value-fair, same-way}
 use Rattle.units.specs.Ran.{Ran, result}
-use Rattle.units_rf.specs.Rc.{resultK, unchecked-fair}
+use Rattle.units_rf.specs.Rc.{resultK, rc-same}
 use Rattle.units_rd.specs.Steps.{nothing, equal-zero}
 use Rattle.units_rg.specs.Sorting.{Sorted, sorted-two}
 use Rattle.units_rg.specs.Means.{valueK, agm-two}
@@ -91,7 +91,9 @@ module _ {k : ℕ} where
   two-equal : {x x' y y' : Float} → Argument k x x' → Argument k y y' → T (not (eq x zero)) → T (not (eq y zero))
       → Ran k valueK (rgTwo x y) (rgTwo x' y')
   unfolding rgTwo
-  two-equal {x} {x'} {y} {y'} X Y p q = result (fair (with-rc (rcUnchecked x y) (rcUnchecked x' y') (above X p) (above Y q) (unchecked-fair X Y q)))
+  two-equal {x} {x'} {y} {y'} X Y p q = 
+      let S = rc-same X Y q in
+      result (carried (same-way S) (with-rc (rcUnchecked x y .value) (rcUnchecked x' y' .value) (above X p) (above Y q) (value-fair S)))
 
   -- ---- which road
   module _ (t t' : Triple) (S : Sorted k t t') where
@@ -127,4 +129,4 @@ module _ {k : ℕ} where
   steps-two {x} {x'} {y} {y'} {z} {z'} X Y Z =
       let t : Triple = record { x = x; y = y; z = z } in
       let t' : Triple = record { x = x'; y = y'; z = z' } in
-      sorted-steps (sortedOf t) (sortedOf t') (sorted-two t t' X Y Z)
+      sorted-steps (largestFirst t) (largestFirst t') (sorted-two t t' X Y Z)

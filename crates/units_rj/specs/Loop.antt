@@ -7,25 +7,17 @@ use native.Mathlib.Omega.{arith}
 use mathlib.Core.Bool.{Bool}
 use lib.Dec.{T, lit<}
 use lib.Ieee.{Float, binary64}
-use Rattle.carlson.specs.Answer.{countedAt}
 use Rattle.carlson.specs.Loop.{capped}
 use Rattle.rj_positive.specs.Duplicate.{rjMean, rjStart, rjBegin, rjStep, rjClose, rjFound, rjSpent, rjDuplication}
 use Rattle.rj_positive.specs.declared.duplicate.Round.{Round}
 use Rattle.scaling.specs.Kind.{Kind}
 use Rattle.scaling.specs.Two.{Two}
-use Rattle.units.specs.Runs.{Fair, Same, both, lost, spent-both, loops-two}
+use Rattle.units.specs.Runs.{Same, duplicated, neither, loops-two}
 use Rattle.units_rd.specs.Mean.{argK, Arg, some, some?}
 use Rattle.units_rd.specs.Gaps.{gap}
 use Rattle.units_rj.specs.Step.{Whole, step-whole}
 use Rattle.units_rj.specs.Start.{atMostOne, mean, started}
 use Rattle.units_rj.specs.Series.{valueK, Start, start-two, test-two, ended, correction-two, series-fair}
-
--- with a count
-counted-fair : {k : ℕ} {K : Kind} {v w : Float} (c : ℕ) → Fair k K v w → Same k K (countedAt v c) (countedAt w c)
-unfolding countedAt
-counted-fair {k} {K} {v} {w} c (inl p) = subst₂ (λ a b. Same k K (record { value = a; rounds = c }) (record { value = b; rounds = c }))
-    (sym (p .0)) (sym (p .1)) lost
-counted-fair c (inr a) = both a
 
 module _ {k : ℕ} {x x' y y' z z' p p' : Float} (a : Arg k x x') (b : Arg k y y') (c : Arg k z z') (P : Two binary64 k argK p p')
     (t : T (atMostOne (some? a) (some? b) (some? c))) where
@@ -60,7 +52,7 @@ module _ {k : ℕ} {x x' y y' z z' p p' : Float} (a : Arg k x x') (b : Arg k y y
       let X = correction-two j A₀ A₀' x x' h (i .a) (i .w) (gap (mean a b c P t) a .two) (S .M) (S .M') (S .first) (S .first') (e .0) (e .1) in
       let Y = correction-two j A₀ A₀' y y' h (i .a) (i .w) (gap (mean a b c P t) b .two) (S .M) (S .M') (S .second) (S .second') (e .0) (e .1) in
       let Z = correction-two j A₀ A₀' z z' h (i .a) (i .w) (gap (mean a b c P t) c .two) (S .M) (S .M') (S .third) (S .third') (e .0) (e .1) in
-      counted-fair n (series-fair j s s' x x' y y' z z' A₀ A₀' h (i .a) (i .w) (i .sum) X Y Z)
+      duplicated n (series-fair j s s' x x' y y' z z' A₀ A₀' h (i .a) (i .w) (i .sum) X Y Z)
 
   pass : (j : ℕ) (s s' : Round) → j < 99 → Whole k (suc j) s s' → Whole k j (rjStep s) (rjStep s')
   pass j s s' l w = step-whole (let r : j < 100 = omega arith in r) w
@@ -74,5 +66,5 @@ module _ {k : ℕ} {x x' y y' z z' p p' : Float} (a : Arg k x x') (b : Arg k y y
       subst (λ (b : Bool). Same k valueK (rjDuplication x y z p) (capped rjStep (rjClose q') (rjFound x' y' z' A₀') rjSpent 99 b s' 1))
       (same-test 99 s s' (lit< tt) i)
       (loops-two rjStep rjStep (rjClose q) (rjClose q') (rjFound x y z A₀) rjSpent (rjFound x' y' z' A₀') rjSpent (Same k valueK) (Whole k) 99 pass
-      (λ j s s' l w. same-test j s s' (let r : j < 101 = omega arith in r) w) ends (λ s s' n w. spent-both k valueK n) 99 (rjClose q s) s s' 1
+      (λ j s s' l w. same-test j s s' (let r : j < 101 = omega arith in r) w) ends (λ s s' n w. duplicated n neither) 99 (rjClose q s) s s' 1
       (le-refl 99) (λ u. u) i)

@@ -15,8 +15,9 @@ use Rattle.root.specs.Root.{root}
 use Rattle.series.specs.Atan.{atan}
 use Rattle.series.specs.Ln.{ln}
 use Rattle.carlson.specs.Constants.{zero, one, two, half}
-use Rattle.carlson.specs.Rescaling.{scaleOf2, survive2}
-use Rattle.elliprc.specs.Rc.{atEqual, byAtan, byLn1p, byLn, rcCases, rcSteps, rcRescaled, rcUnchecked}
+use Rattle.carlson.specs.Rescaling.{scaleOf2, rescaling2}
+use Rattle.carlson.specs.Answer.{closedAt}
+use Rattle.elliprc.specs.Rc.{atEqual, byAtan, byLn1p, byLn, rcCases, rcSteps, rcFound, rcUnchecked}
 use Rattle.algebra.specs.Order.{lt-or-le}
 use Rattle.scaling.specs.Kind.{Kind, last, floor-le, mulK, mulOk, divK, divOk, plusK, plusOk, nudgeK, nudgeOk, within}
 use Rattle.scaling.specs.Units.{Is, lt-units, eq-units}
@@ -172,11 +173,9 @@ module _ {k : ℕ} {b : Float} (B : Two binary64 k middleK b b) where
       both : (a b c : ℕ) → a ≤ c → b ≤ c → max a b ≤ c
       both a b c h i = omega arith
 
-  unscaled : rcUnchecked one b ≡ rcSteps one b
-  unfolding rcUnchecked
-  unscaled =
-      ap (λ (t : Bool). cond t (cond (survive2 one b (scaleOf2 one b)) (rcRescaled one b (scaleOf2 one b)) (rcSteps one b)) (rcSteps one b))
-      (within-limits size)
+  unscaled : rcUnchecked one b .value ≡ rcSteps one b
+  unfolding rcUnchecked rescaling2 rcFound closedAt
+  unscaled = rw (within-limits size)
 
-  pub middle-fair : Fair k termK (rcUnchecked one b) (rcUnchecked one b)
+  pub middle-fair : Fair k termK (rcUnchecked one b .value) (rcUnchecked one b .value)
   middle-fair = subst (λ v. Fair k termK v v) (sym unscaled) steps

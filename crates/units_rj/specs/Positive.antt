@@ -10,6 +10,7 @@ use Rattle.binary64.specs.Leaves.{maximum}
 use Rattle.binary64.specs.Operators.{_⊖_, _⊗_, _⊘_, bits}
 use Rattle.root.specs.Root.{root}
 use Rattle.carlson.specs.Constants.{zero, one, three}
+use Rattle.carlson.specs.Answer.{bothWays}
 use Rattle.carlson.specs.declared.answer.Answer.{Answer}
 use Rattle.carlson.specs.declared.answer.Answer.the-variants.{Value}
 use Rattle.elliprc.specs.Rc.{rcUnchecked}
@@ -25,9 +26,9 @@ use Rattle.scaling.specs.Root.{rootK, rootOk, root-two}
 use Rattle.scaling.specs.Distinct.{distinctK, distinct-two}
 use Rattle.scaling.specs.Nan.{nan-sub, sub-nan, mul-nan, nan-div}
 use Rattle.units.specs.Arguments.{Argument, above, distinct}
-use Rattle.units.specs.Runs.{Fair, closed, fair}
+use Rattle.units.specs.Runs.{Fair, closed, carried, same-way}
 use Rattle.units.specs.Ran.{Ran, refusal, result, wider-same}
-use Rattle.units_rf.specs.Rc.{resultK, unchecked-fair}
+use Rattle.units_rf.specs.Rc.{resultK, rc-same, unchecked-fair}
 use Rattle.units_rd.specs.Mean.{argK}
 use Rattle.units_rd.specs.Means.{agmK}
 use Rattle.units_rd.specs.Steps.{arg-of, arg-some, equal-zero}
@@ -58,14 +59,14 @@ module _ {k : ℕ} {x x' : Float} (X : Two binary64 k argK x x') where
     unfolding divK divOk rootK rootOk within litOk ofBits
     over-root = widen-two (div-two (lit-two one tt) (root-two X tt) tt) tt
 
-    three-fair : T (not (eq x p)) → Fair k resultK (rcUnchecked x p) (rcUnchecked x' p')
-        → Fair k rjK (three ⊘ (x ⊖ p) ⊗ (rcUnchecked x p ⊖ one ⊘ root x)) (three ⊘ (x' ⊖ p') ⊗ (rcUnchecked x' p' ⊖ one ⊘ root x'))
+    three-fair : (v v' : Float) → T (not (eq x p)) → Fair k resultK v v'
+        → Fair k rjK (three ⊘ (x ⊖ p) ⊗ (v ⊖ one ⊘ root x)) (three ⊘ (x' ⊖ p') ⊗ (v' ⊖ one ⊘ root x'))
     unfolding mulK mulOk divK divOk sumK sumOk distinctK within litOk ofBits
-    three-fair n (inl e) = inl (gone (rcUnchecked x p) (e .0) _ _, gone (rcUnchecked x' p') (e .1) _ _)
+    three-fair v v' n (inl e) = inl (gone v (e .0) _ _, gone v' (e .1) _ _)
       where
         gone : (v : Float) → v ≡ nan → (u w : Float) → u ⊗ (v ⊖ w) ≡ nan
         gone v e u w = ap (λ a. u ⊗ (a ⊖ w)) e ∙ ap (λ a. u ⊗ a) (nan-sub binary64 w) ∙ mul-nan binary64 u
-    three-fair n (inr R) = inr (widen-two (mul-two (div-two (lit-two three tt) (distinct-two X P n tt tt tt) tt) (sub-two R over-root tt) tt) tt)
+    three-fair v v' n (inr R) = inr (widen-two (mul-two (div-two (lit-two three tt) (distinct-two X P n tt tt tt) tt) (sub-two R over-root tt) tt) tt)
 
 two-fair : {k : ℕ} {y y' p p' : Float} (u u' v v' : Float) (Y : Two binary64 k argK y y') (P : Two binary64 k argK p p') → T (not (eq p y))
     → Fair k resultK u u' → Fair k resultK v v'
@@ -158,7 +159,8 @@ module _ {k : ℕ} {p p' : Float} (P : Argument k p p') (P⁺ : T (not (eq p zer
         (λ f. wider (unchecked-ran (X .two) (Y .two) (Y .two) (X .plus) (Y .plus) xy (Y .plus) y⁺))
         (λ f. choose (Ran k rjK) (wellApart p y) (wellApart p' y') (apart-test Q Y⁺)
         (λ g. choose (Ran k rjK) (le x (maximum y p)) (le x' (maximum y' p')) (le-two (X .two) (larger-two Y⁺ Q tt) tt)
-        (λ h. result (fair (two-fair (rcUnchecked x y) (rcUnchecked x' y') (rcUnchecked x p) (rcUnchecked x' p') Y⁺ Q (other-way Y⁺ Q f)
+        (λ h. result (carried (ap₂ bothWays (same-way (rc-same X Y y⁺)) (same-way (rc-same X P P⁺)))
+        (two-fair (rcUnchecked x y .value) (rcUnchecked x' y' .value) (rcUnchecked x p .value) (rcUnchecked x' p' .value) Y⁺ Q (other-way Y⁺ Q f)
         (unchecked-fair X Y y⁺) (unchecked-fair X P P⁺))))
         (λ h. last-two)) (λ g. last-two))
 
@@ -177,6 +179,6 @@ module _ {k : ℕ} {p p' : Float} (P : Argument k p p') (P⁺ : T (not (eq p zer
       choose (Ran k rjK) (eq x z) (eq x' z') (eq-two (X .two) (Z .two) tt)
       (λ f. choose (Ran k rjK) (eq x p) (eq x' p') (eq-two (X .two) (P .two) tt) (λ g. all-two X⁺)
       (λ g. choose (Ran k rjK) (wellApart p x) (wellApart p' x') (apart-test Q X⁺)
-      (λ h. result (fair (three-fair X⁺ Q g (unchecked-fair X P P⁺)))) (λ h. cases-two X Y Z xy xz yz)))
+      (λ h. result (carried (same-way (rc-same X P P⁺)) (three-fair X⁺ Q _ _ g (unchecked-fair X P P⁺)))) (λ h. cases-two X Y Z xy xz yz)))
       (λ f. cases-two Z Y X (turned (eq y zero) (eq z zero) yz) (turned (eq x zero) (eq z zero) xz) (turned (eq x zero) (eq y zero) xy)))
       (λ e. cases-two X Y Z xy xz yz)

@@ -41,12 +41,12 @@ use Rattle.units_rj.specs.Ratio.{denominatorK, deltaK, taken, denominato
 
 -- ---- what RC gives, at floats that are the same in both runs
 pub term-fair : {k : ℕ} (e e' b b' : Float) → Two binary64 k ratioOfK e e' → Two binary64 k middleK b b'
-    → Fair k termK (cond (lt e (neg half)) (cond (lt (neg (bits 0x3FF8_0000_0000_0000)) e) (rcUnchecked one b) (rc1p e)) (rc1p e))
-    (cond (lt e' (neg half)) (cond (lt (neg (bits 0x3FF8_0000_0000_0000)) e') (rcUnchecked one b') (rc1p e')) (rc1p e'))
+    → Fair k termK (cond (lt e (neg half)) (cond (lt (neg (bits 0x3FF8_0000_0000_0000)) e) (rcUnchecked one b .value) (rc1p e)) (rc1p e))
+    (cond (lt e' (neg half)) (cond (lt (neg (bits 0x3FF8_0000_0000_0000)) e') (rcUnchecked one b' .value) (rc1p e')) (rc1p e'))
 term-fair {k} e e' b b' E B =
     subst₂
-    (λ i j. Fair k termK (cond (lt e (neg half)) (cond (lt (neg (bits 0x3FF8_0000_0000_0000)) e) (rcUnchecked one b) (rc1p e)) (rc1p e))
-    (cond (lt i (neg half)) (cond (lt (neg (bits 0x3FF8_0000_0000_0000)) i) (rcUnchecked one j) (rc1p i)) (rc1p i))) (same-float E refl)
+    (λ i j. Fair k termK (cond (lt e (neg half)) (cond (lt (neg (bits 0x3FF8_0000_0000_0000)) e) (rcUnchecked one b .value) (rc1p e)) (rc1p e))
+    (cond (lt i (neg half)) (cond (lt (neg (bits 0x3FF8_0000_0000_0000)) i) (rcUnchecked one j .value) (rc1p i)) (rc1p i))) (same-float E refl)
     (same-float B refl)
     (choose (Fair k termK) (lt e (neg half)) (lt e (neg half)) refl
     (λ t. choose (Fair k termK) (lt (neg (bits 0x3FF8_0000_0000_0000)) e) (lt (neg (bits 0x3FF8_0000_0000_0000)) e) refl (λ u. middle-fair B₀)

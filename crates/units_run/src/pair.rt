@@ -152,7 +152,7 @@ fn times(up: u64, down: u64, x: u64, y: u64) -> bool
 fn values_alike(call: Call, j: u64, first: Found, second: Found) -> bool
     requires { ⌜ j ≤ 128 ⌝ }
 {
-    if first.rounds != second.rounds {
+    if first.way.rounds != second.way.rounds {
         return false;
     }
     let x = split(first.value);

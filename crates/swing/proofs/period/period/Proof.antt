@@ -4,7 +4,8 @@ use mathlib.Core.Path.{_≡_, sym, _∙_, subst}
 use mathlib.Core.Bool.{Bool, true}
 use native.Mathlib.Omega.{arith}
 use Rattle.carlson.specs.declared.answer.Answer.{Answer}
-use Rattle.swing.specs.Period.{within, periodOf, Only}
+use Rattle.swing.specs.Period.{within, periodOf, swingNumbers}
+use Rattle.carlson.specs.Only.{Only, Finite}
 use Rattle.swing.specs.Ranges.{From1, in-within}
 use Rattle.swing.specs.Bounded.{period-only}
 use Rattle.swing.proofs.period.period.Statement.{statement}
@@ -28,8 +29,8 @@ swing-time-requires c κs =
     (l .largest, (g .largest, omega arith))
 
 -- both clauses from the first: what the definition gives is a finite value, 11 or 12
-settled : (l h g : ℕ) (r : Answer) → r ≡ periodOf l h g → (r ≡ periodOf l h g) × Only r
-settled l h g r e = (e, subst Only (sym e) (period-only l h g))
+settled : (l h g : ℕ) (r : Answer) → r ≡ periodOf l h g → (r ≡ periodOf l h g) × Only Finite swingNumbers r
+settled l h g r e = (e, subst (Only Finite swingNumbers) (sym e) (period-only l h g))
 
 returns : tie.Need-returns
 unfolding periodOf

@@ -1,1 +1,0 @@
-// Laws only: the three start factors of duplication, shown to be nearest.
