@@ -1,11 +1,13 @@
 -- Demand 1 (document 01): the only answers are a finite value, or one number out of a list. And how that, or any other property of
 -- what may be answered, goes through the steps that the entries share. Assumes nothing.
 use Prim.Native.Nat.{ℕ}
-use mathlib.Core.Path.{_≡_, refl}
-use mathlib.Core.Bool.{Bool, true, false, _||_, cond}
+use mathlib.Core.Path.{_≡_, refl, sym, subst}
+use mathlib.Core.Bool.{Bool, true, false, _&&_, _||_, cond}
 use mathlib.Core.List.{List, [], _∷_}
+use borrow.Author.Tests.{eqb-true}
 use lib.Dec.{T, eqb}
 use lib.Ieee.{Float, ofBits}
+use lib.Ieee.Fits.{and-l, and-r}
 use lib.Ieee.Scale.{finite}
 use Rattle.binary64.specs.Operators.{_⊘_}
 use Rattle.carlson.specs.Constants.{nan-given}
@@ -21,6 +23,11 @@ abbrev pub among : ℕ → List ℕ → Bool
 among n [] = false
 among n (m ∷ ms) = eqb n m || among n ms
 
+-- whether all of the first are in the second
+abbrev pub part : List ℕ → List ℕ → Bool
+part [] ms = true
+part (n ∷ ns) ms = among n ms && part ns ms
+
 -- a value of which P holds, or one of the numbers
 pub data Only (P : Found → Type 0) (numbers : List ℕ) : Answer → Type 0 where
   value : {f : Found} → P f → Only P numbers (Value f)
@@ -35,6 +42,19 @@ abbrev pub Any : Found → Type 0
 Any f = Unit {0}
 
 -- ---- through the steps
+-- a list may be longer
+pub among-part : (n : ℕ) (ns ms : List ℕ) → T (part ns ms) → T (among n ns) → T (among n ms)
+among-part n [] ms p h = absurd h
+among-part n (m ∷ ns) ms p h = go (eqb n m) refl h (among-part n ns ms (and-r (among m ms) (part ns ms) p))
+  where
+    go : (b : Bool) → eqb n m ≡ b → T (b || among n ns) → (T (among n ns) → T (among n ms)) → T (among n ms)
+    go true e h rest = subst (λ (k : ℕ). T (among k ms)) (sym (eqb-true n m e)) (and-l (among m ms) (part ns ms) p)
+    go false e h rest = rest h
+
+pub longer : {P : Found → Type 0} {a : Answer} (ns ms : List ℕ) → T (part ns ms) → Only P ns a → Only P ms a
+longer ns ms p (value v) = value v
+longer ns ms p (refused {n} h) = refused (among-part n ns ms p h)
+
 -- whichever is chosen
 pub chosen : {A : Type 0} (Q : A → Type 0) (b : Bool) {u v : A} → Q u → Q v → Q (cond b u v)
 chosen Q true p q = p
@@ -77,3 +97,10 @@ late-only numbers f nan unbounded n g h = go (finite (f .value)) refl
         → Only Finite numbers (cond b (Value f) (cond nan (Refused nan-given) (cond unbounded infiniteAt (Refused n))))
     go true e = value e
     go false e = chosen (Only Finite numbers) nan (refused g) (chosen (Only Finite numbers) unbounded (infinite-only numbers) (refused h))
+
+-- what the inner parts answered: a value is settled, their own numbers go through
+pub told-only : {ns : List ℕ} (ms : List ℕ) (settle : Answer → Answer) → ((f : Found) → Only Finite ms (settle (Value f)))
+    → ((n : ℕ) → settle (Refused n) ≡ Refused n) → T (part ns ms) → (a : Answer) → Only Any ns a → Only Finite ms (settle a)
+told-only ms settle each through p (Value f) (value v) = each f
+told-only {ns} ms settle each through p (Refused n) (refused h) =
+    subst (Only Finite ms) (sym (through n)) (refused (among-part n ns ms p h))

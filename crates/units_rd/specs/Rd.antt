@@ -111,9 +111,3 @@ rd-scales u d {x} {y} {z} {x'} {y'} {z'} X Y Z X' Y' Z' p q r =
     (subst (λ n. Alike (3 * u) (3 * n) (rd x' y' z') (rd x y z)) (sym e)
     (upward k u X' Y' Z' X Y Z (subst (λ n. TimesFour n u x' x) e (times-back p)) (subst (λ n. TimesFour n u y' y) e (times-back q))
     (subst (λ n. TimesFour n u z' z) e (times-back r)))))
-
--- and of the function: whatever two calls of `elliprd` answer, whose contract is r ≡ rd x y z
-pub rd-called : (u d : ℕ) {x y z x' y' z' : Float} (r r' : Answer) → r ≡ rd x y z → r' ≡ rd x' y' z'
-    → InRange x → InRange y → InRange z → InRange x' → InRange y' → InRange z'
-    → TimesFour u d x x' → TimesFour u d y y' → TimesFour u d z z' → Alike (3 * d) (3 * u) r r'
-rd-called u d r r' e e' X Y Z X' Y' Z' p q s = subst₂ (Alike (3 * d) (3 * u)) (sym e) (sym e') (rd-scales u d X Y Z X' Y' Z' p q s)

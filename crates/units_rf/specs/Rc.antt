@@ -211,8 +211,3 @@ rc-scales u d x y x' y' X Y X' Y' s t =
     either-way u d
     (λ k e. subst (λ i. Alike d i (rc x y) (rc x' y')) (sym e) (upward k d x y x' y' X Y X' Y' (onward k d e s) (onward k d e t)))
     (λ k e. subst (λ i. Alike i u (rc x y) (rc x' y')) (sym e) (alike-back (upward k u x' y' x y X' Y' X Y (backward k u e s) (backward k u e t))))
-
--- and of the function: whatever two calls of `elliprc` answer, whose contract is r ≡ rc x y
-pub rc-called : (u d : ℕ) (x y x' y' : Float) (r r' : Answer) → r ≡ rc x y → r' ≡ rc x' y'
-    → InRange x → InRange y → InRange x' → InRange y' → TimesFour u d x x' → TimesFour u d y y' → Alike d u r r'
-rc-called u d x y x' y' r r' e e' X Y X' Y' s t = subst₂ (Alike d u) (sym e) (sym e') (rc-scales u d x y x' y' X Y X' Y' s t)

@@ -131,10 +131,3 @@ rf-scales u d x y z x' y' z' X Y Z X' Y' Z' r s t =
     (λ k e.
     subst (λ i. Alike i u (rf x y z) (rf x' y' z')) (sym e)
     (alike-back (upward k u x' y' z' x y z X' Y' Z' X Y Z (backward k u e r) (backward k u e s) (backward k u e t))))
-
--- and of the function: whatever two calls of `elliprf` answer, whose contract is r ≡ rf x y z
-pub rf-called : (u d : ℕ) (x y z x' y' z' : Float) (r r' : Answer) → r ≡ rf x y z → r' ≡ rf x' y' z'
-    → InRange x → InRange y → InRange z → InRange x' → InRange y' → InRange z'
-    → TimesFour u d x x' → TimesFour u d y y' → TimesFour u d z z' → Alike d u r r'
-rf-called u d x y z x' y' z' r r' e e' X Y Z X' Y' Z' p q s =
-    subst₂ (Alike d u) (sym e) (sym e') (rf-scales u d x y z x' y' z' X Y Z X' Y' Z' p q s)

@@ -62,9 +62,3 @@ rg-scales u d {x} {y} {z} {x'} {y'} {z'} X Y Z X' Y' Z' p q r =
     (λ k e.
     subst (λ i. Alike u i (rg x y z) (rg x' y' z')) (sym e)
     (alike-back (upward k u X' Y' Z' X Y Z (backward k u e p) (backward k u e q) (backward k u e r))))
-
--- and of the function: whatever two calls of `elliprg` answer, whose contract is r ≡ rg x y z
-pub rg-called : (u d : ℕ) {x y z x' y' z' : Float} {r r' : Answer} → r ≡ rg x y z → r' ≡ rg x' y' z'
-    → InRange x → InRange y → InRange z → InRange x' → InRange y' → InRange z'
-    → TimesFour u d x x' → TimesFour u d y y' → TimesFour u d z z' → Alike u d r r'
-rg-called u d e e' X Y Z X' Y' Z' p q s = subst₂ (Alike u d) (sym e) (sym e') (rg-scales u d X Y Z X' Y' Z' p q s)

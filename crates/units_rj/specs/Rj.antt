@@ -170,10 +170,3 @@ rj-scales u d x y z p x' y' z' p' X Y Z P X' Y' Z' P' t q r s w =
     subst (λ i. Alike (3 * i) (3 * u) (rj x y z p) (rj x' y' z' p')) (sym e)
     (alike-back (upward k u x' y' z' p' x y z p X' Y' Z' P' X Y Z P (scaled-above u d p p' P P' w t) (backward k u e q) (backward k u e r)
     (backward k u e s) (backward k u e w))))
-
--- and of the function: whatever two calls of `elliprj` answer, whose contract is r ≡ rj x y z p
-pub rj-called : (u d : ℕ) (x y z p x' y' z' p' : Float) (r r' : Answer) → r ≡ rj x y z p → r' ≡ rj x' y' z' p'
-    → InRange x → InRange y → InRange z → InRange p → InRange x' → InRange y' → InRange z' → InRange p' → T (lt zero p)
-    → TimesFour u d x x' → TimesFour u d y y' → TimesFour u d z z' → TimesFour u d p p' → Alike (3 * d) (3 * u) r r'
-rj-called u d x y z p x' y' z' p' r r' e e' X Y Z P X' Y' Z' P' t a b c w =
-    subst₂ (Alike (3 * d) (3 * u)) (sym e) (sym e') (rj-scales u d x y z p x' y' z' p' X Y Z P X' Y' Z' P' t a b c w)
