@@ -1,6 +1,6 @@
 // The rounded root of n * 2 ^ 52: the whole number c with c * (c - 1) < n * 2 ^ 52 ≤ c * (c + 1).
 // A product is formed by the halves of c, c = h * 2 ^ 26 + l, so that it fits 64 bits.
-use crate::guess::guess;
+use root_guess::guess;
 ghost use mathlib.Core.Path.{_≡_};
 ghost use mathlib.Core.Bool.{true};
 ghost use Prim.Native.Nat.{_+_, _*_, _^_, _≤_, _<_};

@@ -4,14 +4,12 @@
 // to be the root. Where the guess is one off, or the number is subnormal, `search` finds the root, in a bounded number of steps.
 // A caller does not wait for the test: the processor runs on past it. The guess is made first, so that it is on its way early.
 mod exact;
-mod guess;
 pub mod parts;
-mod start;
 
 use crate::exact::is_root;
 use crate::exact::search;
-use crate::guess::guess;
 use crate::parts::scaled;
+use root_guess::guess;
 ghost use mathlib.Core.Path.{_≡_};
 ghost use Prim.Native.Nat.{_<_};
 ghost use lib.Ieee.{binary64, ofBits};

@@ -1,10 +1,10 @@
--- `root::guess::guess` is safe: the patterns that it makes are no NaN's. Assumes nothing.
+-- `guess` is safe: the patterns that it makes are no NaN's. Assumes nothing.
 use borrow.Author.Needs.{needs}
 use native.Mathlib.Omega.{arith}
 use Prim.Native.Nat.{_+_, _*_, _/_, _%_, _^_}
 use Rattle.binary64.specs.Tests.{bits-number}
-use Rattle.root.proofs.guess.guess.Statement.{statement}
-use Rattle.root.proofs.guess.guess.Tie as tie
+use Rattle.root_guess.proofs.guess.Statement.{statement}
+use Rattle.root_guess.proofs.guess.Tie as tie
 
 start-requires : tie.Need-start-requires
 start-requires c κs = search needs
