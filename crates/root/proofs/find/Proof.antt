@@ -1,4 +1,4 @@
--- `root::sqrt` meets its contract: `positive` has the root of a finite number above zero, and `Special` has the rest. Assumes nothing.
+-- `root::find` meets its contract: `positive` has the root of a finite number above zero, and `Special` has the rest. Assumes nothing.
 use mathlib.Core.Path.{sym, ap, _∙_, subst}
 use native.Mathlib.Omega.{arith}
 use lib.Dec.{T}
@@ -7,8 +7,8 @@ use lib.Ieee.Bits.{ofBits-toBits}
 use Rattle.binary64.specs.Tests.{above-no-nan, bits-pos}
 use Rattle.root.specs.Root.{root}
 use Rattle.root.proofs.Special.{root-of-infinity, root-of-zero, root-of-rest}
-use Rattle.root.proofs.sqrt.Statement.{statement}
-use Rattle.root.proofs.sqrt.Tie as tie
+use Rattle.root.proofs.find.Statement.{statement}
+use Rattle.root.proofs.find.Tie as tie
 
 -- what owning an f64 tells: the format holds it
 held : (c : tie.Start) → T (fits binary64 (c .args .x))
@@ -33,6 +33,6 @@ returns-4 : tie.Need-returns-4
 unfolding ofBits div
 returns-4 c = root-of-rest (c .before .before .args .x) (c .before .if1 .left) (c .if3 .left)
 
-pub sqrt-spec : {M : Type 1} → statement M
-sqrt-spec =
+pub find-spec : {M : Type 1} → statement M
+find-spec =
     tie.close (tie.spec float-to-bits-b positive-requires returns returns-2 returns-3 returns-4)
