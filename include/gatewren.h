@@ -11,6 +11,11 @@
 #include <stddef.h>
 #include <stdint.h>
 
+#define GATEWREN_VERSION "0.2.0"
+#define GATEWREN_VERSION_MAJOR 0
+#define GATEWREN_VERSION_MINOR 2
+#define GATEWREN_VERSION_PATCH 0
+
 #ifdef __cplusplus
 extern "C" {
 #endif

@@ -83,8 +83,8 @@ power-is (fin false zero e) z w h W f =
     absurd (lt-irrefl 0 (subst (λ (k : ℕ). 0 < k) n (mul-pos W (down-pos e))))
 power-is (fin false (suc m) e) z w h W f = f (suc m * up e) (down e) (down-pos e) (h .1)
 
-pub held : {b n y : ℕ} → Scaled b n y → Held n y
-held s = (s .low, omega (arith, s .high), s .small)
+pub held : {b n y : ℕ} → b < infinity → Scaled b n y → Held n y
+held h s = (s .low, omega (arith, s .high), s .small h)
 
 -- p / q is w units, and w units are n * 4 ^ y / 4 ^ 1048
 crossed : (p q w n y : ℕ) → p * 2 ^ 1074 ≡ w * q → w * four 511 ≡ n * four y → p * four 1048 ≡ n * four y * q

@@ -73,11 +73,11 @@ less-square d x h = omega (arith, square d)
     square : (d : ℕ) → (d + 1) * (d + 1) ≡ d * d + d + (d + 1)
     square = ring 1 (λ d. (d :+ con 1) :* (d :+ con 1) ≈ d :* d :+ d :+ (d :+ con 1)) tt
 
-pub pattern-fits : {b n y : ℕ} (c : ℕ) → Scaled b n y → RootDigits n c → y * 2 ^ 52 + c < infinity
-pattern-fits {b} {n} {y} c s r = omega (arith, c-high n c (s .high) r, s .small)
+pub pattern-fits : {b n y : ℕ} (c : ℕ) → b < infinity → Scaled b n y → RootDigits n c → y * 2 ^ 52 + c < infinity
+pattern-fits {b} {n} {y} c h s r = omega (arith, c-high n c (s .high) r, s .small h)
 
 -- ---- the pattern y * 2 ^ 52 + c is reached, and the next is not. w is the value of the pattern b, and p / q is w units.
-module _ {b n y : ℕ} (c : ℕ) (s : Scaled b n y) (r : RootDigits n c) where
+module _ {b n y : ℕ} (c : ℕ) (h : b < infinity) (s : Scaled b n y) (r : RootDigits n c) where
   abbrev Y : ℕ
   Y = 2 ^ y
 
@@ -124,7 +124,7 @@ module _ {b n y : ℕ} (c : ℕ) (s : Scaled b n y) (r : RootDigits n c) where
       let k = y * 2 ^ 52 + d in
       let i : suc k ≡ y * 2 ^ 52 + c = omega arith in
       let u : value b * 2 ^ 1076 < square-at (suc k) = subst (λ (z : ℕ). value b * 2 ^ 1076 < square-at z) (sym i) upper in
-      rounded-between (rootOf p q) (root-number p q Q) k (omega (arith, pattern-fits c s r))
+      rounded-between (rootOf p q) (root-number p q Q) k (omega (arith, pattern-fits c h s r))
       (by-squares (middle k (suc k)) (value b) p q Q e ∙ lt-compare (square-at k) (value b * 2 ^ 1076) (lower d f))
       (by-squares (middle (suc k) (suc (suc k))) (value b) p q Q e ∙ gt-compare (square-at (suc k)) (value b * 2 ^ 1076) u)
       ∙ ap (λ (z : ℕ). ofBits binary64 z) i
@@ -146,4 +146,4 @@ pub root-pattern : {b n y : ℕ} (c : ℕ) → (0 < b) × (b < infinity) → Sca
     → root (ofBits binary64 b) ≡ ofBits binary64 (y * 2 ^ 52 + c)
 root-pattern {b} {n} {y} c h s r =
     root-is (ofBits binary64 b) (ofBits binary64 (y * 2 ^ 52 + c)) (value b) (value-is b (h .1)) (omega (arith, value-lt 0 b (h .0)))
-    (λ p q Q e. rounded-root c s r p q Q e)
+    (λ p q Q e. rounded-root c (h .1) s r p q Q e)

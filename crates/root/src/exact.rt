@@ -1,6 +1,7 @@
 // The rounded root of n * 2 ^ 52: the whole number c with c * (c - 1) < n * 2 ^ 52 ≤ c * (c + 1).
 // A product is formed by the halves of c, c = h * 2 ^ 26 + l, so that it fits 64 bits.
-use crate::guess::guess;
+use crate::way::Way;
+use root_guess::guess;
 ghost use mathlib.Core.Path.{_≡_};
 ghost use mathlib.Core.Bool.{true};
 ghost use Prim.Native.Nat.{_+_, _*_, _^_, _≤_, _<_};
@@ -75,22 +76,40 @@ fn near(n: u64) -> u64
     0
 }
 
+// The digits of a root, and what found them.
+pub struct Digits {
+    pub c: u64,
+    pub way: Way,
+}
+
 // The root: near the guess, as far as tests have shown, and in any case by `bisect`.
-pub fn search(n: u64) -> u64
+pub fn search(n: u64) -> Digits
     requires { ⌜ (2 ^ 52 ≤ n) × (n + 2 ≤ 2 ^ 54) ⌝ }
-    ensures { λ r. ⌜ RootDigits n r ⌝ }
+    ensures { λ r. ⌜ RootDigits n (r .c) ⌝ }
 {
     let c = near(n);
     if is_root(n, c) {
-        return c;
+        return Digits {
+            c,
+            way: Way::Second,
+        };
     }
     let before = std::num::wrapping_sub_u64(c, 1);
     if is_root(n, before) {
-        return before;
+        return Digits {
+            c: before,
+            way: Way::Neighbour,
+        };
     }
     let after = std::num::wrapping_add_u64(c, 1);
     if is_root(n, after) {
-        return after;
+        return Digits {
+            c: after,
+            way: Way::Neighbour,
+        };
     }
-    bisect(n)
+    Digits {
+        c: bisect(n),
+        way: Way::Bisection,
+    }
 }
