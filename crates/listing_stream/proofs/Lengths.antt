@@ -5,13 +5,13 @@ use mathlib.Core.List.{List, [], _∷_, append-nil}
 use native.Mathlib.Omega.{arith}
 use lib.Dec.{eqb}
 use lib.ListN.{length}
-use Rattle.calls.specs.Calls.{callOf}
+use Rattle.listing_read.specs.Lines.{callOf}
 use Rattle.answers.specs.Answers.{answerOf}
 use Rattle.listing_write.specs.Lengths.{text-length}
 use Rattle.listing_stream.specs.Replies.{replyTo, replyOf}
 use Rattle.listing_stream.specs.Stream.{saidAt, saidOf}
-use Rattle.calls.specs.declared.Line.{Line}
-use Rattle.calls.specs.declared.Line.the-variants.{Good, Bad}
+use Rattle.listing_read.specs.declared.Line.{Line}
+use Rattle.listing_read.specs.declared.Line.the-variants.{Good, Bad}
 
 reply-to-length : (r : Line) → length (replyTo r) ≤ 31
 unfolding replyTo

@@ -5,17 +5,16 @@ use mathlib.Core.Bool.{Bool, true, false, cond}
 use mathlib.Core.List.{List, [], _∷_, _++_, append-assoc}
 use mathlib.Core.Logic.{⊎-elim}
 use native.Mathlib.Omega.{arith}
-use borrow.Author.Tests.{ne-eqb}
 use lib.Dec.{eqb}
 use lib.ListN.{length, take}
 use lib.Seq.{take-all, take-take, take-append-le, length-take-le}
 use Rattle.algebra.specs.Order.{lt-or-le}
-use Rattle.calls.specs.Calls.{callOf}
+use Rattle.listing_read.specs.Lines.{callOf}
+use Rattle.listing_read.specs.LineLaws.{too-long}
 use Rattle.listing_stream.specs.Replies.{replyTo, replyOf}
 use Rattle.writing.specs.Written.{put-more}
 use Rattle.writing.specs.Input.{lastLine, linesFrom}
 use Rattle.listing_stream.specs.Stream.{repliesTo, listingOf, heldAfter, saidAt, restOf, saidOf, saidLast, Fed}
-use Rattle.calls.specs.declared.Line.the-variants.{Bad}
 
 -- ---- wherever the bytes are cut
 pub rest-more : (xs held ys : List ℕ) → restOf held (xs ++ ys) ≡ restOf (restOf held xs) ys
@@ -38,10 +37,6 @@ fed-more xs ys {held} p q = record {
 }
 
 -- ---- a line that is held in part
-too-long : (l : List ℕ) → 71 ≤ length l → callOf l ≡ Bad
-unfolding callOf
-too-long l h = rw (ne-eqb (length l) 36 (λ e. omega arith), ne-eqb (length l) 53 (λ e. omega arith), ne-eqb (length l) 70 (λ e. omega arith))
-
 held-reply : (l : List ℕ) → replyOf (take 71 l) ≡ replyOf l
 unfolding replyOf
 held-reply l = ⊎-elim long (λ h. rw (take-all 71 l h)) (lt-or-le 71 (length l))

@@ -1,7 +1,7 @@
 // The reply to a line.
 use answers::answer_of;
-use calls::Line;
-use calls::call_of;
+use listing_read::Line;
+use listing_read::call_of;
 use listing_write::put_answer;
 use writing::put_text;
 ghost use Prim.Native.Nat.{_+_, _≤_};

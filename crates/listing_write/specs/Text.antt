@@ -7,7 +7,8 @@ use Rattle.carlson.specs.declared.answer.Found.{Found}
 use Rattle.carlson.specs.declared.answer.Answer.{Answer}
 use Rattle.carlson.specs.declared.answer.Answer.the-variants.{Value, Refused}
 use Rattle.writing.specs.Decimal.{decimal}
-use Rattle.calls.specs.Calls.{wordText, letterOf}
+use Rattle.digits.specs.Digits.{wordText}
+use Rattle.calls.specs.Calls.{nameOf}
 use Rattle.calls.specs.declared.Call.{Call}
 
 unfoldable pub countText : ℕ → List ℕ
@@ -25,4 +26,4 @@ afterName (Value f) = valueText f
 afterName (Refused n) = refusalText n
 
 unfoldable pub textOf : Call → Answer → List ℕ
-textOf c a = 82 ∷ letterOf c ∷ afterName a
+textOf c a = nameOf c ++ afterName a

@@ -8,15 +8,17 @@ use writing::put_decimal;
 use writing::put_text;
 use writing::put_word;
 ghost use mathlib.Core.Path.{_≡_};
+ghost use mathlib.Core.List.{[], _∷_};
 ghost use Prim.Native.Nat.{_+_, _≤_};
 ghost use lib.ListN.{length};
 ghost use Rattle.io.specs.Counts.{Counts};
-ghost use Rattle.calls.specs.Calls.{letterOf};
+ghost use Rattle.calls.specs.Calls.{nameOf};
 ghost use Rattle.listing_write.specs.Text.{countText, valueText, refusalText, textOf};
 ghost use Rattle.writing.specs.Written.{Put, Tried};
 
+// The letter after the R.
 fn letter(call: Call) -> u8
-    ensures { λ r. ⌜ r ≡ letterOf call ⌝ }
+    ensures { λ r. ⌜ nameOf call ≡ 82 ∷ r ∷ [] ⌝ }
 {
     match call {
         Call::Rc(_, _) => b'C',
@@ -25,6 +27,15 @@ fn letter(call: Call) -> u8
         Call::Rg(_, _, _) => b'G',
         Call::Rj(_, _, _, _) => b'J',
     }
+}
+
+fn put_name(call: Call, out: &mut [u8], at: usize) -> usize
+    requires { ⌜ at + 2 ≤ length (now out) ⌝ }
+    ensures { λ r. ⌜ Put (now (out .entry)) at (nameOf call) (now (out .exit)) r ⌝ }
+{
+    out[at] = b'R';
+    out[at + 1] = letter(call);
+    at + 2
 }
 
 // A count in decimal, at most ten digits, and the line's end.
@@ -60,11 +71,10 @@ fn write_answer(call: Call, answer: Answer, out: &mut [u8], at: usize) -> usize
     requires { ⌜ at + 31 ≤ length (now out) ⌝ }
     ensures { λ r. ⌜ Put (now (out .entry)) at (textOf call answer) (now (out .exit)) r ⌝ }
 {
-    out[at] = b'R';
-    out[at + 1] = letter(call);
+    let end = put_name(call, out, at);
     match answer {
-        Answer::Value(found) => put_value(found, out, at + 2),
-        Answer::Refused(number) => put_refusal(number, out, at + 2),
+        Answer::Value(found) => put_value(found, out, end),
+        Answer::Refused(number) => put_refusal(number, out, end),
     }
 }
 

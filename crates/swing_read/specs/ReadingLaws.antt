@@ -11,7 +11,7 @@ use borrow.Author.Tests.{lt-ltb, le-ltb, ne-eqb, eq-eqb, ltb-true, ltb-false, eq
 use lib.Dec.{T, eqb, ltb, ltb→lt}
 use lib.Ieee.Fits.{and-r}
 use Rattle.algebra.specs.Order.{lt-or-le}
-use Rattle.calls.specs.Digits.{glyphOf, digits}
+use Rattle.digits.specs.Digits.{glyphOf, digits}
 use Rattle.writing.specs.Decimal.{placesOf, decimal}
 use Rattle.swing_read.specs.Reading.{startOf, spoiltOf, blankAfter, roomFor, digitAfter, byteAfter, bytesAfter, lineOf, readLine}
 use Rattle.swing_read.specs.declared.Reading.{Reading}

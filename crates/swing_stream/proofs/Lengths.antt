@@ -5,7 +5,7 @@ use mathlib.Core.List.{List, []}
 use lib.Dec.{eqb}
 use lib.ListN.{length, length-append}
 use native.Mathlib.Omega.{arith}
-use Rattle.calls.specs.CallLaws.{digits-length}
+use Rattle.digits.specs.DigitLaws.{digits-length}
 use Rattle.writing.specs.Decimal.{decimal}
 use Rattle.writing.specs.Places.{places-most}
 use Rattle.writing.specs.Written.{Put}

@@ -4,7 +4,7 @@ use mathlib.Core.List.{List, [], _∷_, _++_}
 use lib.Ieee.{Float, binary64, toBits}
 use lib.Ieee.Nearest.{closest}
 use lib.Ieee.Positive.{num, den}
-use Rattle.calls.specs.Digits.{digits}
+use Rattle.digits.specs.Digits.{digits}
 use Rattle.writing.specs.Decimal.{decimal}
 use Rattle.carlson.specs.declared.answer.Found.{Found}
 use Rattle.carlson.specs.declared.answer.Answer.{Answer}

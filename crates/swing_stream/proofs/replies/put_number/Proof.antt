@@ -4,7 +4,7 @@ use mathlib.Core.List.{List}
 use native.Mathlib.Omega.{arith}
 use borrow.Author.Needs.{needs}
 use lib.ListN.{length, set}
-use Rattle.calls.specs.CallLaws.{digits-length}
+use Rattle.digits.specs.DigitLaws.{digits-length}
 use Rattle.writing.specs.Decimal.{decimal}
 use Rattle.writing.specs.Places.{places-most}
 use Rattle.writing.specs.Written.{Put, Tried, tried-put, put-more, put-byte}

@@ -7,7 +7,7 @@ use borrow.Author.Needs.{needs}
 use lib.Ieee.{binary64, toBits}
 use lib.ListN.{length, set, length-set}
 use denote.Ref.{now}
-use Rattle.calls.specs.Digits.{digits}
+use Rattle.digits.specs.Digits.{digits}
 use Rattle.writing.specs.Places.{spelled-place}
 use Rattle.writing.specs.Written.{Put, tried-put, put-more, put-length, put-byte}
 use Rattle.carlson.specs.declared.answer.Found.{Found}
