@@ -14,7 +14,7 @@ use Rattle.listing_read.specs.LineLaws.{too-long}
 use Rattle.listing_stream.specs.Replies.{replyTo, replyOf}
 use Rattle.writing.specs.Written.{put-more}
 use Rattle.writing.specs.Input.{lastLine, linesFrom}
-use Rattle.listing_stream.specs.Stream.{repliesTo, listingOf, heldAfter, saidAt, restOf, saidOf, saidLast, Fed}
+use Rattle.listing_stream.specs.Stream.{repliesTo, listingOf, heldAfter, saidAt, restOf, saidOf, saidLast, heldLength, Fed}
 
 -- ---- wherever the bytes are cut
 pub rest-more : (xs held ys : List ℕ) → restOf held (xs ++ ys) ≡ restOf (restOf held xs) ys
@@ -37,36 +37,36 @@ fed-more xs ys {held} p q = record {
 }
 
 -- ---- a line that is held in part
-held-reply : (l : List ℕ) → replyOf (take 71 l) ≡ replyOf l
+held-reply : (l : List ℕ) → replyOf (take heldLength l) ≡ replyOf l
 unfolding replyOf
-held-reply l = ⊎-elim long (λ h. rw (take-all 71 l h)) (lt-or-le 71 (length l))
+held-reply l = ⊎-elim long (λ h. rw (take-all heldLength l h)) (lt-or-le heldLength (length l))
   where
-    long : 71 < length l → replyTo (callOf (take 71 l)) ≡ replyTo (callOf l)
-    long h = rw (too-long (take 71 l) (omega (arith, length-take-le 71 l (omega arith))), too-long l (omega arith))
+    long : heldLength < length l → replyTo (callOf (take heldLength l)) ≡ replyTo (callOf l)
+    long h = rw (too-long (take heldLength l) (omega (arith, length-take-le heldLength l (omega arith))), too-long l (omega arith))
 
-held-more : (l : List ℕ) (b : ℕ) → take 71 (take 71 l ++ b ∷ []) ≡ take 71 (l ++ b ∷ [])
-held-more l b = ⊎-elim long (λ h. rw (take-all 71 l h)) (lt-or-le 71 (length l))
+held-more : (l : List ℕ) (b : ℕ) → take heldLength (take heldLength l ++ b ∷ []) ≡ take heldLength (l ++ b ∷ [])
+held-more l b = ⊎-elim long (λ h. rw (take-all heldLength l h)) (lt-or-le heldLength (length l))
   where
-    long : 71 < length l → take 71 (take 71 l ++ b ∷ []) ≡ take 71 (l ++ b ∷ [])
+    long : heldLength < length l → take heldLength (take heldLength l ++ b ∷ []) ≡ take heldLength (l ++ b ∷ [])
     long h =
-        take-append-le 71 (take 71 l) (b ∷ []) (omega (arith, length-take-le 71 l (omega arith))) ∙ take-take 71 71 l (omega arith)
-        ∙ sym (take-append-le 71 l (b ∷ []) (omega arith))
+        take-append-le heldLength (take heldLength l) (b ∷ []) (omega (arith, length-take-le heldLength l (omega arith))) ∙ take-take heldLength heldLength l (omega arith)
+        ∙ sym (take-append-le heldLength l (b ∷ []) (omega arith))
 
 -- ---- the whole input
-said-last : (l : List ℕ) → saidLast (take 71 l) ≡ repliesTo (lastLine l)
+said-last : (l : List ℕ) → saidLast (take heldLength l) ≡ repliesTo (lastLine l)
 unfolding saidLast lastLine repliesTo
 said-last [] = refl
 said-last (b ∷ l) = ap (λ (r : List ℕ). r ++ []) (held-reply (b ∷ l))
 
-from-held : (bs begun : List ℕ) → saidOf (take 71 begun) bs ++ saidLast (restOf (take 71 begun) bs) ≡ repliesTo (linesFrom begun bs)
+from-held : (bs begun : List ℕ) → saidOf (take heldLength begun) bs ++ saidLast (restOf (take heldLength begun) bs) ≡ repliesTo (linesFrom begun bs)
 unfolding saidOf restOf linesFrom repliesTo saidAt heldAfter
 from-held [] begun = said-last begun
 from-held (b ∷ bs) begun = go (eqb b 10) (from-held bs)
   where
     go :
-        (t : Bool) → ((l : List ℕ) → saidOf (take 71 l) bs ++ saidLast (restOf (take 71 l) bs) ≡ repliesTo (linesFrom l bs))
-        → cond t (replyOf (take 71 begun)) [] ++ saidOf (cond t [] (take 71 (take 71 begun ++ b ∷ []))) bs
-        ++ saidLast (restOf (cond t [] (take 71 (take 71 begun ++ b ∷ []))) bs)
+        (t : Bool) → ((l : List ℕ) → saidOf (take heldLength l) bs ++ saidLast (restOf (take heldLength l) bs) ≡ repliesTo (linesFrom l bs))
+        → cond t (replyOf (take heldLength begun)) [] ++ saidOf (cond t [] (take heldLength (take heldLength begun ++ b ∷ []))) bs
+        ++ saidLast (restOf (cond t [] (take heldLength (take heldLength begun ++ b ∷ []))) bs)
         ≡ repliesTo (cond t (begun ∷ linesFrom [] bs) (linesFrom (begun ++ b ∷ []) bs))
     go true rest = rw (append-assoc, held-reply begun, rest [])
     go false rest = rw (held-more begun b) (rest (begun ++ b ∷ []))

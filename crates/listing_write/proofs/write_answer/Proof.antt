@@ -6,10 +6,10 @@ use native.Mathlib.Omega.{arith}
 use borrow.Author.Needs.{needs}
 use lib.ListN.{length}
 use Rattle.carlson.specs.declared.answer.Answer.{Answer}
-use Rattle.calls.specs.Calls.{nameOf}
+use Rattle.calls.specs.Calls.{nameOf, longestName}
 use Rattle.calls.specs.CallLaws.{name-length}
 use Rattle.calls.specs.declared.Call.{Call}
-use Rattle.listing_write.specs.Text.{afterName, textOf}
+use Rattle.listing_write.specs.Text.{afterName, textOf, longestValue, longestRefusal}
 use Rattle.writing.specs.Written.{Put, put-more, put-length}
 use Rattle.listing_write.proofs.write_answer.Statement.{statement}
 use Rattle.listing_write.proofs.write_answer.Tie as tie
@@ -20,8 +20,8 @@ answered :
 unfolding textOf
 answered c a f p q = put-more p (rw f at q)
 
--- the name takes two bytes at most
-room : (c : Call) {o half : List ℕ} {at end : ℕ} (k : ℕ) → at + (2 + k) ≤ length o → Put o at (nameOf c) half end → end + k ≤ length half
+-- the name leaves as much room as is asked
+room : (c : Call) {o half : List ℕ} {at end : ℕ} (k : ℕ) → at + (longestName + k) ≤ length o → Put o at (nameOf c) half end → end + k ≤ length half
 room c k h p = omega (arith, p .place, put-length p, name-length c)
 
 returns : tie.Need-returns
@@ -44,9 +44,9 @@ write-answer-spec =
     (tie.spec
     (λ c κs. omega arith)
     (λ c. search needs)
-    (λ c κs. room _ 29 (c .before .before .before .before .before .before .before .before .before .pre) (c .before .before .before .before .before .before .put-name .ensures))
+    (λ c κs. room _ longestValue (c .before .before .before .before .before .before .before .before .before .pre) (c .before .before .before .before .before .before .put-name .ensures))
     (λ c. search needs)
-    (λ c κs. room _ 20 (omega arith) (c .before .before .before .before .before .before .put-name .ensures))
+    (λ c κs. room _ longestRefusal (omega arith) (c .before .before .before .before .before .before .put-name .ensures))
     (λ c. put-length (returns c))
     returns
     (λ c. put-length (returns-2 c))

@@ -7,7 +7,7 @@ use borrow.Author.Needs.{needs}
 use lib.ListN.{length, take}
 use lib.Seq.{length-take-le}
 use denote.Ref.{now}
-use Rattle.listing_stream.specs.Stream.{Fed}
+use Rattle.listing_stream.specs.Stream.{heldLength, blockLength, Fed}
 use Rattle.writing.specs.Written.{put-length}
 use Rattle.writing.specs.Parts.{take-least}
 use Rattle.listing_stream.proofs.stream.feed.Statement.{statement}
@@ -20,9 +20,9 @@ feed-all-requires c κs =
     (search needs, (c .before .least2 .ensures .0, omega (arith, length-take-le (k .least .result) (now b) (k .least .ensures .0))))
 
 cut :
-    (held block after before out : List ℕ) (m k n next used : ℕ) → length held ≡ 71 → m ≡ min 71 n → k ≡ min (length block) 2048
-    → Fed (take m held) (take k block) after before 0 out next used → Fed (take n held) (take 2048 block) after before 0 out next used
-cut held block after before out m k n next used l e f p = rw (take-least held 71 n m l e, take-least block (length block) 2048 k refl f) at p
+    (held block after before out : List ℕ) (m k n next used : ℕ) → length held ≡ heldLength → m ≡ min heldLength n → k ≡ min (length block) blockLength
+    → Fed (take m held) (take k block) after before 0 out next used → Fed (take n held) (take blockLength block) after before 0 out next used
+cut held block after before out m k n next used l e f p = rw (take-least held heldLength n m l e, take-least block (length block) blockLength k refl f) at p
 
 returns : tie.Need-returns
 returns c =
@@ -30,7 +30,7 @@ returns c =
     let k = a .before .before .before in
     let s = k .before .before in
     let f = c .feed-all .ensures in
-    let held : length (now (s .args .held)) ≡ 71 = search needs in
+    let held : length (now (s .args .held)) ≡ heldLength = search needs in
     let full : length (now (s .args .out)) ≡ 65536 = search needs in
     let most : c .feed-all .result .used ≤ length (c .feed-all .last .1 .1 .1 .0) = omega
     (arith, put-length (f .0 .said), f .1, length-take-le (k .least .result) (now (s .args .block)) (k .least .ensures .0)) in

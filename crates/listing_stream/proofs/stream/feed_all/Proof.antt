@@ -6,7 +6,8 @@ use native.Mathlib.Numerals.{add-one}
 use native.Mathlib.Omega.{arith}
 use lib.ListN.{length, getD, take}
 use lib.Seq.{take-suc, take-all}
-use Rattle.listing_stream.specs.Stream.{restOf, saidOf, Fed}
+use Rattle.listing_write.specs.Text.{longestReply}
+use Rattle.listing_stream.specs.Stream.{restOf, saidOf, heldLength, Fed}
 use Rattle.listing_stream.specs.StreamLaws.{fed-more}
 use Rattle.writing.specs.Written.{Put, put-length}
 use Rattle.listing_stream.proofs.Lengths.{said-length}
@@ -15,13 +16,13 @@ use Rattle.listing_stream.proofs.stream.feed_all.Tie as tie
 
 abbrev Inv-loop : tie.InvT-loop
 Inv-loop block held₀ held-before out₀ n₀ used₀ i₀ held out n used i =
-    (i ≤ length block) × (used ≤ 31 * i) × (length held ≡ 71) × (length out ≡ length out₀)
+    (i ≤ length block) × (used ≤ longestReply * i) × (length held ≡ heldLength) × (length out ≡ length out₀)
     × Fed (take held-before held₀) (take i block) held out₀ 0 out n used
 
 abbrev μ-loop : tie.MeasureT-loop
 μ-loop block held₀ held-before out₀ n₀ used₀ i₀ held out n used i = length block - i
 
-nothing : (held after before : List ℕ) (n : ℕ) → n ≤ 71 → take n after ≡ held → Fed held [] after before 0 before n 0
+nothing : (held after before : List ℕ) (n : ℕ) → n ≤ heldLength → take n after ≡ held → Fed held [] after before 0 before n 0
 unfolding restOf saidOf
 nothing held after before n h e = record { rest = e; few = h; said = record { bytes = refl; place = refl } }
 
@@ -35,8 +36,8 @@ all-of : (block held after before out : List ℕ) (i n next : ℕ) → length bl
     → Fed held block after before 0 out n next
 all-of block held after before out i n next h p = rw (take-all i block h) at p
 
--- what a step wrote is at most 31 bytes
-short : (held before out : List ℕ) (b at next : ℕ) → Put before at (saidOf held (b ∷ [])) out next → next ≤ at + 31
+-- what a step wrote is one reply at most
+short : (held before out : List ℕ) (b at next : ℕ) → Put before at (saidOf held (b ∷ [])) out next → next ≤ at + longestReply
 short held before out b at next p = omega (arith, p .place, said-length held b)
 
 step-requires : tie.Need-step-requires Inv-loop μ-loop
