@@ -72,7 +72,12 @@ pub fn feed(block: &[u8], held: &mut [u8; HELD], n: usize, out: &mut [u8; OUT]) 
     ensures { λ r. ⌜ Fed (take n (now (held .entry))) (take blockLength (now (block .entry))) (now (held .exit)) (now (out .entry)) 0 (now (out .exit)) (r .held) (r .used) ⌝ }
     ensures { λ r. ⌜ Counts (r .used) (now (out .exit)) ⌝ }
 {
-    feed_all(&block[..least(block.len(), BLOCK)], held, least(HELD, n), out)
+    feed_all(
+        &block[..least(block.len(), BLOCK)],
+        held,
+        least(HELD, n),
+        out,
+    )
 }
 
 fn last(held: &[u8], n: usize, out: &mut [u8]) -> usize

@@ -22,6 +22,10 @@ unfolding bytesAfter
 bytes-more [] r ys = refl
 bytes-more (x ∷ xs) r ys = bytes-more xs (byteAfter r x) ys
 
+pub bytes-last : (l : List ℕ) (r : Reading) (b : ℕ) → bytesAfter r (l ++ b ∷ []) ≡ byteAfter (bytesAfter r l) b
+unfolding bytesAfter
+bytes-last l r b = bytes-more l r (b ∷ [])
+
 -- a reading of a line that is not bad, by its fields
 abbrev at : ℕ → ℕ → ℕ → Bool → ℕ → Reading
 at ended first second begun value = record { ended = ended; first = first; second = second; begun = begun; value = value }

@@ -9,16 +9,16 @@ use lib.Seq.{length-take-le}
 use denote.Ref.{now}
 use Rattle.writing.specs.Written.{put-length}
 use Rattle.writing.specs.Parts.{take-least}
-use Rattle.swing_stream.specs.Stream.{restOf, saidOf, Told}
-use Rattle.swing_stream.specs.declared.stream.State.{State}
+use Rattle.swing_stream.specs.Stream.{restOf, saidOf, blockLength, Told}
+use Rattle.swing_stream.specs.declared.lines.State.{State}
 use Rattle.swing_stream.proofs.stream.feed.Statement.{statement}
 use Rattle.swing_stream.proofs.stream.feed.Tie as tie
 
 cut :
-    (block o out : List ℕ) (s t : State) (k next : ℕ) → k ≡ min (length block) 1024
+    (block o out : List ℕ) (s t : State) (k next : ℕ) → k ≡ min (length block) blockLength
     → Told (restOf s (take k block)) (saidOf s (take k block)) t o 0 out next
-    → Told (restOf s (take 1024 block)) (saidOf s (take 1024 block)) t o 0 out next
-cut block o out s t k next e p = rw (take-least block (length block) 1024 k refl e) at p
+    → Told (restOf s (take blockLength block)) (saidOf s (take blockLength block)) t o 0 out next
+cut block o out s t k next e p = rw (take-least block (length block) blockLength k refl e) at p
 
 feed-all-requires : tie.Need-feed-all-requires
 feed-all-requires c κs =

@@ -6,24 +6,25 @@ use native.Mathlib.Numerals.{add-one}
 use native.Mathlib.Omega.{arith}
 use lib.ListN.{length, getD, take}
 use lib.Seq.{take-suc, take-all}
-use Rattle.writing.specs.Written.{put-length}
+use Rattle.writing.specs.Written.{put-none, put-length, place-most}
+use Rattle.swing_write.specs.Replies.{longestSwing}
 use Rattle.swing_stream.specs.Stream.{stateAfter, saidAt, restOf, saidOf, Told}
 use Rattle.swing_stream.specs.StreamLaws.{told-more}
-use Rattle.swing_stream.specs.declared.stream.State.{State}
-use Rattle.swing_stream.proofs.Lengths.{said-at-length, place-most}
+use Rattle.swing_stream.specs.declared.lines.State.{State}
+use Rattle.swing_stream.proofs.Lengths.{said-at-length}
 use Rattle.swing_stream.proofs.stream.feed_all.Statement.{statement}
 use Rattle.swing_stream.proofs.stream.feed_all.Tie as tie
 
 abbrev Inv-loop : tie.InvT-loop
 Inv-loop block out₀ s used₀ i₀ out state used i =
-    (i ≤ length block) × (used ≤ 51 * i) × (length out ≡ length out₀) × Told (restOf s (take i block)) (saidOf s (take i block)) state out₀ 0 out used
+    (i ≤ length block) × (used ≤ longestSwing * i) × (length out ≡ length out₀) × Told (restOf s (take i block)) (saidOf s (take i block)) state out₀ 0 out used
 
 abbrev μ-loop : tie.MeasureT-loop
 μ-loop block out₀ s used₀ i₀ out state used i = length block - i
 
 nothing : (s : State) (o : List ℕ) → Told (restOf s []) (saidOf s []) s o 0 o 0
 unfolding restOf saidOf
-nothing s o = record { state = refl; words = record { bytes = refl; place = refl } }
+nothing s o = record { state = refl; words = put-none o 0 }
 
 one-more :
     (block o half out : List ℕ) (s m after : State) (i h next : ℕ) → i < length block
@@ -42,7 +43,7 @@ loop-again c =
     let k = c .before .before .before in
     let l = k .before .before .before .before .loop in (
       omega arith,
-      omega (arith, place-most 51 (k .byte .ensures .words) (said-at-length _ _)),
+      omega (arith, place-most longestSwing (k .byte .ensures .words) (said-at-length _ _)),
       put-length (k .byte .ensures .words) ∙ l .inv .2,
       one-more _ _ _ _ _ _ _ _ _ _ (k .before .before .before .loop-test .taken) (l .inv .3) (k .byte .ensures),
     )
