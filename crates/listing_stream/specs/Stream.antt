@@ -10,13 +10,17 @@ use Rattle.listing_stream.specs.Replies.{replyOf}
 use Rattle.writing.specs.Input.{lastLine, linesFrom}
 use Rattle.writing.specs.Written.{Put}
 
--- ---- what is right: a reply to each line of the input
+-- ---- what is right: a header, and a reply to each line of the input
+-- "carlson 1", and the line's end
+abbrev pub headerText : List ℕ
+headerText = 99 ∷ 97 ∷ 114 ∷ 108 ∷ 115 ∷ 111 ∷ 110 ∷ 32 ∷ 49 ∷ 10 ∷ []
+
 unfoldable pub repliesTo : List (List ℕ) → List ℕ
 repliesTo [] = []
 repliesTo (l ∷ ls) = replyOf l ++ repliesTo ls
 
 unfoldable pub listingOf : List ℕ → List ℕ
-listingOf input = repliesTo (linesFrom [] input)
+listingOf input = headerText ++ repliesTo (linesFrom [] input)
 
 -- ---- how it is done: of a line that has not ended so many bytes are held, one more than the longest good line has
 abbrev pub heldLength : ℕ

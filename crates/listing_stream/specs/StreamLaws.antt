@@ -14,7 +14,7 @@ use Rattle.listing_read.specs.LineLaws.{too-long}
 use Rattle.listing_stream.specs.Replies.{replyTo, replyOf}
 use Rattle.writing.specs.Written.{put-more}
 use Rattle.writing.specs.Input.{lastLine, linesFrom}
-use Rattle.listing_stream.specs.Stream.{repliesTo, listingOf, heldAfter, saidAt, restOf, saidOf, saidLast, heldLength, Fed}
+use Rattle.listing_stream.specs.Stream.{headerText, repliesTo, listingOf, heldAfter, saidAt, restOf, saidOf, saidLast, heldLength, Fed}
 
 -- ---- wherever the bytes are cut
 pub rest-more : (xs held ys : List ℕ) → restOf held (xs ++ ys) ≡ restOf (restOf held xs) ys
@@ -71,7 +71,7 @@ from-held (b ∷ bs) begun = go (eqb b 10) (from-held bs)
     go true rest = rw (append-assoc, held-reply begun, rest [])
     go false rest = rw (held-more begun b) (rest (begun ++ b ∷ []))
 
--- ---- the laws that the listing goes by
-pub whole : (input : List ℕ) → saidOf [] input ++ saidLast (restOf [] input) ≡ listingOf input
+-- THE LAW: the header, then what is said to the input as it is fed, then what is said at its end, are the listing
+pub whole : (input : List ℕ) → headerText ++ (saidOf [] input ++ saidLast (restOf [] input)) ≡ listingOf input
 unfolding listingOf
-whole input = from-held input []
+whole input = ap (λ (l : List ℕ). headerText ++ l) (from-held input [])

@@ -3,6 +3,7 @@ use crate::replies::put_reply;
 use listing_read::LONGEST;
 use writing::least;
 use writing::push;
+use writing::put_text;
 ghost use mathlib.Core.Path.{_≡_};
 ghost use mathlib.Core.List.{[], _∷_};
 ghost use Prim.Native.Nat.{_+_, _*_, _≤_};
@@ -10,7 +11,7 @@ ghost use lib.ListN.{length, take};
 ghost use Rattle.io.specs.Counts.{Counts};
 ghost use Rattle.listing_write.specs.Text.{longestReply};
 ghost use Rattle.writing.specs.Written.{Put};
-ghost use Rattle.listing_stream.specs.Stream.{saidLast, heldLength, blockLength, Fed};
+ghost use Rattle.listing_stream.specs.Stream.{headerText, saidLast, heldLength, Fed};
 
 // So many bytes are held of a line: one more than the longest good line has, so that a longer one is told by its length.
 pub const HELD: usize = LONGEST + 1;
@@ -24,6 +25,14 @@ pub const OUT: usize = 65536;
 pub struct Progress {
     pub held: usize,
     pub used: usize,
+}
+
+// The header, at the start of `out`.
+pub fn begin(out: &mut [u8; OUT]) -> usize
+    ensures { λ r. ⌜ Put (now (out .entry)) 0 headerText (now (out .exit)) r ⌝ }
+    ensures { λ r. ⌜ Counts r (now (out .exit)) ⌝ }
+{
+    put_text(b"carlson 1\n", out, 0)
 }
 
 fn step(b: u8, held: &mut [u8], n: usize, out: &mut [u8], used: usize) -> Progress
@@ -44,17 +53,25 @@ fn step(b: u8, held: &mut [u8], n: usize, out: &mut [u8], used: usize) -> Progre
     }
 }
 
-fn feed_all(block: &[u8], held: &mut [u8], held_before: usize, out: &mut [u8]) -> Progress
+// Feeds the first `size` bytes.
+fn feed_all(
+    block: &[u8],
+    size: usize,
+    held: &mut [u8],
+    held_before: usize,
+    out: &mut [u8],
+) -> Progress
+    requires { ⌜ size ≤ length (now block) ⌝ }
     requires { ⌜ length (now held) ≡ heldLength ⌝ }
     requires { ⌜ «held_before» ≤ heldLength ⌝ }
-    requires { ⌜ longestReply * length (now block) ≤ length (now out) ⌝ }
-    ensures { λ r. ⌜ Fed (take «held_before» (now (held .entry))) (now (block .entry)) (now (held .exit)) (now (out .entry)) 0 (now (out .exit)) (r .held) (r .used) ⌝ }
-    ensures { λ r. ⌜ r .used ≤ longestReply * length (now (block .entry)) ⌝ }
+    requires { ⌜ longestReply * size ≤ length (now out) ⌝ }
+    ensures { λ r. ⌜ Fed (take «held_before» (now (held .entry))) (take size (now (block .entry))) (now (held .exit)) (now (out .entry)) 0 (now (out .exit)) (r .held) (r .used) ⌝ }
+    ensures { λ r. ⌜ r .used ≤ longestReply * size ⌝ }
 {
     let mut n = held_before;
     let mut used: usize = 0;
     let mut i = 0;
-    while i < block.len() {
+    while i < size {
         let fed = step(block[i], held, n, out, used);
         n = fed.held;
         used = fed.used;
@@ -66,18 +83,19 @@ fn feed_all(block: &[u8], held: &mut [u8], held_before: usize, out: &mut [u8]) -
     }
 }
 
-// Feeds a block: the replies to the lines that end in it are put at the start of `out`, and `held` keeps what has not ended. Of a block
-// longer than BLOCK only so many are fed, since the replies to more might not fit; n above HELD counts as HELD.
-pub fn feed(block: &[u8], held: &mut [u8; HELD], n: usize, out: &mut [u8; OUT]) -> Progress
-    ensures { λ r. ⌜ Fed (take n (now (held .entry))) (take blockLength (now (block .entry))) (now (held .exit)) (now (out .entry)) 0 (now (out .exit)) (r .held) (r .used) ⌝ }
+// Feeds the block's first bytes, all `size` of them: the replies to the lines that end there are put at the start of `out`, and `held`
+// keeps what has not ended. A size beyond the block counts as all of it, and n above HELD as HELD.
+pub fn feed(
+    block: &[u8; BLOCK],
+    size: usize,
+    held: &mut [u8; HELD],
+    n: usize,
+    out: &mut [u8; OUT],
+) -> Progress
+    ensures { λ r. ⌜ Fed (take n (now (held .entry))) (take size (now (block .entry))) (now (held .exit)) (now (out .entry)) 0 (now (out .exit)) (r .held) (r .used) ⌝ }
     ensures { λ r. ⌜ Counts (r .used) (now (out .exit)) ⌝ }
 {
-    feed_all(
-        &block[..least(block.len(), BLOCK)],
-        held,
-        least(HELD, n),
-        out,
-    )
+    feed_all(block, least(BLOCK, size), held, least(HELD, n), out)
 }
 
 fn last(held: &[u8], n: usize, out: &mut [u8]) -> usize

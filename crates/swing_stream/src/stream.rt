@@ -14,7 +14,7 @@ ghost use Rattle.io.specs.Counts.{Counts};
 ghost use Rattle.writing.specs.Written.{Put};
 ghost use Rattle.swing_write.specs.Replies.{longestSwing, longestTotal};
 ghost use Rattle.swing_stream.specs.Stream.{heard, said, stateAfter, saidAt, restOf, saidOf, saidAtEnd, saidLast, Told};
-ghost use Rattle.swing_stream.specs.Stream.{blockLength, longestLast};
+ghost use Rattle.swing_stream.specs.Stream.{longestLast};
 
 // So many bytes are read at once, and the replies to them fit into so many.
 pub const BLOCK: usize = 1024;
@@ -60,15 +60,17 @@ fn byte(b: u8, s: State, out: &mut [u8], used: usize) -> Progress
     }
 }
 
-fn feed_all(block: &[u8], s: State, out: &mut [u8]) -> Progress
-    requires { ⌜ longestSwing * length (now block) ≤ length (now out) ⌝ }
-    ensures { λ r. ⌜ Told (restOf s (now (block .entry))) (saidOf s (now (block .entry))) (r .state) (now (out .entry)) 0 (now (out .exit)) (r .used) ⌝ }
-    ensures { λ r. ⌜ r .used ≤ longestSwing * length (now (block .entry)) ⌝ }
+// Feeds the first `size` bytes.
+fn feed_all(block: &[u8], size: usize, s: State, out: &mut [u8]) -> Progress
+    requires { ⌜ size ≤ length (now block) ⌝ }
+    requires { ⌜ longestSwing * size ≤ length (now out) ⌝ }
+    ensures { λ r. ⌜ Told (restOf s (take size (now (block .entry)))) (saidOf s (take size (now (block .entry)))) (r .state) (now (out .entry)) 0 (now (out .exit)) (r .used) ⌝ }
+    ensures { λ r. ⌜ r .used ≤ longestSwing * size ⌝ }
 {
     let mut state = s;
     let mut used: usize = 0;
     let mut i = 0;
-    while i < block.len() {
+    while i < size {
         let told = byte(block[i], state, out, used);
         state = told.state;
         used = told.used;
@@ -77,13 +79,13 @@ fn feed_all(block: &[u8], s: State, out: &mut [u8]) -> Progress
     Progress { state, used }
 }
 
-// Feeds a block: the replies to the lines that end in it are put at the start of `out`. Of a block longer than BLOCK only so many
-// are fed, since the replies to more might not fit.
-pub fn feed(block: &[u8], s: State, out: &mut [u8; OUT]) -> Progress
-    ensures { λ r. ⌜ Told (restOf s (take blockLength (now (block .entry)))) (saidOf s (take blockLength (now (block .entry)))) (r .state) (now (out .entry)) 0 (now (out .exit)) (r .used) ⌝ }
+// Feeds the block's first bytes, all `size` of them: the replies to the lines that end there are put at the start of `out`. A size
+// beyond the block counts as all of it.
+pub fn feed(block: &[u8; BLOCK], size: usize, s: State, out: &mut [u8; OUT]) -> Progress
+    ensures { λ r. ⌜ Told (restOf s (take size (now (block .entry)))) (saidOf s (take size (now (block .entry)))) (r .state) (now (out .entry)) 0 (now (out .exit)) (r .used) ⌝ }
     ensures { λ r. ⌜ Counts (r .used) (now (out .exit)) ⌝ }
 {
-    feed_all(&block[..least(block.len(), BLOCK)], s, out)
+    feed_all(block, least(BLOCK, size), s, out)
 }
 
 // What is said once the last line has ended: the step log's total.
