@@ -5,17 +5,16 @@ use mathlib.Core.Bool.{Bool, true, false, cond}
 use mathlib.Core.List.{List, [], _∷_, _++_, append-assoc}
 use mathlib.Core.Logic.{⊎-elim}
 use native.Mathlib.Omega.{arith}
-use borrow.Author.Tests.{ne-eqb}
 use lib.Dec.{eqb}
 use lib.ListN.{length, take}
 use lib.Seq.{take-all, take-take, take-append-le, length-take-le}
 use Rattle.algebra.specs.Order.{lt-or-le}
-use Rattle.calls.specs.Calls.{callOf}
+use Rattle.listing_read.specs.Lines.{callOf}
+use Rattle.listing_read.specs.LineLaws.{too-long}
 use Rattle.listing_stream.specs.Replies.{replyTo, replyOf}
 use Rattle.writing.specs.Written.{put-more}
 use Rattle.writing.specs.Input.{lastLine, linesFrom}
-use Rattle.listing_stream.specs.Stream.{repliesTo, listingOf, heldAfter, saidAt, restOf, saidOf, saidLast, Fed}
-use Rattle.calls.specs.declared.Line.the-variants.{Bad}
+use Rattle.listing_stream.specs.Stream.{headerText, repliesTo, listingOf, heldAfter, saidAt, restOf, saidOf, saidLast, heldLength, Fed}
 
 -- ---- wherever the bytes are cut
 pub rest-more : (xs held ys : List ℕ) → restOf held (xs ++ ys) ≡ restOf (restOf held xs) ys
@@ -38,45 +37,41 @@ fed-more xs ys {held} p q = record {
 }
 
 -- ---- a line that is held in part
-too-long : (l : List ℕ) → 71 ≤ length l → callOf l ≡ Bad
-unfolding callOf
-too-long l h = rw (ne-eqb (length l) 36 (λ e. omega arith), ne-eqb (length l) 53 (λ e. omega arith), ne-eqb (length l) 70 (λ e. omega arith))
-
-held-reply : (l : List ℕ) → replyOf (take 71 l) ≡ replyOf l
+held-reply : (l : List ℕ) → replyOf (take heldLength l) ≡ replyOf l
 unfolding replyOf
-held-reply l = ⊎-elim long (λ h. rw (take-all 71 l h)) (lt-or-le 71 (length l))
+held-reply l = ⊎-elim long (λ h. rw (take-all heldLength l h)) (lt-or-le heldLength (length l))
   where
-    long : 71 < length l → replyTo (callOf (take 71 l)) ≡ replyTo (callOf l)
-    long h = rw (too-long (take 71 l) (omega (arith, length-take-le 71 l (omega arith))), too-long l (omega arith))
+    long : heldLength < length l → replyTo (callOf (take heldLength l)) ≡ replyTo (callOf l)
+    long h = rw (too-long (take heldLength l) (omega (arith, length-take-le heldLength l (omega arith))), too-long l (omega arith))
 
-held-more : (l : List ℕ) (b : ℕ) → take 71 (take 71 l ++ b ∷ []) ≡ take 71 (l ++ b ∷ [])
-held-more l b = ⊎-elim long (λ h. rw (take-all 71 l h)) (lt-or-le 71 (length l))
+held-more : (l : List ℕ) (b : ℕ) → take heldLength (take heldLength l ++ b ∷ []) ≡ take heldLength (l ++ b ∷ [])
+held-more l b = ⊎-elim long (λ h. rw (take-all heldLength l h)) (lt-or-le heldLength (length l))
   where
-    long : 71 < length l → take 71 (take 71 l ++ b ∷ []) ≡ take 71 (l ++ b ∷ [])
+    long : heldLength < length l → take heldLength (take heldLength l ++ b ∷ []) ≡ take heldLength (l ++ b ∷ [])
     long h =
-        take-append-le 71 (take 71 l) (b ∷ []) (omega (arith, length-take-le 71 l (omega arith))) ∙ take-take 71 71 l (omega arith)
-        ∙ sym (take-append-le 71 l (b ∷ []) (omega arith))
+        take-append-le heldLength (take heldLength l) (b ∷ []) (omega (arith, length-take-le heldLength l (omega arith))) ∙ take-take heldLength heldLength l (omega arith)
+        ∙ sym (take-append-le heldLength l (b ∷ []) (omega arith))
 
 -- ---- the whole input
-said-last : (l : List ℕ) → saidLast (take 71 l) ≡ repliesTo (lastLine l)
+said-last : (l : List ℕ) → saidLast (take heldLength l) ≡ repliesTo (lastLine l)
 unfolding saidLast lastLine repliesTo
 said-last [] = refl
 said-last (b ∷ l) = ap (λ (r : List ℕ). r ++ []) (held-reply (b ∷ l))
 
-from-held : (bs begun : List ℕ) → saidOf (take 71 begun) bs ++ saidLast (restOf (take 71 begun) bs) ≡ repliesTo (linesFrom begun bs)
+from-held : (bs begun : List ℕ) → saidOf (take heldLength begun) bs ++ saidLast (restOf (take heldLength begun) bs) ≡ repliesTo (linesFrom begun bs)
 unfolding saidOf restOf linesFrom repliesTo saidAt heldAfter
 from-held [] begun = said-last begun
 from-held (b ∷ bs) begun = go (eqb b 10) (from-held bs)
   where
     go :
-        (t : Bool) → ((l : List ℕ) → saidOf (take 71 l) bs ++ saidLast (restOf (take 71 l) bs) ≡ repliesTo (linesFrom l bs))
-        → cond t (replyOf (take 71 begun)) [] ++ saidOf (cond t [] (take 71 (take 71 begun ++ b ∷ []))) bs
-        ++ saidLast (restOf (cond t [] (take 71 (take 71 begun ++ b ∷ []))) bs)
+        (t : Bool) → ((l : List ℕ) → saidOf (take heldLength l) bs ++ saidLast (restOf (take heldLength l) bs) ≡ repliesTo (linesFrom l bs))
+        → cond t (replyOf (take heldLength begun)) [] ++ saidOf (cond t [] (take heldLength (take heldLength begun ++ b ∷ []))) bs
+        ++ saidLast (restOf (cond t [] (take heldLength (take heldLength begun ++ b ∷ []))) bs)
         ≡ repliesTo (cond t (begun ∷ linesFrom [] bs) (linesFrom (begun ++ b ∷ []) bs))
     go true rest = rw (append-assoc, held-reply begun, rest [])
     go false rest = rw (held-more begun b) (rest (begun ++ b ∷ []))
 
--- ---- the laws that the listing goes by
-pub whole : (input : List ℕ) → saidOf [] input ++ saidLast (restOf [] input) ≡ listingOf input
+-- THE LAW: the header, then what is said to the input as it is fed, then what is said at its end, are the listing
+pub whole : (input : List ℕ) → headerText ++ (saidOf [] input ++ saidLast (restOf [] input)) ≡ listingOf input
 unfolding listingOf
-whole input = from-held input []
+whole input = ap (λ (l : List ℕ). headerText ++ l) (from-held input [])

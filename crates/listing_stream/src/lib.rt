@@ -2,6 +2,10 @@
 mod replies;
 mod stream;
 
+pub use crate::stream::BLOCK;
+pub use crate::stream::HELD;
+pub use crate::stream::OUT;
 pub use crate::stream::Progress;
+pub use crate::stream::begin;
 pub use crate::stream::feed;
 pub use crate::stream::finish;

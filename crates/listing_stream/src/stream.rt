@@ -1,14 +1,25 @@
 // The listing as its input comes: what is held of a line that has not ended, and the replies to those that have.
 use crate::replies::put_reply;
+use listing_read::LONGEST;
 use writing::least;
 use writing::push;
+use writing::put_text;
 ghost use mathlib.Core.Path.{_≡_};
 ghost use mathlib.Core.List.{[], _∷_};
 ghost use Prim.Native.Nat.{_+_, _*_, _≤_};
 ghost use lib.ListN.{length, take};
 ghost use Rattle.io.specs.Counts.{Counts};
+ghost use Rattle.listing_write.specs.Text.{longestReply};
 ghost use Rattle.writing.specs.Written.{Put};
-ghost use Rattle.listing_stream.specs.Stream.{saidLast, Fed};
+ghost use Rattle.listing_stream.specs.Stream.{headerText, saidLast, heldLength, Fed};
+
+// So many bytes are held of a line: one more than the longest good line has, so that a longer one is told by its length.
+pub const HELD: usize = LONGEST + 1;
+
+// So many bytes are read at once, and the replies to them fit into so many.
+pub const BLOCK: usize = 2048;
+
+pub const OUT: usize = 65536;
 
 // How many bytes are held now, and how many were written.
 pub struct Progress {
@@ -16,10 +27,18 @@ pub struct Progress {
     pub used: usize,
 }
 
+// The header, at the start of `out`.
+pub fn begin(out: &mut [u8; OUT]) -> usize
+    ensures { λ r. ⌜ Put (now (out .entry)) 0 headerText (now (out .exit)) r ⌝ }
+    ensures { λ r. ⌜ Counts r (now (out .exit)) ⌝ }
+{
+    put_text(b"carlson 1\n", out, 0)
+}
+
 fn step(b: u8, held: &mut [u8], n: usize, out: &mut [u8], used: usize) -> Progress
-    requires { ⌜ length (now held) ≡ 71 ⌝ }
-    requires { ⌜ n ≤ 71 ⌝ }
-    requires { ⌜ used + 31 ≤ length (now out) ⌝ }
+    requires { ⌜ length (now held) ≡ heldLength ⌝ }
+    requires { ⌜ n ≤ heldLength ⌝ }
+    requires { ⌜ used + longestReply ≤ length (now out) ⌝ }
     ensures { λ r. ⌜ Fed (take n (now (held .entry))) (b ∷ []) (now (held .exit)) (now (out .entry)) used (now (out .exit)) (r .held) (r .used) ⌝ }
 {
     if b == b'\n' {
@@ -34,17 +53,25 @@ fn step(b: u8, held: &mut [u8], n: usize, out: &mut [u8], used: usize) -> Progre
     }
 }
 
-fn feed_all(block: &[u8], held: &mut [u8], held_before: usize, out: &mut [u8]) -> Progress
-    requires { ⌜ length (now held) ≡ 71 ⌝ }
-    requires { ⌜ «held_before» ≤ 71 ⌝ }
-    requires { ⌜ 31 * length (now block) ≤ length (now out) ⌝ }
-    ensures { λ r. ⌜ Fed (take «held_before» (now (held .entry))) (now (block .entry)) (now (held .exit)) (now (out .entry)) 0 (now (out .exit)) (r .held) (r .used) ⌝ }
-    ensures { λ r. ⌜ r .used ≤ 31 * length (now (block .entry)) ⌝ }
+// Feeds the first `size` bytes.
+fn feed_all(
+    block: &[u8],
+    size: usize,
+    held: &mut [u8],
+    held_before: usize,
+    out: &mut [u8],
+) -> Progress
+    requires { ⌜ size ≤ length (now block) ⌝ }
+    requires { ⌜ length (now held) ≡ heldLength ⌝ }
+    requires { ⌜ «held_before» ≤ heldLength ⌝ }
+    requires { ⌜ longestReply * size ≤ length (now out) ⌝ }
+    ensures { λ r. ⌜ Fed (take «held_before» (now (held .entry))) (take size (now (block .entry))) (now (held .exit)) (now (out .entry)) 0 (now (out .exit)) (r .held) (r .used) ⌝ }
+    ensures { λ r. ⌜ r .used ≤ longestReply * size ⌝ }
 {
     let mut n = held_before;
     let mut used: usize = 0;
     let mut i = 0;
-    while i < block.len() {
+    while i < size {
         let fed = step(block[i], held, n, out, used);
         n = fed.held;
         used = fed.used;
@@ -56,20 +83,26 @@ fn feed_all(block: &[u8], held: &mut [u8], held_before: usize, out: &mut [u8]) -
     }
 }
 
-// Feeds a block: the replies to the lines that end in it are put at the start of `out`, and `held` keeps what has not ended. Of a block
-// longer than 2,048 bytes only so many are fed, since the replies to more might not fit; n above 71 counts as 71.
-pub fn feed(block: &[u8], held: &mut [u8; 71], n: usize, out: &mut [u8; 65536]) -> Progress
-    ensures { λ r. ⌜ Fed (take n (now (held .entry))) (take 2048 (now (block .entry))) (now (held .exit)) (now (out .entry)) 0 (now (out .exit)) (r .held) (r .used) ⌝ }
+// Feeds the block's first bytes, all `size` of them: the replies to the lines that end there are put at the start of `out`, and `held`
+// keeps what has not ended. A size beyond the block counts as all of it, and n above HELD as HELD.
+pub fn feed(
+    block: &[u8; BLOCK],
+    size: usize,
+    held: &mut [u8; HELD],
+    n: usize,
+    out: &mut [u8; OUT],
+) -> Progress
+    ensures { λ r. ⌜ Fed (take n (now (held .entry))) (take size (now (block .entry))) (now (held .exit)) (now (out .entry)) 0 (now (out .exit)) (r .held) (r .used) ⌝ }
     ensures { λ r. ⌜ Counts (r .used) (now (out .exit)) ⌝ }
 {
-    feed_all(&block[..least(block.len(), 2048)], held, least(71, n), out)
+    feed_all(block, least(BLOCK, size), held, least(HELD, n), out)
 }
 
 fn last(held: &[u8], n: usize, out: &mut [u8]) -> usize
     requires { ⌜ n ≤ length (now held) ⌝ }
-    requires { ⌜ 31 ≤ length (now out) ⌝ }
+    requires { ⌜ longestReply ≤ length (now out) ⌝ }
     ensures { λ r. ⌜ Put (now (out .entry)) 0 (saidLast (take n (now (held .entry)))) (now (out .exit)) r ⌝ }
-    ensures { λ r. ⌜ r ≤ 31 ⌝ }
+    ensures { λ r. ⌜ r ≤ longestReply ⌝ }
 {
     if n == 0 {
         return 0;
@@ -78,9 +111,9 @@ fn last(held: &[u8], n: usize, out: &mut [u8]) -> usize
 }
 
 // The reply to what is held at the input's end, at the start of `out`.
-pub fn finish(held: &[u8; 71], n: usize, out: &mut [u8; 65536]) -> usize
+pub fn finish(held: &[u8; HELD], n: usize, out: &mut [u8; OUT]) -> usize
     ensures { λ r. ⌜ Put (now (out .entry)) 0 (saidLast (take n (now (held .entry)))) (now (out .exit)) r ⌝ }
     ensures { λ r. ⌜ Counts r (now (out .exit)) ⌝ }
 {
-    last(held, least(71, n), out)
+    last(held, least(HELD, n), out)
 }

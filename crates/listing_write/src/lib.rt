@@ -8,15 +8,21 @@ use writing::put_decimal;
 use writing::put_text;
 use writing::put_word;
 ghost use mathlib.Core.Path.{_≡_};
+ghost use mathlib.Core.List.{[], _∷_};
 ghost use Prim.Native.Nat.{_+_, _≤_};
 ghost use lib.ListN.{length};
 ghost use Rattle.io.specs.Counts.{Counts};
-ghost use Rattle.calls.specs.Calls.{letterOf};
+ghost use Rattle.calls.specs.Calls.{nameOf, longestName};
 ghost use Rattle.listing_write.specs.Text.{countText, valueText, refusalText, textOf};
+ghost use Rattle.listing_write.specs.Text.{longestCount, longestValue, longestRefusal, longestReply};
 ghost use Rattle.writing.specs.Written.{Put, Tried};
 
+// No reply is longer, its end counted.
+pub const LONGEST: usize = 31;
+
+// The letter after the R.
 fn letter(call: Call) -> u8
-    ensures { λ r. ⌜ r ≡ letterOf call ⌝ }
+    ensures { λ r. ⌜ nameOf call ≡ 82 ∷ r ∷ [] ⌝ }
 {
     match call {
         Call::Rc(_, _) => b'C',
@@ -27,9 +33,18 @@ fn letter(call: Call) -> u8
     }
 }
 
+fn put_name(call: Call, out: &mut [u8], at: usize) -> usize
+    requires { ⌜ at + longestName ≤ length (now out) ⌝ }
+    ensures { λ r. ⌜ Put (now (out .entry)) at (nameOf call) (now (out .exit)) r ⌝ }
+{
+    out[at] = b'R';
+    out[at + 1] = letter(call);
+    at + 2
+}
+
 // A count in decimal, at most ten digits, and the line's end.
 fn put_count(n: u32, out: &mut [u8], at: usize) -> usize
-    requires { ⌜ at + 11 ≤ length (now out) ⌝ }
+    requires { ⌜ at + longestCount ≤ length (now out) ⌝ }
     ensures { λ r. ⌜ Put (now (out .entry)) at (countText n) (now (out .exit)) r ⌝ }
 {
     let end = put_decimal(n as u64, 9, out, at);
@@ -38,7 +53,7 @@ fn put_count(n: u32, out: &mut [u8], at: usize) -> usize
 }
 
 fn put_value(found: Found, out: &mut [u8], at: usize) -> usize
-    requires { ⌜ at + 29 ≤ length (now out) ⌝ }
+    requires { ⌜ at + longestValue ≤ length (now out) ⌝ }
     ensures { λ r. ⌜ Put (now (out .entry)) at (valueText found) (now (out .exit)) r ⌝ }
 {
     out[at] = b' ';
@@ -48,7 +63,7 @@ fn put_value(found: Found, out: &mut [u8], at: usize) -> usize
 }
 
 fn put_refusal(number: u32, out: &mut [u8], at: usize) -> usize
-    requires { ⌜ at + 20 ≤ length (now out) ⌝ }
+    requires { ⌜ at + longestRefusal ≤ length (now out) ⌝ }
     ensures { λ r. ⌜ Put (now (out .entry)) at (refusalText number) (now (out .exit)) r ⌝ }
 {
     let end = put_text(b" refused ", out, at);
@@ -57,29 +72,28 @@ fn put_refusal(number: u32, out: &mut [u8], at: usize) -> usize
 
 // The answer's line, with its end, from `at` on; the place after it.
 fn write_answer(call: Call, answer: Answer, out: &mut [u8], at: usize) -> usize
-    requires { ⌜ at + 31 ≤ length (now out) ⌝ }
+    requires { ⌜ at + longestReply ≤ length (now out) ⌝ }
     ensures { λ r. ⌜ Put (now (out .entry)) at (textOf call answer) (now (out .exit)) r ⌝ }
 {
-    out[at] = b'R';
-    out[at + 1] = letter(call);
+    let end = put_name(call, out, at);
     match answer {
-        Answer::Value(found) => put_value(found, out, at + 2),
-        Answer::Refused(number) => put_refusal(number, out, at + 2),
+        Answer::Value(found) => put_value(found, out, end),
+        Answer::Refused(number) => put_refusal(number, out, end),
     }
 }
 
 // The same where there is room for the longest line; elsewhere nothing is written, and the place stays.
 pub fn put_answer(call: Call, answer: Answer, out: &mut [u8], at: usize) -> usize
-    ensures { λ r. ⌜ Tried 31 (now (out .entry)) at (textOf call answer) (now (out .exit)) r ⌝ }
+    ensures { λ r. ⌜ Tried longestReply (now (out .entry)) at (textOf call answer) (now (out .exit)) r ⌝ }
 {
-    if has_room(out.len(), at, 31) {
+    if has_room(out.len(), at, LONGEST) {
         return write_answer(call, answer, out, at);
     }
     at
 }
 
 // The answer's line at the start of `out`, and its length.
-pub fn answer_text(call: Call, answer: Answer, out: &mut [u8; 31]) -> usize
+pub fn answer_text(call: Call, answer: Answer, out: &mut [u8; LONGEST]) -> usize
     ensures { λ r. ⌜ Put (now (out .entry)) 0 (textOf call answer) (now (out .exit)) r ⌝ }
     ensures { λ r. ⌜ Counts r (now (out .exit)) ⌝ }
 {

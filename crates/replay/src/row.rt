@@ -1,8 +1,8 @@
 // One row of the list: a call, ` =`, and what the oracle answers to it.
 use calls::Call;
-use calls::Line;
-use calls::call_of;
 use libc::STDOUT_FILENO;
+use listing_read::Line;
+use listing_read::call_of;
 ghost use Prim.Native.Nat.{_≤_};
 ghost use lib.ListN.{length};
 

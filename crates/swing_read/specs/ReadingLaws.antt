@@ -11,7 +11,7 @@ use borrow.Author.Tests.{lt-ltb, le-ltb, ne-eqb, eq-eqb, ltb-true, ltb-false, eq
 use lib.Dec.{T, eqb, ltb, ltb→lt}
 use lib.Ieee.Fits.{and-r}
 use Rattle.algebra.specs.Order.{lt-or-le}
-use Rattle.calls.specs.Digits.{glyphOf, digits}
+use Rattle.digits.specs.Digits.{glyphOf, digits}
 use Rattle.writing.specs.Decimal.{placesOf, decimal}
 use Rattle.swing_read.specs.Reading.{startOf, spoiltOf, blankAfter, roomFor, digitAfter, byteAfter, bytesAfter, lineOf, readLine}
 use Rattle.swing_read.specs.declared.Reading.{Reading}
@@ -21,6 +21,10 @@ pub bytes-more : (xs : List ℕ) (r : Reading) (ys : List ℕ) → bytesAfter r 
 unfolding bytesAfter
 bytes-more [] r ys = refl
 bytes-more (x ∷ xs) r ys = bytes-more xs (byteAfter r x) ys
+
+pub bytes-last : (l : List ℕ) (r : Reading) (b : ℕ) → bytesAfter r (l ++ b ∷ []) ≡ byteAfter (bytesAfter r l) b
+unfolding bytesAfter
+bytes-last l r b = bytes-more l r (b ∷ [])
 
 -- a reading of a line that is not bad, by its fields
 abbrev at : ℕ → ℕ → ℕ → Bool → ℕ → Reading

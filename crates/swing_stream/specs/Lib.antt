@@ -1,3 +1,3 @@
-pub mod Replies
+pub mod Lines
 pub mod Stream
 pub mod StreamLaws

@@ -1,60 +1,17 @@
 -- The swing's lines and the step log's as they come, byte by byte. Definitions only.
-use Prim.Native.Nat.{ℕ}
+use Prim.Native.Nat.{ℕ, _+_}
 use mathlib.Core.Path.{_≡_}
-use mathlib.Core.Bool.{Bool, true, false, not, _||_, cond}
+use mathlib.Core.Bool.{cond}
 use mathlib.Core.List.{List, [], _∷_, _++_}
-use lib.Dec.{eqb, ltb}
-use Rattle.writing.specs.Written.{Put}
-use Rattle.swing.specs.Period.{periodOf}
-use Rattle.steplog.specs.Steps.{logFrom, logAfter}
-use Rattle.swing_read.specs.Reading.{startOf, byteAfter, lineOf, readLine, atStart}
-use Rattle.swing_stream.specs.Replies.{swingText, totalText}
+use lib.Dec.{eqb}
 use Rattle.writing.specs.Bad.{badText}
-use Rattle.swing_read.specs.declared.Line.{Line}
-use Rattle.swing_read.specs.declared.Line.the-variants.{One, Three, Bad}
-use Rattle.swing_stream.specs.declared.stream.State.{State}
-
--- before the first byte: the swing's lines, or the step log's
-unfoldable pub swingsFrom : State
-swingsFrom = record { counting = false; known = false; log = logFrom 0; reading = startOf }
-
-unfoldable pub stepsFrom : State
-stepsFrom = record { counting = true; known = false; log = logFrom 0; reading = startOf }
-
--- a line has ended, and left the rest as it was
-unfoldable pub fresh : State → State
-fresh s = record { counting = s .counting; known = s .known; log = s .log; reading = startOf }
-
--- ---- a line of the swing: L, h and g
-unfoldable pub swingSaid : Line → List ℕ
-swingSaid (Three length height gravity) = swingText (periodOf length height gravity)
-swingSaid (One n) = badText
-swingSaid Bad = badText
-
--- ---- a line of the step log: first the total, then a reading a line; a line that is neither is bad, and is left out
-unfoldable pub takes : Bool → ℕ → Bool
-takes known n = not known || ltb n 65536
-
-unfoldable pub noted : State → ℕ → State
-noted s n = record { counting = s .counting; known = true; log = cond (s .known) (logAfter (s .log) n) (logFrom n); reading = startOf }
-
-unfoldable pub stepsAfter : State → Line → State
-stepsAfter s (One n) = cond (takes (s .known) n) (noted s n) (fresh s)
-stepsAfter s (Three length height gravity) = fresh s
-stepsAfter s Bad = fresh s
-
-unfoldable pub stepsSaid : State → Line → List ℕ
-stepsSaid s (One n) = cond (takes (s .known) n) [] badText
-stepsSaid s (Three length height gravity) = badText
-stepsSaid s Bad = badText
+use Rattle.writing.specs.Written.{Put}
+use Rattle.swing_read.specs.Reading.{byteAfter, lineOf, readLine, atStart}
+use Rattle.swing_write.specs.Replies.{totalText, longestSwing, longestTotal}
+use Rattle.swing_stream.specs.Lines.{afterLine, saidTo}
+use Rattle.swing_stream.specs.declared.lines.State.{State}
 
 -- ---- the line that is read so far ends
-unfoldable pub afterLine : State → Line → State
-afterLine s l = cond (s .counting) (stepsAfter s l) (fresh s)
-
-unfoldable pub saidTo : State → Line → List ℕ
-saidTo s l = cond (s .counting) (stepsSaid s l) (swingSaid l)
-
 unfoldable pub heard : State → State
 heard s = afterLine s (lineOf (s .reading))
 
@@ -88,6 +45,14 @@ saidLast s = cond (atStart (s .reading)) (saidAtEnd s) (said s ++ saidAtEnd (hea
 unfoldable pub repliesFrom : State → List (List ℕ) → List ℕ
 repliesFrom s [] = saidAtEnd s
 repliesFrom s (l ∷ ls) = saidTo s (readLine l) ++ repliesFrom (afterLine s (readLine l)) ls
+
+-- so many bytes are read at once: the replies to them fit, if each ends a line
+abbrev pub blockLength : ℕ
+blockLength = 1024
+
+-- at the input's end no more is said than to a line, and the total
+abbrev pub longestLast : ℕ
+longestLast = longestSwing + longestTotal
 
 -- ---- what a function that is fed some bytes does: `after` is the state that it comes to, and `text` was put into `out`
 pub record Told (is : State) (text : List ℕ) (after : State) (before : List ℕ) (at : ℕ) (out : List ℕ) (next : ℕ) : Type 0 where

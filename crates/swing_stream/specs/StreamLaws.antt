@@ -1,37 +1,20 @@
 -- Fed block by block, the input is answered line by line, wherever the blocks are cut. Assumes nothing.
-use Prim.Native.Nat.{ℕ, _+_, _-_, _*_}
+use Prim.Native.Nat.{ℕ}
 use mathlib.Core.Path.{_≡_, refl, sym, ap, _∙_, subst}
-use mathlib.Core.Bool.{Bool, true, false, not, _&&_, cond}
+use mathlib.Core.Bool.{Bool, true, false, cond}
 use mathlib.Core.List.{List, [], _∷_, _++_, append-assoc, append-nil}
-use borrow.Author.Tests.{eqb-true}
-use lib.Dec.{eqb, ltb}
+use lib.Dec.{eqb}
 use Rattle.writing.specs.Input.{lastLine, linesFrom}
 use Rattle.writing.specs.Written.{put-more}
-use Rattle.swing_read.specs.Reading.{startOf, spoiltOf, blankAfter, roomFor, digitAfter, byteAfter, bytesAfter, lineOf, readLine, atStart}
-use Rattle.swing_stream.specs.Stream.{
-  fresh,
-  takes,
-  noted,
-  swingSaid,
-  stepsAfter,
-  stepsSaid,
-  afterLine,
-  saidTo,
-  heard,
-  said,
-  stateAfter,
-  saidAt,
-  restOf,
-  saidOf,
-  saidAtEnd,
-  saidLast,
-  repliesFrom,
-  Told,
-}
+use Rattle.swing_read.specs.Reading.{startOf, byteAfter, bytesAfter, lineOf, readLine, atStart}
+use Rattle.swing_read.specs.ReadingLaws.{bytes-last}
+use Rattle.swing_read.specs.Begun.{line-begins, nothing-yet}
+use Rattle.swing_stream.specs.Lines.{fresh, takes, taken, noted, swingSaid, stepsAfter, stepsSaid, afterLine, saidTo}
+use Rattle.swing_stream.specs.Stream.{heard, said, stateAfter, saidAt, restOf, saidOf, saidAtEnd, saidLast, repliesFrom, Told}
 use Rattle.swing_read.specs.declared.Reading.{Reading}
 use Rattle.swing_read.specs.declared.Line.{Line}
 use Rattle.swing_read.specs.declared.Line.the-variants.{One, Three, Bad}
-use Rattle.swing_stream.specs.declared.stream.State.{State}
+use Rattle.swing_stream.specs.declared.lines.State.{State}
 
 -- ---- wherever the bytes are cut
 pub rest-more : (xs : List ℕ) (s : State) (ys : List ℕ) → restOf s (xs ++ ys) ≡ restOf (restOf s xs) ys
@@ -61,68 +44,10 @@ told-more xs b s p q = record {
   words = rw (said-more xs s (b ∷ []), one-said, ← p .state) (put-more (p .words) (q .words));
 }
 
--- ---- a line that has begun
-and-false : (t : Bool) → (t && false) ≡ false
-and-false true = refl
-and-false false = refl
-
-bytes-last : (l : List ℕ) (r : Reading) (b : ℕ) → bytesAfter r (l ++ b ∷ []) ≡ byteAfter (bytesAfter r l) b
-unfolding bytesAfter
-bytes-last [] r b = refl
-bytes-last (x ∷ l) r b = bytes-last l (byteAfter r x) b
-
-digit-begins : (r : Reading) (d : ℕ) → atStart (digitAfter r d) ≡ false
-unfolding digitAfter atStart spoiltOf
-digit-begins r d = go (roomFor (r .begun) (r .value) d)
-  where
-    go : (t : Bool)
-        → atStart (cond t (record { ended = r .ended; first = r .first; second = r .second; begun = true; value = r .value * 10 + d }) spoiltOf)
-        ≡ false
-    go true = refl
-    go false = refl
-
-blank-begins : (r : Reading) → atStart (blankAfter r) ≡ false
-unfolding blankAfter atStart spoiltOf
-blank-begins r = go (r .begun) (eqb (r .ended) 0) (eqb (r .ended) 1)
-  where
-    go : (t u v : Bool)
-        → atStart
-        (cond t
-        (cond u (record { ended = 1; first = r .value; second = 0; begun = false; value = 0 })
-        (cond v (record { ended = 2; first = r .first; second = r .value; begun = false; value = 0 }) spoiltOf)) spoiltOf)
-        ≡ false
-    go true true v = refl
-    go true false true = refl
-    go true false false = refl
-    go false u v = refl
-
-byte-begins : (r : Reading) (b : ℕ) → atStart (byteAfter r b) ≡ false
-unfolding byteAfter
-byte-begins r b = go (eqb (r .ended) 3) refl (eqb b 32) (ltb b 48) (ltb b 58)
-  where
-    spoilt : atStart spoiltOf ≡ false
-    spoilt = unfold atStart spoiltOf in refl
-
-    ended : r .ended ≡ 3 → atStart r ≡ false
-    ended e = unfold atStart in rw (e, and-false (not (r .begun)))
-
-    go : (t : Bool) → eqb (r .ended) 3 ≡ t → (u v w : Bool)
-        → atStart (cond t r (cond u (blankAfter r) (cond v spoiltOf (cond w (digitAfter r (b - 48)) spoiltOf)))) ≡ false
-    go true e u v w = ended (eqb-true (r .ended) 3 e)
-    go false e true v w = blank-begins r
-    go false e false true w = spoilt
-    go false e false false true = digit-begins r (b - 48)
-    go false e false false false = spoilt
-
-line-begins : (l : List ℕ) (b : ℕ) (r : Reading) → atStart (bytesAfter r (b ∷ l)) ≡ false
-unfolding bytesAfter
-line-begins [] b r = byte-begins r b
-line-begins (x ∷ l) b r = line-begins l x (byteAfter r b)
-
 -- ---- what is said does not hang on what is read of a line that has not ended
 same-replies : (ls : List (List ℕ)) (s : State) (r : Reading)
     → repliesFrom (record { counting = s .counting; known = s .known; log = s .log; reading = r }) ls ≡ repliesFrom s ls
-unfolding repliesFrom saidAtEnd saidTo afterLine stepsSaid stepsAfter swingSaid fresh noted
+unfolding repliesFrom saidAtEnd saidTo afterLine stepsSaid stepsAfter taken swingSaid fresh noted
 same-replies [] s r = refl
 same-replies (l ∷ ls) s r = go (readLine l)
   where
@@ -149,10 +74,6 @@ after-line s k = go (s .counting) k
     go false k = refl
 
 -- ---- the whole input
-nothing-yet : atStart (bytesAfter startOf []) ≡ true
-unfolding atStart bytesAfter startOf
-nothing-yet = refl
-
 at-end : (begun : List ℕ) (s : State) → s .reading ≡ bytesAfter startOf begun → saidLast s ≡ repliesFrom s (lastLine begun)
 unfolding saidLast lastLine repliesFrom said heard readLine
 at-end [] s e = subst (λ (b : Bool). cond b (saidAtEnd s) (said s ++ saidAtEnd (heard s)) ≡ saidAtEnd s) (sym (ap atStart e ∙ nothing-yet)) refl

@@ -7,11 +7,11 @@ use crate::pair::asked;
 use crate::pair::judge;
 use crate::pair::place;
 use calls::Call;
-use calls::Line;
-use calls::call_of;
 use libc::STDERR_FILENO;
 use libc::STDIN_FILENO;
 use libc::STDOUT_FILENO;
+use listing_read::Line;
+use listing_read::call_of;
 ghost use Prim.Native.Nat.{_<_};
 
 // Calls are shown until so many pairs differ.

@@ -1,4 +1,4 @@
--- `answer_text` meets its contract: no answer is longer than 31 bytes. Assumes nothing.
+-- `answer_text` meets its contract: no reply is longer than the longest. Assumes nothing.
 use Prim.Native.Nat.{_≤_}
 use mathlib.Core.Path.{_≡_, sym}
 use native.Mathlib.Omega.{arith}
@@ -7,6 +7,7 @@ use lib.ListN.{length}
 use lib.Seq.{length-take-le}
 use denote.Ref.{now}
 use Rattle.writing.specs.Written.{put-length}
+use Rattle.listing_write.specs.Text.{longestReply}
 use Rattle.listing_write.specs.Lengths.{text-length}
 use Rattle.listing_write.proofs.answer_text.Statement.{statement}
 use Rattle.listing_write.proofs.answer_text.Tie as tie
@@ -15,7 +16,7 @@ returns : tie.Need-returns
 returns c =
     let a = c .before .before .args in
     let p = c .write-answer .ensures in
-    let full : length (now (a .out)) ≡ 31 = search needs in
+    let full : length (now (a .out)) ≡ longestReply = search needs in
     let most : c .write-answer .result ≤ length (c .write-answer .last .1 .1 .0) = omega
     (arith, put-length p, p .place, text-length (a .call) (a .answer)) in
     (p, (most, sym (length-take-le _ _ most)))

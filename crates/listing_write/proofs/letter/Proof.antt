@@ -1,11 +1,11 @@
--- `letter` meets its contract. Assumes nothing.
+-- `letter` meets its contract, case by case. Assumes nothing.
 use borrow.Author.Needs.{needs}
-use Rattle.calls.specs.Calls.{letterOf}
+use Rattle.calls.specs.Calls.{nameOf}
 use Rattle.listing_write.proofs.letter.Statement.{statement}
 use Rattle.listing_write.proofs.letter.Tie as tie
 
 pub letter-spec : {M : Type 1} → statement M
-unfolding letterOf
+unfolding nameOf
 letter-spec =
     tie.close
     (tie.spec

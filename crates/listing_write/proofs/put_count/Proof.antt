@@ -4,15 +4,15 @@ use mathlib.Core.List.{List}
 use native.Mathlib.Omega.{arith}
 use borrow.Author.Needs.{needs}
 use lib.ListN.{length, set}
-use Rattle.calls.specs.CallLaws.{digits-length}
+use Rattle.digits.specs.DigitLaws.{digits-length}
 use Rattle.writing.specs.Decimal.{decimal}
 use Rattle.writing.specs.Places.{places-most}
 use Rattle.writing.specs.Written.{Put, Tried, tried-put, put-more, put-byte}
-use Rattle.listing_write.specs.Text.{countText}
+use Rattle.listing_write.specs.Text.{countText, longestCount}
 use Rattle.listing_write.proofs.put_count.Statement.{statement}
 use Rattle.listing_write.proofs.put_count.Tie as tie
 
-module _ (n : ℕ) {o out : List ℕ} {at end : ℕ} (room : at + 11 ≤ length o) (t : Tried 10 o at (decimal 9 n) out end) where
+module _ (n : ℕ) {o out : List ℕ} {at end : ℕ} (room : at + longestCount ≤ length o) (t : Tried 10 o at (decimal 9 n) out end) where
   counted : Put o at (countText n) (set out end 10) (end + 1)
   unfolding countText
   counted = put-more (tried-put (omega arith) t) (put-byte out end 10)

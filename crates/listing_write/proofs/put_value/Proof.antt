@@ -8,8 +8,8 @@ use lib.Ieee.{binary64, toBits}
 use denote.Ref.{now}
 use lib.ListN.{length, set, length-set}
 use Rattle.carlson.specs.declared.answer.Found.{Found}
-use Rattle.calls.specs.Digits.{digits}
-use Rattle.calls.specs.Calls.{wordText}
+use Rattle.digits.specs.Digits.{digits}
+use Rattle.digits.specs.Digits.{wordText}
 use Rattle.listing_write.specs.Text.{countText, valueText}
 use Rattle.writing.specs.Written.{Put, tried-put, put-more, put-length, put-byte}
 use Rattle.writing.specs.Places.{spelled-place}

@@ -1,56 +1,52 @@
 -- `write_answer` meets its contract: the name, then what its answer says. Assumes nothing.
-use Prim.Native.Nat.{ℕ, _+_}
-use mathlib.Core.Path.{_≡_, refl}
-use mathlib.Core.List.{List, [], _∷_}
-use native.Mathlib.Numerals.{add-one}
+use Prim.Native.Nat.{ℕ, _+_, _≤_}
+use mathlib.Core.Path.{_≡_}
+use mathlib.Core.List.{List}
 use native.Mathlib.Omega.{arith}
 use borrow.Author.Needs.{needs}
-use lib.ListN.{set, length-set}
+use lib.ListN.{length}
 use Rattle.carlson.specs.declared.answer.Answer.{Answer}
-use Rattle.calls.specs.Calls.{letterOf}
-use Rattle.listing_write.specs.Text.{afterName, textOf}
-use Rattle.writing.specs.Written.{Put, put-more, put-length}
+use Rattle.calls.specs.Calls.{nameOf, longestName}
+use Rattle.calls.specs.CallLaws.{name-length}
 use Rattle.calls.specs.declared.Call.{Call}
+use Rattle.listing_write.specs.Text.{afterName, textOf, longestValue, longestRefusal}
+use Rattle.writing.specs.Written.{Put, put-more, put-length}
 use Rattle.listing_write.proofs.write_answer.Statement.{statement}
 use Rattle.listing_write.proofs.write_answer.Tie as tie
 
-name : (o : List ℕ) (at b : ℕ) → Put o at (82 ∷ b ∷ []) (set (set o at 82) (at + 1) b) (at + 2)
-name o at b = record { bytes = rw add-one; place = refl }
-
 answered :
-    (c : Call) (a : Answer) (o out text : List ℕ) (at b next : ℕ) → b ≡ letterOf c → text ≡ afterName a
-    → Put (set (set o at 82) (at + 1) b) (at + 2) text out next → Put o at (textOf c a) out next
+    (c : Call) (a : Answer) {o half out text : List ℕ} {at end next : ℕ} → text ≡ afterName a → Put o at (nameOf c) half end
+    → Put half end text out next → Put o at (textOf c a) out next
 unfolding textOf
-answered c a o out text at b next e f p = put-more (rw e at (name o at b)) (rw (e, f) at p)
+answered c a f p q = put-more p (rw f at q)
+
+-- the name leaves as much room as is asked
+room : (c : Call) {o half : List ℕ} {at end : ℕ} (k : ℕ) → at + (longestName + k) ≤ length o → Put o at (nameOf c) half end → end + k ≤ length half
+room c k h p = omega (arith, p .place, put-length p, name-length c)
 
 returns : tie.Need-returns
 unfolding afterName
 returns c =
     let k = c .before .before in
     let a = k .before .before .before in
-    answered _ _ _ _ _ _ _ _ (a .before .before .letter .ensures) (rw (a .answer .given .1)) (k .put-value .ensures)
+    answered _ _ (rw (a .answer .given .1)) (a .before .before .before .before .put-name .ensures) (k .put-value .ensures)
 
 returns-2 : tie.Need-returns-2
 unfolding afterName
 returns-2 c =
     let k = c .before .before in
     let a = k .before .before .before in
-    answered _ _ _ _ _ _ _ _ (a .before .before .letter .ensures) (rw (a .answer2 .given .1)) (k .put-refusal .ensures)
+    answered _ _ (rw (a .answer2 .given .1)) (a .before .before .before .before .put-name .ensures) (k .put-refusal .ensures)
 
 pub write-answer-spec : {M : Type 1} → statement M
 write-answer-spec =
     tie.close
     (tie.spec
+    (λ c κs. omega arith)
     (λ c. search needs)
-    (λ c κs. search needs)
+    (λ c κs. room _ longestValue (c .before .before .before .before .before .before .before .before .before .pre) (c .before .before .before .before .before .before .put-name .ensures))
     (λ c. search needs)
-    (λ c. simp length-set (omega arith))
-    (λ c. search needs)
-    (λ c. search needs)
-    (λ c κs. simp length-set (omega arith))
-    (λ c. search needs)
-    (λ c. search needs)
-    (λ c κs. simp length-set (omega arith))
+    (λ c κs. room _ longestRefusal (omega arith) (c .before .before .before .before .before .before .put-name .ensures))
     (λ c. put-length (returns c))
     returns
     (λ c. put-length (returns-2 c))

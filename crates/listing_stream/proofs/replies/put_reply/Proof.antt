@@ -5,14 +5,14 @@ use mathlib.Core.List.{List}
 use native.Mathlib.Omega.{arith}
 use borrow.Author.Needs.{needs}
 use Rattle.carlson.specs.declared.answer.Answer.{Answer}
-use Rattle.calls.specs.Calls.{callOf}
+use Rattle.listing_read.specs.Lines.{callOf}
 use Rattle.answers.specs.Answers.{answerOf}
 use Rattle.listing_stream.specs.Replies.{replyTo, replyOf}
 use Rattle.listing_write.specs.Text.{textOf}
 use Rattle.writing.specs.Bad.{badText}
 use Rattle.writing.specs.Written.{Put, tried-put}
 use Rattle.calls.specs.declared.Call.{Call}
-use Rattle.calls.specs.declared.Line.the-variants.{Good, Bad}
+use Rattle.listing_read.specs.declared.Line.the-variants.{Good, Bad}
 use Rattle.listing_stream.proofs.replies.put_reply.Statement.{statement}
 use Rattle.listing_stream.proofs.replies.put_reply.Tie as tie
 

@@ -8,6 +8,7 @@ use lib.Seq.{length-take-le}
 use denote.Ref.{now}
 use Rattle.writing.specs.Written.{put-length}
 use Rattle.writing.specs.Parts.{take-least}
+use Rattle.listing_stream.specs.Stream.{heldLength}
 use Rattle.listing_stream.proofs.stream.finish.Statement.{statement}
 use Rattle.listing_stream.proofs.stream.finish.Tie as tie
 
@@ -16,10 +17,10 @@ returns c =
     let l = c .before .before in
     let s = l .before .before in
     let p = c .last .ensures in
-    let held : length (now (s .args .held)) ≡ 71 = search needs in
+    let held : length (now (s .args .held)) ≡ heldLength = search needs in
     let full : length (now (s .args .out)) ≡ 65536 = search needs in
     let most : c .last .result ≤ length (c .last .last .1 .1 .0) = omega (arith, put-length (p .0), p .1) in (
-      rw (take-least (now (s .args .held)) 71 (s .args .n) (l .least .result) held (l .least .ensures .2)) at (p .0),
+      rw (take-least (now (s .args .held)) heldLength (s .args .n) (l .least .result) held (l .least .ensures .2)) at (p .0),
       (most, sym (length-take-le _ _ most)),
     )
 

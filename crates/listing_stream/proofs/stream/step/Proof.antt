@@ -14,7 +14,7 @@ use lib.Seq.{take-all, take-suc-set, length-take-le, set-out, take-append-le, ta
 use Rattle.algebra.specs.Order.{lt-or-le}
 use Rattle.listing_stream.specs.Replies.{replyOf}
 use Rattle.writing.specs.Written.{Put, pushed}
-use Rattle.listing_stream.specs.Stream.{heldAfter, saidAt, restOf, saidOf, Fed}
+use Rattle.listing_stream.specs.Stream.{heldAfter, saidAt, restOf, saidOf, heldLength, Fed}
 use Rattle.listing_stream.proofs.stream.step.Statement.{statement}
 use Rattle.listing_stream.proofs.stream.step.Tie as tie
 
@@ -49,12 +49,12 @@ unfolding pushed
 pushed-most n size r h e = ⊎-elim (λ k. omega (arith, rw (lt-ltb n size k) at e)) (λ k. omega (arith, rw (le-ltb n size k) at e)) (lt-or-le n size)
 
 goes-on :
-    (held after before : List ℕ) (b at n r : ℕ) → length held ≡ 71 → n ≤ 71 → (b ≡ 10 → ⊥) → after ≡ set held n b → r ≡ pushed n (length held)
+    (held after before : List ℕ) (b at n r : ℕ) → length held ≡ heldLength → n ≤ heldLength → (b ≡ 10 → ⊥) → after ≡ set held n b → r ≡ pushed n (length held)
     → Fed (take n held) (b ∷ []) after before at before r at
 unfolding restOf saidOf heldAfter saidAt
 goes-on held after before b at n r l h ne e f = record {
   rest = rw (ne-eqb b 10 ne, e) (held-more held n b r (omega arith) f ∙ rw l);
-  few = pushed-most n 71 r h (rw l at f);
+  few = pushed-most n heldLength r h (rw l at f);
   said = rw (ne-eqb b 10 ne) (record { bytes = refl; place = sym (add-zero at) });
 }
 

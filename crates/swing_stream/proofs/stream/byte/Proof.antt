@@ -1,15 +1,14 @@
 -- `byte` meets its contract: a newline ends the line, any other byte is read. Assumes nothing.
 use Prim.Native.Nat.{ℕ}
-use mathlib.Core.Path.{_≡_, refl, sym}
+use mathlib.Core.Path.{_≡_}
 use mathlib.Core.List.{List}
-use native.Mathlib.Nat.{add-zero}
 use borrow.Author.Needs.{needs}
 use borrow.Author.Tests.{eq-eqb, ne-eqb}
-use Rattle.writing.specs.Written.{put-length}
+use Rattle.writing.specs.Written.{put-none, put-length}
 use Rattle.swing_read.specs.Reading.{byteAfter}
 use Rattle.swing_stream.specs.Stream.{stateAfter, saidAt, Told}
 use Rattle.swing_read.specs.declared.Reading.{Reading}
-use Rattle.swing_stream.specs.declared.stream.State.{State}
+use Rattle.swing_stream.specs.declared.lines.State.{State}
 use Rattle.swing_stream.proofs.stream.byte.Statement.{statement}
 use Rattle.swing_stream.proofs.stream.byte.Tie as tie
 
@@ -18,7 +17,7 @@ goes-on : (s : State) (r : Reading) (b : ℕ) (o : List ℕ) (at : ℕ) → (b �
 unfolding stateAfter saidAt
 goes-on s r b o at ne e = record {
   state = rw (ne-eqb b 10 ne, e);
-  words = rw (ne-eqb b 10 ne) (record { bytes = refl; place = sym (add-zero at) });
+  words = rw (ne-eqb b 10 ne) (put-none o at);
 }
 
 returns : tie.Need-returns

@@ -4,11 +4,12 @@ use mathlib.Core.Path.{_≡_, sym, _∙_, subst}
 use mathlib.Core.Bool.{Bool, true, false, cond}
 use mathlib.Core.List.{List, _++_}
 use native.Mathlib.Omega.{arith}
-use Rattle.writing.specs.Written.{Put, put-more, put-length}
+use Rattle.writing.specs.Written.{Put, put-more, put-length, place-most}
 use Rattle.swing_read.specs.Reading.{atStart}
+use Rattle.swing_write.specs.Replies.{longestSwing, longestTotal}
 use Rattle.swing_stream.specs.Stream.{heard, said, saidAtEnd, saidLast, Told}
-use Rattle.swing_stream.specs.declared.stream.State.{State}
-use Rattle.swing_stream.proofs.Lengths.{said-length, said-end-length, place-most}
+use Rattle.swing_stream.specs.declared.lines.State.{State}
+use Rattle.swing_stream.proofs.Lengths.{said-length, said-end-length}
 use Rattle.swing_stream.proofs.stream.last.Statement.{statement}
 use Rattle.swing_stream.proofs.stream.last.Tie as tie
 
@@ -30,7 +31,7 @@ returns c =
     let k = c .before .before in
     let p = k .closing .ensures in (
       ended _ _ _ _ (sym (k .before .before .before .nothing .ensures) ∙ k .before .before .if1 .taken) p,
-      omega (arith, place-most 29 p (said-end-length _)),
+      omega (arith, place-most longestTotal p (said-end-length _)),
     )
 
 returns-2 : tie.Need-returns-2
@@ -39,7 +40,7 @@ returns-2 c =
     let e = k .before .before .before .before .before in
     let p = k .closing2 .ensures in (
       begun _ _ _ _ _ _ _ (sym (e .before .before .before .nothing .ensures) ∙ e .before .before .if1 .left) (e .line-end .ensures) p,
-      omega (arith, place-most 29 p (said-end-length _), place-most 51 (e .line-end .ensures .words) (said-length _)),
+      omega (arith, place-most longestTotal p (said-end-length _), place-most longestSwing (e .line-end .ensures .words) (said-length _)),
     )
 
 pub last-spec : {M : Type 1} → statement M
@@ -53,6 +54,6 @@ last-spec =
     (λ c κs. omega arith)
     (λ c κs.
     let e = c .before .before .before .before in
-    omega (arith, place-most 51 (e .line-end .ensures .words) (said-length _), put-length (e .line-end .ensures .words)))
+    omega (arith, place-most longestSwing (e .line-end .ensures .words) (said-length _), put-length (e .line-end .ensures .words)))
     (λ c. put-length (returns-2 c .0))
     returns-2)
