@@ -43,7 +43,7 @@ class Refusal(enum.Enum):
     RC_NO_RESULT = 7  # RC ends so
     RG_NO_RESULT = 8  # RG ends so
     AGM_SPENT = 9  # the cap on RD's or RG's mean is spent
-    TOO_DEEP = 10  # RJ would call itself a fifth time
+    TOO_DEEP = 10  # a fifth nested RJ call would be needed
     OUT_OF_RANGE = 11  # a swing's length is not 1 to 10,000,000 or its gravity not 1 to 20,000,000
     HEIGHT = 12  # a swing's height is not 1 to 2L - 1
     SUM_TOO_LARGE = 13  # the step log's total would pass 2^64 - 1

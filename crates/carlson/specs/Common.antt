@@ -1,10 +1,15 @@
 -- Steps that several of the entries make, as the Rust has them. Definitions only.
+use Prim.Native.Nat.{ℕ}
 use mathlib.Core.Bool.{Bool}
 use lib.Ieee.{Float, le}
 use Rattle.binary64.specs.Leaves.{absolute}
 use Rattle.binary64.specs.Operators.{_⊕_, _⊖_, _⊗_, _⊘_, bits}
 use Rattle.carlson.specs.Constants.{one, three, epsilon}
 use Rattle.carlson.specs.declared.common.Lambda.{Lambda}
+
+-- document 01, Rounds: "RD's and RG's AGM have no cap in the Rust; the port adds 40"
+abbrev pub meanCap : ℕ
+meanCap = 40
 
 -- the test that asks for another pass of the mean: the two differ by 2.7 epsilon or more
 unfoldable pub apart : Float → Float → Bool

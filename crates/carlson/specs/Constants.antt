@@ -35,10 +35,6 @@ epsilon = bits 0x3CB0_0000_0000_0000
 abbrev pub infinity : Float
 infinity = bits 0x7FF0_0000_0000_0000
 
--- document 01, Rounds: "RD's and RG's AGM have no cap in the Rust; the port adds 40"
-abbrev pub meanCap : ℕ
-meanCap = 40
-
 -- ---- document 01, "Numbers for no"
 -- an argument is NaN
 abbrev pub nan-given : ℕ

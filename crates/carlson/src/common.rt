@@ -4,6 +4,9 @@ use binary64::abs;
 ghost use mathlib.Core.Path.{_≡_};
 ghost use Rattle.carlson.specs.Common.{apart, lambdaWith, thirdKind};
 
+// The cap on RD's and RG's mean, which the Rust does not have; document 01 adds it.
+pub const MEAN_CAP: u32 = 40;
+
 // Whether two running means are still so far apart that another pass is wanted.
 pub fn still_apart(xn: f64, yn: f64) -> bool
     ensures { λ r. ⌜ r ≡ apart xn yn ⌝ }

@@ -10,9 +10,6 @@ pub const LIMIT: f64 = 3.4028236692093843e38;
 
 pub const RECIPROCAL: f64 = 2.9387358770557194e-39;
 
-// The cap on RD's and RG's mean, which the Rust does not have; document 01 adds it.
-pub const MEAN_CAP: u32 = 40;
-
 // Document 01's numbers for no.
 pub const NAN_GIVEN: u32 = 1;
 

@@ -20,11 +20,11 @@ use Rattle.carlson.specs.Constants.{
   rg-no-result,
   agm-spent,
   too-deep,
-  meanCap,
 }
 use Rattle.carlson.specs.Constants.{zero as +0}
 use Rattle.carlson.specs.Checks.{anyNan2, anyNan3, anyNan4, anyInfinite2, anyInfinite3, anyInfinite4, below3, zerosOf3}
 use Rattle.carlson.specs.Rescaling.{scaleOf4, rescales4}
+use Rattle.carlson.specs.Common.{meanCap}
 use Rattle.carlson.specs.Loop.{capped-holds}
 use Rattle.carlson.specs.Only.{among, Only, value, refused, Finite, Any, chosen, rescaled3, settled-only, infinite-only, late-only, told-only, longer}
 use Rattle.carlson.specs.declared.answer.Answer.{Answer}

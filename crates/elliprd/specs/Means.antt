@@ -4,8 +4,8 @@ use mathlib.Core.Bool.{Bool, not}
 use lib.Ieee.{Float}
 use Rattle.binary64.specs.Operators.{_⊕_, _⊖_, _⊗_, _⊘_, bits}
 use Rattle.root.specs.Root.{root}
-use Rattle.carlson.specs.Constants.{zero, two, three, four, pi, agm-spent, meanCap}
-use Rattle.carlson.specs.Common.{apart}
+use Rattle.carlson.specs.Constants.{zero, two, three, four, pi, agm-spent}
+use Rattle.carlson.specs.Common.{meanCap, apart}
 use Rattle.carlson.specs.Loop.{capped}
 use Rattle.carlson.specs.Answer.{agmAt}
 use Rattle.carlson.specs.declared.answer.Answer.{Answer}

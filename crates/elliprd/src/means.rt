@@ -1,9 +1,9 @@
 // RD(0, y, z) at moderate ratios, by the arithmetic-geometric mean and the sum of its squared differences.
 use carlson::answer::Answer;
 use carlson::answer::agm;
+use carlson::common::MEAN_CAP;
 use carlson::common::still_apart;
 use carlson::constants::AGM_SPENT;
-use carlson::constants::MEAN_CAP;
 use carlson::constants::PI;
 use root::sqrt;
 ghost use mathlib.Core.Path.{_≡_};

@@ -5,8 +5,8 @@ use lib.Ieee.{Float, neg}
 use Rattle.binary64.specs.Operators.{_⊕_, _⊖_, _⊗_, _⊘_, bits}
 use Rattle.root.specs.Root.{root}
 use Rattle.fused.specs.Fused.{fused}
-use Rattle.carlson.specs.Constants.{two, pi, agm-spent, meanCap}
-use Rattle.carlson.specs.Common.{apart}
+use Rattle.carlson.specs.Constants.{two, pi, agm-spent}
+use Rattle.carlson.specs.Common.{meanCap, apart}
 use Rattle.carlson.specs.Loop.{capped}
 use Rattle.carlson.specs.Answer.{agmAt}
 use Rattle.carlson.specs.declared.answer.Answer.{Answer}

@@ -1,9 +1,9 @@
 // RG with one zero: the arithmetic-geometric mean, its sum compensated so that no digit is lost in it.
 use carlson::answer::Answer;
 use carlson::answer::agm;
+use carlson::common::MEAN_CAP;
 use carlson::common::still_apart;
 use carlson::constants::AGM_SPENT;
-use carlson::constants::MEAN_CAP;
 use carlson::constants::PI;
 use fused::mul_add;
 use root::sqrt;

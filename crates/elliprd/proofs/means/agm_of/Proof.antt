@@ -6,8 +6,8 @@ use native.Mathlib.Omega.{arith}
 use lib.Ieee.{Float}
 use Rattle.root.specs.Root.{root}
 use Rattle.carlson.specs.Answer.{agmAt}
-use Rattle.carlson.specs.Common.{apart}
-use Rattle.carlson.specs.Constants.{zero, meanCap}
+use Rattle.carlson.specs.Common.{meanCap}
+use Rattle.carlson.specs.Constants.{zero}
 use Rattle.carlson.specs.Loop.{capped, Left, left-begins, left-on, left-spent, left-found}
 use Rattle.carlson.specs.declared.answer.Answer.the-variants.{Value}
 use Rattle.binary64.specs.Operators.{bits}

@@ -6,8 +6,7 @@ use native.Mathlib.Omega.{arith}
 use lib.Ieee.{Float}
 use Rattle.root.specs.Root.{root}
 use Rattle.carlson.specs.Answer.{agmAt}
-use Rattle.carlson.specs.Common.{apart}
-use Rattle.carlson.specs.Constants.{meanCap}
+use Rattle.carlson.specs.Common.{meanCap}
 use Rattle.carlson.specs.Loop.{capped, Left, left-begins, left-on, left-spent, left-found}
 use Rattle.carlson.specs.declared.answer.Answer.the-variants.{Value}
 use Rattle.rg_means.specs.declared.means.Sums.{Sums}
