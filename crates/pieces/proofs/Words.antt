@@ -12,7 +12,8 @@ use Rattle.algebra.specs.Order.{lt-or-le}
 use Rattle.enclosure.specs.Pieces.{Series, pieces, row, piece, offset, horner, value}
 use Rattle.enclosure.specs.Floors.{all-fit, horner-fits}
 use Rattle.enclosure.specs.Rows.{row-fits, offset-fits}
-use Rattle.pieces.specs.Row.{row-or-none, value-or-zero, wrapped}
+use Rattle.pieces_rows.specs.Row.{row-or-none}
+use Rattle.pieces.specs.Row.{value-or-zero, wrapped}
 
 wrapped-is : (d : ℕ) (rs : List ℕ) → d ≤ 2 ^ 60 → T (all-fit rs) → wrapped d rs ≡ horner d rs
 wrapped-is d [] h t = refl

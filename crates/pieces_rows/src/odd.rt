@@ -2,7 +2,7 @@
 use crate::row::Row;
 ghost use mathlib.Core.Path.{_≡_};
 ghost use Rattle.enclosure.specs.Pieces.{odd};
-ghost use Rattle.pieces.specs.Row.{listed, row-or-none};
+ghost use Rattle.pieces_rows.specs.Row.{listed, row-or-none};
 
 // All zeros for a piece that the table does not have.
 pub fn odd_row(piece: u64) -> Row

@@ -1,16 +1,16 @@
--- `pieces::odd_rows::odd_row` meets its contract: each arm's row is worked out and compared. Assumes nothing.
+-- `euler_row` meets its contract: each arm's row is worked out and compared. Assumes nothing.
 use borrow.Author.Tests.{le-ltb}
 use Rattle.enclosure.specs.Pieces.{row, numerators}
-use Rattle.pieces.proofs.Arms.{past}
-use Rattle.pieces.proofs.odd_rows.odd_row.Statement.{statement}
-use Rattle.pieces.proofs.odd_rows.odd_row.Tie as tie
+use Rattle.pieces_rows.proofs.Arms.{past}
+use Rattle.pieces_rows.proofs.euler.euler_row.Statement.{statement}
+use Rattle.pieces_rows.proofs.euler.euler_row.Tie as tie
 
-returns-rest : tie.Need-returns-25
-returns-rest c = rw (le-ltb (c .before .args .piece) 24 (past (c .before .args .piece) 24 (c .match .rest)))
+returns-rest : tie.Need-returns-34
+returns-rest c = rw (le-ltb (c .before .args .piece) 33 (past (c .before .args .piece) 33 (c .match .rest)))
 
-pub odd-row-spec : {M : Type 1} → statement M
+pub euler-row-spec : {M : Type 1} → statement M
 unfolding row numerators
-odd-row-spec =
+euler-row-spec =
     tie.close
     (tie.spec
     (λ c. rw (c .match .keys1))
@@ -37,4 +37,13 @@ odd-row-spec =
     (λ c. rw (c .match .keys22))
     (λ c. rw (c .match .keys23))
     (λ c. rw (c .match .keys24))
+    (λ c. rw (c .match .keys25))
+    (λ c. rw (c .match .keys26))
+    (λ c. rw (c .match .keys27))
+    (λ c. rw (c .match .keys28))
+    (λ c. rw (c .match .keys29))
+    (λ c. rw (c .match .keys30))
+    (λ c. rw (c .match .keys31))
+    (λ c. rw (c .match .keys32))
+    (λ c. rw (c .match .keys33))
     returns-rest)
