@@ -53,7 +53,8 @@ rdFactor x y =
     let xyz = x ⊗ y ⊗ z in
     let z2 = z ⊗ z in
     let z3 = z2 ⊗ z in
-    thirdKind (x ⊗ y ⊖ bits 0x4018_0000_0000_0000 ⊗ z2) (three ⊗ xyz ⊖ bits 0x4020_0000_0000_0000 ⊗ z3) (three ⊗ (xyz ⊖ z3) ⊗ z) (xyz ⊗ z2)
+    thirdKind (x ⊗ y ⊖ bits 0x4018_0000_0000_0000 ⊗ z2) (three ⊗ xyz ⊖ bits 0x4020_0000_0000_0000 ⊗ z3) (three ⊗ (xyz ⊖ z3) ⊗ z)
+    (xyz ⊗ z2)
 
 unfoldable pub rdSeries : Float → Float → Float → Float → Float → Float → Float
 rdSeries x y a0 an fnval sum =

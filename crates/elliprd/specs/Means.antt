@@ -39,4 +39,5 @@ rdAgmSpent s n = Refused agm-spent
 -- document 01, Rounds: with the added cap spent it is refused with 9, if the test still says go on
 unfoldable pub rdAgmOf : Float → Float → Answer
 rdAgmOf y z =
-    capped sumsOf rdTogether (rdAgmFound (root y) (root z) y z) rdAgmSpent meanCap (rdTogether (rdAgmStart y z)) (rdAgmStart y z) 0
+    capped sumsOf rdTogether (rdAgmFound (root y) (root z) y z) rdAgmSpent meanCap (rdTogether (rdAgmStart y z))
+    (rdAgmStart y z) 0

@@ -83,8 +83,8 @@ fn feed_all(
     }
 }
 
-// Feeds the block's first bytes, all `size` of them: the replies to the lines that end there are put at the start of `out`, and `held`
-// keeps what has not ended. A size beyond the block counts as all of it, and n above HELD as HELD.
+// Feeds the block's first bytes, all `size` of them: the replies to the lines that end there are put at the start of `out`, and
+// `held` keeps what has not ended. A size beyond the block counts as all of it, and n above HELD as HELD.
 pub fn feed(
     block: &[u8; BLOCK],
     size: usize,

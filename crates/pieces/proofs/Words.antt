@@ -32,6 +32,7 @@ unfolding value
 value-is s x rs e =
     let order : x % 2 ^ 58 * 4 ≡ offset x = omega arith in
     rw (order, e) (elim (lt-or-le (piece x) (pieces s)) [
-      | inl l ↦ rw (lt-ltb (piece x) (pieces s) l) (wrapped-is (offset x) (row s (piece x)) (offset-fits x) (row-fits s (piece x) l))
+      | inl l ↦ rw (lt-ltb (piece x) (pieces s) l) (wrapped-is (offset x) (row s (piece x)) (offset-fits x)
+          (row-fits s (piece x) l))
       | inr l ↦ rw (le-ltb (piece x) (pieces s) l) (nothing (offset x))
     ])

@@ -1,5 +1,5 @@
-// The rows of Euler's series, at 0/64 to 32/64. A `match` and no array: LLVM makes tables in read-only memory of it, while an array
-// constant is copied at each use. The check works each number out anew.
+// The rows of Euler's series, at 0/64 to 32/64. A `match` and no array: LLVM makes tables in read-only memory of it, while an
+// array constant is copied at each use. The check works each number out anew.
 use crate::row::Row;
 ghost use mathlib.Core.Path.{_≡_};
 ghost use Rattle.enclosure.specs.Pieces.{euler};

@@ -1,6 +1,6 @@
-// Runs the oracle's fixed list through the proved entries and compares values, counts and numbers. The list is this program's standard
-// input: a header, then rows such as `RF 4010000000000000 4010000000000000 4010000000000000 = 3FE0000000000000 0` or `.. = refused 3`,
-// of which some end in ` s`, a mark of the oracle's that is passed over here.
+// Runs the oracle's fixed list through the proved entries and compares values, counts and numbers. The list is this program's
+// standard input: a header, then rows such as `RF 4010000000000000 4010000000000000 4010000000000000 = 3FE0000000000000 0` or
+// `.. = refused 3`, of which some end in ` s`, a mark of the oracle's that is passed over here.
 mod row;
 
 use crate::row::Verdict;

@@ -1,4 +1,5 @@
--- RJ near its zero, in the steps of elliprj_pv_near_zero (elliprj.rs). Definitions, and that a constant of the code is what the Rust takes.
+-- RJ near its zero, in the steps of elliprj_pv_near_zero (elliprj.rs). Definitions, and that a constant of the code is what the
+-- Rust takes.
 use mathlib.Core.Path.{_≡_, refl}
 use mathlib.Core.Bool.{Bool, cond}
 use lib.Ieee.{Float, neg, lt, le, ofBits}

@@ -58,7 +58,8 @@ rjMiddle pn r dn = two ⊗ r .p ⊗ (pn ⊕ r .x ⊗ (r .y ⊕ r .z) ⊕ r .y �
 -- between -3/2 and -1/2 RC itself, at an argument that keeps its digits
 unfoldable pub rjTerm : Float → Roots → Float → Float → Float
 rjTerm pn r dn en =
-    cond (lt en (neg half)) (cond (lt (neg (bits 0x3FF8_0000_0000_0000)) en) (rcUnchecked one (rjMiddle pn r dn) .value) (rc1p en)) (rc1p en)
+    cond (lt en (neg half)) (cond (lt (neg (bits 0x3FF8_0000_0000_0000)) en) (rcUnchecked one (rjMiddle pn r dn) .value)
+    (rc1p en)) (rc1p en)
 
 unfoldable pub rjMoved : Round → Lambda → Float → Round
 rjMoved s l added = record {
@@ -100,7 +101,8 @@ rjFactor x y z =
 
 unfoldable pub rjSeries : Float → Float → Float → Float → Round → Float
 rjSeries x y z a0 s =
-    s .fmn ⊗ power (s .an) ⊗ rjFactor (rjCorrection (s .fmn) a0 x (s .an)) (rjCorrection (s .fmn) a0 y (s .an)) (rjCorrection (s .fmn) a0 z (s .an))
+    s .fmn ⊗ power (s .an) ⊗ rjFactor (rjCorrection (s .fmn) a0 x (s .an)) (rjCorrection (s .fmn) a0 y (s .an))
+    (rjCorrection (s .fmn) a0 z (s .an))
     ⊕ bits 0x4018_0000_0000_0000 ⊗ s .sum
 
 -- "RJ 100"

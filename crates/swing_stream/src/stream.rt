@@ -79,8 +79,8 @@ fn feed_all(block: &[u8], size: usize, s: State, out: &mut [u8]) -> Progress
     Progress { state, used }
 }
 
-// Feeds the block's first bytes, all `size` of them: the replies to the lines that end there are put at the start of `out`. A size
-// beyond the block counts as all of it.
+// Feeds the block's first bytes, all `size` of them: the replies to the lines that end there are put at the start of `out`. A
+// size beyond the block counts as all of it.
 pub fn feed(block: &[u8; BLOCK], size: usize, s: State, out: &mut [u8; OUT]) -> Progress
     ensures { λ r. ⌜ Told (restOf s (take size (now (block .entry)))) (saidOf s (take size (now (block .entry)))) (r .state) (now (out .entry)) 0 (now (out .exit)) (r .used) ⌝ }
     ensures { λ r. ⌜ Counts (r .used) (now (out .exit)) ⌝ }

@@ -1,4 +1,5 @@
-// A period in whole units of 10^-12 s. The f64 is m / 2^s; m * 10^12 takes two words, and the quotient by 2^s is rounded once, half to even.
+// A period in whole units of 10^-12 s. The f64 is m / 2^s; m * 10^12 takes two words, and the quotient by 2^s is rounded once,
+// half to even.
 use binary64::split;
 use words::product;
 ghost use mathlib.Core.Path.{_≡_};

@@ -1,5 +1,5 @@
-// Demand 3 run through the proved entries: each call of its standard input, which has the form of the listing's, is asked again with
-// its arguments multiplied by every power of four that keeps them in range, and the answers are compared.
+// Demand 3 run through the proved entries: each call of its standard input, which has the form of the listing's, is asked again
+// with its arguments multiplied by every power of four that keeps them in range, and the answers are compared.
 mod pair;
 
 use crate::pair::Verdict;

@@ -24,7 +24,11 @@ pub tried-put :
     {room : ℕ} {before text out : List ℕ} {at next : ℕ} → at + room ≤ length before → Tried room before at text out next
     → Put before at text out next
 tried-put {room} {before} {text} {out} {at} h t =
-    record { bytes = rw (le-leb (at + room) (length before) h) at (t .bytes); place = rw (le-leb (at + room) (length before) h) at (t .place) }
+    record {
+      bytes = rw (le-leb (at + room) (length before) h) at (t .bytes);
+      place =
+          rw (le-leb (at + room) (length before) h) at (t .place);
+    }
 
 -- ---- a function that tests for room, `has_room(out.len(), at, room)`, and then writes or leaves the place as it is
 pub there : {t : Bool} {n l : ℕ} → t ≡ leb n l → t ≡ true → n ≤ l

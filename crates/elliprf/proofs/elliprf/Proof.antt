@@ -12,7 +12,10 @@ elliprf-spec =
     (λ c κs. tt)
     (λ c. rw (sym (c .before .any-nan3 .ensures) ∙ c .if1 .taken))
     (λ c κs. tt)
-    (λ c. rw (sym (c .before .before .before .any-nan3 .ensures) ∙ c .before .before .if1 .left, sym (c .before .below3 .ensures) ∙ c .if2 .taken))
+    (λ c. rw (
+      sym (c .before .before .before .any-nan3 .ensures) ∙ c .before .before .if1 .left,
+      sym (c .before .below3 .ensures) ∙ c .if2 .taken,
+    ))
     (λ c κs. tt)
     (λ c. rw (
       sym (c .before .before .before .before .before .any-nan3 .ensures) ∙ c .before .before .before .before .if1 .left,

@@ -20,7 +20,8 @@ elliprj-spec =
     ))
     (λ c κs. tt)
     (λ c. rw (
-      sym (c .before .before .before .before .before .before .any-nan4 .ensures) ∙ c .before .before .before .before .before .if1 .left,
+      sym (c .before .before .before .before .before .before .any-nan4 .ensures)
+          ∙ c .before .before .before .before .before .if1 .left,
       c .before .before .before .before .if2 .left,
       sym (c .before .before .before .below3 .ensures) ∙ c .before .before .if3 .left,
       sym (c .before .zeros3 .ensures) ∙ c .if4 .taken,

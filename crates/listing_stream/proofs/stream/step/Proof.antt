@@ -29,7 +29,8 @@ ended held after before out b at next e p = record {
 }
 
 -- one byte more is held, of at most as many as there is room for
-held-more : (l : List ℕ) (n b r : ℕ) → n ≤ length l → r ≡ pushed n (length l) → take r (set l n b) ≡ take (length l) (take n l ++ b ∷ [])
+held-more : (l : List ℕ) (n b r : ℕ) → n ≤ length l → r ≡ pushed n (length l)
+    → take r (set l n b) ≡ take (length l) (take n l ++ b ∷ [])
 unfolding pushed
 held-more l n b r h e = ⊎-elim inside full (lt-or-le n (length l))
   where
@@ -46,10 +47,12 @@ held-more l n b r h e = ⊎-elim inside full (lt-or-le n (length l))
 
 pushed-most : (n size r : ℕ) → n ≤ size → r ≡ pushed n size → r ≤ size
 unfolding pushed
-pushed-most n size r h e = ⊎-elim (λ k. omega (arith, rw (lt-ltb n size k) at e)) (λ k. omega (arith, rw (le-ltb n size k) at e)) (lt-or-le n size)
+pushed-most n size r h e = ⊎-elim (λ k. omega (arith, rw (lt-ltb n size k) at e))
+    (λ k. omega (arith, rw (le-ltb n size k) at e)) (lt-or-le n size)
 
 goes-on :
-    (held after before : List ℕ) (b at n r : ℕ) → length held ≡ heldLength → n ≤ heldLength → (b ≡ 10 → ⊥) → after ≡ set held n b → r ≡ pushed n (length held)
+    (held after before : List ℕ) (b at n r : ℕ) → length held ≡ heldLength → n ≤ heldLength → (b ≡ 10 → ⊥)
+    → after ≡ set held n b → r ≡ pushed n (length held)
     → Fed (take n held) (b ∷ []) after before at before r at
 unfolding restOf saidOf heldAfter saidAt
 goes-on held after before b at n r l h ne e f = record {
@@ -67,7 +70,8 @@ returns-2 : tie.Need-returns-2
 returns-2 c =
     let k = c .before .before in
     let s = k .before .before .before .before .before in
-    goes-on (now (s .args .held)) _ _ _ _ (s .args .n) _ (s .pre .0) (s .pre .1 .0) (k .before .before .if1 .left) (k .push .ensures .0)
+    goes-on (now (s .args .held)) _ _ _ _ (s .args .n) _ (s .pre .0) (s .pre .1 .0) (k .before .before .if1 .left)
+    (k .push .ensures .0)
     (k .push .ensures .1)
 
 pub step-spec : {M : Type 1} → statement M
