@@ -13,7 +13,7 @@ use writing::put_text;
 use writing::put_word;
 ghost use Prim.Native.Nat.{_+_, _≤_};
 ghost use lib.ListN.{length};
-ghost use Rattle.swing.specs.Between.{Between};
+ghost use Rattle.between.specs.Between.{Between};
 ghost use Rattle.swing.specs.Ratios.{power};
 ghost use Rattle.swing.specs.Bounded.{Bounded};
 ghost use Rattle.swing.specs.Period.{periodOf};

@@ -7,7 +7,7 @@ ghost use Prim.Native.Nat.{_+_, _*_, _<_, _≤_, _^_};
 ghost use Prim.Native.Nat.{compare};
 ghost use lib.Ieee.{nearest};
 ghost use lib.Ieee.Nearest.{closest};
-ghost use Rattle.swing.specs.Between.{Between};
+ghost use Rattle.between.specs.Between.{Between};
 ghost use Rattle.swing.specs.Ratios.{power};
 ghost use Rattle.swing_write.specs.Replies.{ticksOf};
 

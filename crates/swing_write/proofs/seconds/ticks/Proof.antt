@@ -13,7 +13,7 @@ use Rattle.algebra.specs.Ring.{_:*_, _≈_, _⊩_, _times_≼_, ring}
 use Rattle.rounding.specs.Cut.{value, infinity}
 use Rattle.rounding.specs.Value.{value-high}
 use Rattle.binary64.specs.Meaning.{bits-back}
-use Rattle.swing.specs.Between.{Between, units-of, has-value}
+use Rattle.between.specs.Between.{Between, units-of, has-value}
 use Rattle.swing.specs.Ratios.{power}
 use Rattle.swing_write.specs.Replies.{ticksOf}
 use Rattle.swing_write.proofs.seconds.ticks.Statement.{statement}
