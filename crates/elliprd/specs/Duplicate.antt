@@ -15,6 +15,7 @@ use Rattle.carlson.specs.declared.answer.Found.{Found}
 use Rattle.carlson.specs.declared.common.Lambda.{Lambda}
 use Rattle.elliprd.specs.declared.duplicate.Round.{Round}
 
+-- by its bits: 5
 unfoldable pub rdMean : Float → Float → Float → Float
 rdMean x y z = (x ⊕ y ⊕ three ⊗ z) ⊘ bits 0x4014_0000_0000_0000
 
@@ -47,6 +48,7 @@ unfoldable pub rdCorrection : Float → Float → Float → Float → Float
 rdCorrection fnval a0 x an = fnval ⊗ (a0 ⊖ x) ⊘ an
 
 -- the series, of the corrections x and y (DLMF 19.36.2)
+-- by their bits: 6, 8
 unfoldable pub rdFactor : Float → Float → Float
 rdFactor x y =
     let z = neg (x ⊕ y) ⊘ three in

@@ -24,6 +24,7 @@ unfoldable pub rdMeanValue : Float → Float → Float → Float → Sums → Fl
 rdMeanValue x0 y0 y z s =
     ((x0 ⊕ three ⊗ y0) ⊘ (four ⊗ z ⊗ (x0 ⊕ y0)) ⊖ s .sum ⊘ (z ⊗ (y ⊖ z))) ⊗ (pi ⊘ (s .xn ⊕ s .yn)) ⊗ three
 
+-- by its bits: 0.25
 unfoldable pub rdAgmStart : Float → Float → Sums
 rdAgmStart y z = record { xn = root y; yn = root z; sum = zero; sumpow = bits 0x3FD0_0000_0000_0000 }
 

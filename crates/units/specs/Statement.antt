@@ -20,6 +20,7 @@ use Rattle.carlson.specs.declared.answer.Answer.the-variants.{Value, Refused}
 abbrev pub least : Float
 least = bits 0x3BF0_0000_0000_0000
 
+-- by its bits: 1.8446744073709552e+19
 abbrev pub most : Float
 most = bits 0x43F0_0000_0000_0000
 
