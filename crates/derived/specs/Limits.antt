@@ -7,7 +7,6 @@ use Rattle.binary64.specs.Operators.{_⊘_, bits}
 use Rattle.root.specs.Root.{root}
 
 -- "bits 47EFFFFFFFFFFFFF, just under 2^128": 3.4028236692093843e38
--- by its bits: 3.4028236692093843e+38
 abbrev pub limit : Float
 limit = bits 0x47EF_FFFF_FFFF_FFFF
 
@@ -25,18 +24,16 @@ pub limit-is : root (root (root greatest)) ≡ limit
 unfolding root rounded value ofBits
 limit-is = refl
 
--- by its bits: 1
+-- (1 over the limit)
 pub reciprocal-is : bits 0x3FF0_0000_0000_0000 ⊘ limit ≡ reciprocal
 unfolding div ofBits
 reciprocal-is = refl
 
 -- "So 2^128 and 2^-128 are rescaled."
--- by its bits: 3.402823669209385e+38
 pub rescaled-from : lt limit (bits 0x47F0_0000_0000_0000) ≡ true
 unfolding ofBits lt
 rescaled-from = refl
 
--- by its bits: 2.938735877055719e-39
 pub rescaled-to : lt (bits 0x37F0_0000_0000_0000) reciprocal ≡ true
 unfolding ofBits lt
 rescaled-to = refl

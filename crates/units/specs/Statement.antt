@@ -16,11 +16,10 @@ use Rattle.carlson.specs.declared.answer.Way.{Way}
 use Rattle.carlson.specs.declared.answer.Answer.{Answer}
 use Rattle.carlson.specs.declared.answer.Answer.the-variants.{Value, Refused}
 
--- 2 ^ -64 and 2 ^ 64
+-- 2 ^ -64 and 2 ^ 64, by their bits
 abbrev pub least : Float
 least = bits 0x3BF0_0000_0000_0000
 
--- by its bits: 1.8446744073709552e+19
 abbrev pub most : Float
 most = bits 0x43F0_0000_0000_0000
 
