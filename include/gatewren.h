@@ -11,6 +11,11 @@
 #include <stddef.h>
 #include <stdint.h>
 
+#define GATEWREN_VERSION "0.2.0"
+#define GATEWREN_VERSION_MAJOR 0
+#define GATEWREN_VERSION_MINOR 2
+#define GATEWREN_VERSION_PATCH 0
+
 #ifdef __cplusplus
 extern "C" {
 #endif
@@ -27,7 +32,7 @@ enum gatewren_outcome {
     GATEWREN_RC_NO_RESULT = 7,  /* RC ends so */
     GATEWREN_RG_NO_RESULT = 8,  /* RG ends so */
     GATEWREN_AGM_SPENT = 9,     /* the cap of 40 on RD's or RG's mean is spent */
-    GATEWREN_TOO_DEEP = 10,     /* RJ would call itself a fifth time */
+    GATEWREN_TOO_DEEP = 10,     /* a fifth nested RJ call would be needed */
     GATEWREN_OUT_OF_RANGE = 11, /* a swing's length is not 1 to 10,000,000 or its gravity not 1 to 20,000,000 */
     GATEWREN_HEIGHT = 12,       /* a swing's height is not 1 to 2 * length - 1 */
     GATEWREN_SUM_TOO_LARGE = 13 /* the step log's total would pass 2^64 - 1 */

@@ -2,6 +2,7 @@
 
 import ctypes
 import doctest
+import inspect
 import math
 import operator
 import os
@@ -104,7 +105,25 @@ class Examples(unittest.TestCase):
                 call(1, 1, 1, 1, 1)
 
     def test_what_the_comments_show(self):
-        self.assertEqual(doctest.testmod(gatewren).failed, 0)
+        shown = doctest.testmod(gatewren)
+        self.assertEqual(shown.failed, 0)
+        self.assertGreater(shown.attempted, 20)
+
+    def test_what_help_shows(self):
+        number, whole = "SupportsFloat", "SupportsIndex"
+        wanted = {
+            rf: f"(x: '{number}', y: '{number}', z: '{number}') -> 'Value | Refused'",
+            rj: f"(x: '{number}', y: '{number}', z: '{number}', p: '{number}') -> 'Value | Refused'",
+            gatewren.swing: f"(length: '{whole}', height: '{whole}', gravity: '{whole}') -> 'Value | Refused'",
+            gatewren.steps: f"(total: '{whole}', readings: 'Iterable[{whole}]') -> 'Total | Refused'",
+            gatewren.mul_add: f"(a: '{number}', b: '{number}', c: '{number}') -> 'float'",
+        }
+        for call, signature in wanted.items():
+            self.assertEqual(str(inspect.signature(call)), signature)
+        functions = [getattr(gatewren, name) for name in gatewren.__all__]
+        for call in filter(inspect.isfunction, functions):
+            self.assertIn(">>>", call.__doc__, call.__name__)
+        self.assertEqual(rf(z=0.25, y=0.5, x=1), rf(1, 0.5, 0.25))
 
 
 class Answers(unittest.TestCase):

@@ -1,112 +1,132 @@
-//! `fuzz`: calls, mutated calls and noise through the listing program, against what the oracle's own reader makes of them.
+//! `fuzz`: good lines, mutated lines and noise through each of the three programs that read lines, against what the oracle's own
+//! readers make of them.
 
+mod calls;
 mod mutate;
+pub mod numbers;
 
-use crate::call::{shown, Call};
+use crate::lines::Program;
 use crate::random::Random;
-use mutate::KINDS;
 use std::io::Write;
-use std::path::PathBuf;
-use std::process::{Command, Stdio};
+use std::process::Stdio;
 use std::time::{Duration, Instant};
 
 const LINES: u64 = 2000;
 
-fn program() -> PathBuf {
-    PathBuf::from(env!("CARGO_MANIFEST_DIR")).join("../target/bin/listing")
+/// What can be made of a program's lines; the first is a line as it should be.
+fn kinds(program: Program) -> Vec<&'static str> {
+    let own: &[&str] = if program == Program::Listing { &calls::KINDS } else { &numbers::KINDS };
+    [&["a good line"], &mutate::KINDS[..], own].concat()
 }
 
-#[derive(Default)]
+/// One piece of text without its newline (some have newlines within), and its kind.
+pub fn piece(program: Program, random: &mut Random) -> (usize, Vec<u8>) {
+    // Every other piece is a good line, so that what follows a bad line is asked for.
+    let kind = if random.coin() { 0 } else { random.below(kinds(program).len() as u64) as usize };
+    let line = good(program, random);
+    let own = 1 + mutate::KINDS.len();
+    let made = match (kind, program) {
+        (0, _) => line,
+        (kind, _) if kind < own => mutate::made(random, kind - 1, line, program),
+        (kind, Program::Listing) => calls::made(random, kind - own, line),
+        (kind, _) => numbers::made(random, kind - own, line, program),
+    };
+    (kind, made)
+}
+
+/// A line as it should be.
+pub fn good(program: Program, random: &mut Random) -> Vec<u8> {
+    match program {
+        Program::Listing => calls::good(random),
+        _ => numbers::good(random, program),
+    }
+}
+
 struct Counts {
     streams: u64,
     bytes: u64,
     lines: u64,
     good: u64,
-    /// How many were made of each kind, and how many of these are good calls all the same.
-    kinds: [(u64, u64); KINDS.len()],
+    /// How many were made of each kind, and how many of these are good lines all the same.
+    kinds: Vec<(u64, u64)>,
     differ: u64,
 }
 
+impl Counts {
+    fn new(program: Program) -> Counts {
+        Counts { streams: 0, bytes: 0, lines: 0, good: 0, kinds: vec![(0, 0); kinds(program).len()], differ: 0 }
+    }
+
+    fn take(&mut self, program: Program, input: &[u8]) {
+        self.streams += 1;
+        self.bytes += input.len() as u64;
+        for line in crate::lines::lines(input) {
+            self.lines += 1;
+            self.good += u64::from(program.takes(line));
+        }
+    }
+
+    fn print(&self, program: Program, seconds: u64, seed: u64) {
+        let (lines, good) = (self.lines, self.good);
+        println!("{}: {} streams, {} bytes in {seconds} s, seed {seed}", program.name(), self.streams, self.bytes);
+        println!("{lines} lines, {good} good, {} bad; {} streams differ", lines - good, self.differ);
+        println!("\n{:<28}{:>12}{:>12}", "made", "pieces", "good");
+        for (name, (made, good)) in kinds(program).iter().zip(&self.kinds) {
+            println!("{name:<28}{made:>12}{good:>12}");
+        }
+        println!();
+    }
+}
+
+/// So many seconds for each program.
 pub fn run(seconds: u64, seed: u64) -> bool {
-    if !program().is_file() {
-        eprintln!("there is no {}: `./gatewren build` first", program().display());
+    Program::ALL.map(|program| fuzzed(program, seconds, seed)) == [true; 3]
+}
+
+fn fuzzed(program: Program, seconds: u64, seed: u64) -> bool {
+    if !program.path().is_file() {
+        eprintln!("there is no {}: `./gatewren build` first", program.path().display());
         return false;
     }
     let mut random = Random::new(seed);
-    let mut counts = Counts::default();
+    let mut counts = Counts::new(program);
     let end = Instant::now() + Duration::from_secs(seconds);
     while Instant::now() < end {
-        let input = stream(&mut random, &mut counts);
-        let wanted = replies(&input, &mut counts);
-        let came_out = listed(&input, &mut random);
+        let input = stream(program, &mut random, &mut counts);
+        let wanted = program.replies(&input);
+        let came_out = printed(program, &input, &mut random);
         if came_out != wanted {
             counts.differ += 1;
             if counts.differ <= 5 {
-                show(&input, &came_out, &wanted);
+                show(&came_out, &wanted);
             }
         }
     }
-    print(&counts, seconds, seed);
+    counts.print(program, seconds, seed);
     counts.streams > 0 && counts.differ == 0
 }
 
-fn print(counts: &Counts, seconds: u64, seed: u64) {
-    let (lines, good) = (counts.lines, counts.good);
-    println!("{} streams, {} bytes in {seconds} s, seed {seed}", counts.streams, counts.bytes);
-    println!("{lines} lines, {good} good, {} bad; {} streams differ", lines - good, counts.differ);
-    println!("\n{:<28}{:>12}{:>12}", "made", "pieces", "good");
-    for (name, (made, good)) in KINDS.iter().zip(counts.kinds) {
-        println!("{name:<28}{made:>12}{good:>12}");
-    }
-}
-
 /// Some lines of every kind; the last may lack its newline.
-fn stream(random: &mut Random, counts: &mut Counts) -> Vec<u8> {
+fn stream(program: Program, random: &mut Random, counts: &mut Counts) -> Vec<u8> {
     let lines = random.below(LINES);
-    let mut input = Vec::new();
+    // Most step logs begin with a total, half of them one that the readings may take past 2^64 - 1.
+    let mut input = if program == Program::Steps && random.below(4) > 0 { numbers::total(random) } else { Vec::new() };
     for i in 0..lines {
-        let (kind, piece) = mutate::piece(random);
+        let (kind, piece) = piece(program, random);
         counts.kinds[kind].0 += 1;
-        counts.kinds[kind].1 += u64::from(call(&piece).is_some());
+        counts.kinds[kind].1 += u64::from(program.takes(&piece));
         input.extend(piece);
         if i + 1 < lines || random.coin() {
             input.push(b'\n');
         }
     }
-    counts.streams += 1;
-    counts.bytes += input.len() as u64;
+    counts.take(program, &input);
     input
 }
 
-/// The oracle's reader: a line is text, its words lie between single blanks, and each is as long as it must be.
-fn call(line: &[u8]) -> Option<Call> {
-    Call::parse(std::str::from_utf8(line).ok()?)
-}
-
-/// What the listing must print.
-fn replies(input: &[u8], counts: &mut Counts) -> Vec<u8> {
-    let mut text = b"carlson 1\n".to_vec();
-    let whole = input.strip_suffix(b"\n").unwrap_or(input);
-    if input.is_empty() {
-        return text;
-    }
-    for line in whole.split(|&byte| byte == b'\n') {
-        counts.lines += 1;
-        match call(line) {
-            Some(call) => {
-                counts.good += 1;
-                writeln!(text, "{:?} {}", call.entry, shown(call.judged().answer))
-            }
-            None => writeln!(text, "bad line"),
-        }
-        .expect("memory can be written to");
-    }
-    text
-}
-
 /// What the program prints. It is fed in pieces of all sizes, so that its reads end anywhere in a line.
-fn listed(input: &[u8], random: &mut Random) -> Vec<u8> {
-    let mut child = Command::new(program()).stdin(Stdio::piped()).stdout(Stdio::piped()).spawn().expect("the listing runs");
+fn printed(program: Program, input: &[u8], random: &mut Random) -> Vec<u8> {
+    let mut child = program.command().stdin(Stdio::piped()).stdout(Stdio::piped()).spawn().expect("the program runs");
     let mut pipe = child.stdin.take().expect("its standard input");
     let most = random.pick(&[40, 4000, 4000, 4000, 100_000]);
     let mut sizes = Random::new(random.word());
@@ -115,58 +135,37 @@ fn listed(input: &[u8], random: &mut Random) -> Vec<u8> {
             let mut left = input;
             while !left.is_empty() {
                 let (piece, rest) = left.split_at(left.len().min(1 + sizes.below(most) as usize));
-                pipe.write_all(piece).expect("the listing reads all of its input");
+                pipe.write_all(piece).expect("the program reads all of its input");
                 left = rest;
             }
         });
-        child.wait_with_output().expect("the listing ends").stdout
+        child.wait_with_output().expect("the program ends").stdout
     })
 }
 
 /// The first line in which the two outputs differ.
-fn show(input: &[u8], came_out: &[u8], wanted: &[u8]) {
+fn show(came_out: &[u8], wanted: &[u8]) {
     let lines = |text: &[u8]| text.split(|&byte| byte == b'\n').map(<[u8]>::to_vec).collect::<Vec<_>>();
-    let (came_out, wanted, input) = (lines(came_out), lines(wanted), lines(input));
+    let (came_out, wanted) = (lines(came_out), lines(wanted));
     let i = came_out.iter().zip(&wanted).take_while(|(a, b)| a == b).count();
-    let text = |lines: &[Vec<u8>], i: usize| lines.get(i).map_or("nothing".to_string(), |line| line.escape_ascii().to_string());
-    let line = i.checked_sub(1).map_or("the header".to_string(), |i| text(&input, i));
-    println!("DIFFERS in line {i}, {line}: {}, not {}", text(&wanted, i), text(&came_out, i));
+    let text = |lines: &[Vec<u8>]| lines.get(i).map_or("nothing".to_string(), |line| line.escape_ascii().to_string());
+    println!("DIFFERS in line {} of the output: {}, not {}", i + 1, text(&wanted), text(&came_out));
 }
 
 #[cfg(test)]
 mod tests {
     use super::*;
 
-    fn said(input: &[u8]) -> String {
-        String::from_utf8(replies(input, &mut Counts::default())).unwrap()
-    }
-
-    #[test]
-    fn what_a_line_is() {
-        assert_eq!(said(b""), "carlson 1\n");
-        assert_eq!(said(b"\n"), "carlson 1\nbad line\n");
-        assert_eq!(said(b"x"), "carlson 1\nbad line\n");
-        assert_eq!(said(b"x\n"), "carlson 1\nbad line\n");
-        assert_eq!(said(b"x\n\n"), "carlson 1\nbad line\nbad line\n");
-        let four = "4010000000000000";
-        let call = format!("RF {four} {four} {four}");
-        let answer = "carlson 1\nRF 3FE0000000000000 0\n";
-        assert_eq!(said(call.as_bytes()), answer);
-        assert_eq!(said(format!("{call}\n").as_bytes()), answer);
-        for bad in [format!("{call} "), format!("{call}\r"), format!(" {call}"), call.replace(' ', "  "), call.replace('R', "r")]
-        {
-            assert_eq!(said(bad.as_bytes()), "carlson 1\nbad line\n");
-        }
-    }
-
     /// Every kind is made, and each that can be bad is.
     #[test]
-    fn kinds() {
-        let mut counts = Counts::default();
-        let mut random = Random::new(2);
-        (0..40).for_each(|_| drop(stream(&mut random, &mut counts)));
-        assert!(counts.kinds.iter().all(|(made, _)| *made > 100));
-        assert_eq!(counts.kinds[0].0, counts.kinds[0].1);
-        assert!(counts.kinds[1..].iter().all(|(made, good)| good < made));
+    fn every_kind() {
+        for program in Program::ALL {
+            let mut counts = Counts::new(program);
+            let mut random = Random::new(2);
+            (0..60).for_each(|_| drop(stream(program, &mut random, &mut counts)));
+            assert!(counts.kinds.iter().all(|(made, _)| *made > 100));
+            assert_eq!(counts.kinds[0].0, counts.kinds[0].1);
+            assert!(counts.kinds[1..].iter().all(|(made, good)| good < made));
+        }
     }
 }

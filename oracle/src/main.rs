@@ -1,6 +1,7 @@
 //! The judge for Gatewren's entries and leaves; README.md says what it compiles and what it is asked.
 
 mod aims;
+mod blocks;
 mod call;
 mod compare;
 mod diff;
@@ -11,6 +12,7 @@ mod fuzz;
 mod gatewren;
 mod in_range;
 mod leaf;
+mod lines;
 mod list;
 mod listing;
 mod random;
@@ -25,7 +27,8 @@ mod units_list;
 use std::process::ExitCode;
 
 const USAGE: &str = "oracle examples | make-list | check-list | call | diff N [SEED] | leaf NAME N [SEED] | answers NAME |
-       compare N [SEED [THREADS]] | units N [SEED] | make-units | effect N [SEED] | swing N [SEED] | fuzz SECONDS [SEED]";
+       compare N [SEED [THREADS]] | units N [SEED] | effect N [SEED] | swing N [SEED] | fuzz SECONDS [SEED] |
+       make-units | make-blocks";
 
 fn main() -> ExitCode {
     let words: Vec<String> = std::env::args().skip(1).collect();
@@ -45,6 +48,7 @@ fn main() -> ExitCode {
         ["units", n] => rescale::run(number(n), 1),
         ["units", n, seed] => rescale::run(number(n), number(seed)),
         ["make-units"] => units_list::make(),
+        ["make-blocks"] => blocks::make(),
         ["fuzz", seconds] => fuzz::run(number(seconds), 1),
         ["fuzz", seconds, seed] => fuzz::run(number(seconds), number(seed)),
         ["answers", name] => leaf::answers(name),

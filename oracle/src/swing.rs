@@ -30,7 +30,7 @@ pub fn run(n: u64, seed: u64) -> bool {
 }
 
 /// What request 2026-01 says: 11, then 12, then the period by five rounded operations.
-fn judged((length, height, gravity): (u64, u64, u64)) -> Answer {
+pub fn judged((length, height, gravity): (u64, u64, u64)) -> Answer {
     if !(1..=MOST_LENGTH).contains(&length) || !(1..=MOST_GRAVITY).contains(&gravity) {
         return Answer::Refused(11);
     }
@@ -111,7 +111,7 @@ fn all_borders() -> Vec<(u64, u64, u64)> {
 }
 
 /// Fifteen in sixteen are in range, small numbers as often as large ones and heights near both ends among them.
-fn by_chance(random: &mut Random) -> (u64, u64, u64) {
+pub fn by_chance(random: &mut Random) -> (u64, u64, u64) {
     fn to(random: &mut Random, most: u64) -> u64 {
         let most = if random.coin() { most } else { (most >> random.below(25)).max(1) };
         1 + random.below(most)
@@ -125,7 +125,7 @@ fn by_chance(random: &mut Random) -> (u64, u64, u64) {
 }
 
 /// The new total, or nothing where it would pass 2^64 - 1.
-fn summed(total: u64, readings: &[u16]) -> Option<u64> {
+pub fn summed(total: u64, readings: &[u16]) -> Option<u64> {
     let more: u128 = readings.windows(2).map(|pair| (i64::from(pair[1]) - i64::from(pair[0])).rem_euclid(65536) as u128).sum();
     u64::try_from(u128::from(total) + more).ok()
 }
@@ -176,61 +176,4 @@ fn logs(random: &mut Random, n: u64) -> u64 {
     }
     println!("step logs: 9 named and {n} by chance ({refused} refused 13), {wrong} differ, {miscounted} not the steps taken");
     wrong + miscounted
-}
-
-/// The fixtures of the programs `swings` and `steps`, by a reader and a writer of lines of the oracle's own.
-#[cfg(test)]
-mod tests {
-    use super::*;
-    use std::{fs, path::Path};
-
-    fn fixture(program: &str, file: &str) -> String {
-        let folder = Path::new(env!("CARGO_MANIFEST_DIR")).join("../crates").join(program);
-        fs::read_to_string(folder.join(file)).expect("a program of the repository has its fixture")
-    }
-
-    /// The numbers of a line, if that is all it has: each in its shortest form, one blank between.
-    fn numbers(line: &str) -> Option<Vec<u64>> {
-        line.split(' ').map(|word| word.parse::<u64>().ok().filter(|n| n.to_string() == word)).collect()
-    }
-
-    /// The f64's exact value to 12 places, half to even. It is below 2^63 and no less than 2^-11.
-    fn seconds(value: f64) -> String {
-        let bits = value.to_bits();
-        let (digits, shift) = ((1 << 52) + u128::from(bits % (1 << 52)), 1075 - (bits >> 52));
-        let (exact, one) = (digits * 1_000_000_000_000, 1u128 << shift);
-        let (whole, rest) = (exact / one, exact % one * 2);
-        let ticks = whole + u128::from(rest > one || rest == one && whole % 2 == 1);
-        format!("{}.{:012}", ticks / 1_000_000_000_000, ticks % 1_000_000_000_000)
-    }
-
-    #[test]
-    fn swings() {
-        let mut said = String::new();
-        for line in fixture("swings", "stdin").lines() {
-            said += &match numbers(line).as_deref() {
-                Some(&[length, height, gravity]) => match judged((length, height, gravity)) {
-                    Answer::Value(bits, _) => format!("{bits:016X} {}\n", seconds(f64::from_bits(bits))),
-                    Answer::Refused(number) => format!("refused {number}\n"),
-                },
-                _ => "bad line\n".to_string(),
-            };
-        }
-        assert_eq!(said, fixture("swings", "stdout"));
-    }
-
-    #[test]
-    fn steps() {
-        let (mut said, mut total, mut readings) = (String::new(), None, Vec::new());
-        for line in fixture("steps", "stdin").lines() {
-            match (numbers(line).as_deref(), total) {
-                (Some(&[n]), None) => total = Some(n),
-                (Some(&[n]), Some(_)) if n < 65536 => readings.push(n as u16),
-                _ => said += "bad line\n",
-            }
-        }
-        let sum = summed(total.expect("the fixture has a total"), &readings);
-        said += &sum.map_or("refused 13\n".to_string(), |sum| format!("{sum}\n"));
-        assert_eq!(said, fixture("steps", "stdout"));
-    }
 }

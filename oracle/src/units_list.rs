@@ -1,4 +1,4 @@
-//! `make-units`: the calls of the program `rescale`, which multiplies each by every power of four that fits.
+//! `make-units`: the calls of the program `units_run`, which multiplies each by every power of four that fits.
 
 use crate::call::{Call, Entry};
 use crate::in_range::{asked, draw, fitting, END};
@@ -30,7 +30,7 @@ fn listed() -> Vec<Call> {
 }
 
 fn path() -> PathBuf {
-    PathBuf::from(env!("CARGO_MANIFEST_DIR")).join("../crates/rescale/stdin")
+    PathBuf::from(env!("CARGO_MANIFEST_DIR")).join("../crates/units_run/stdin")
 }
 
 fn text() -> String {

@@ -58,7 +58,7 @@ refusals! {
     RcNoResult = 7, "RC ends without a finite result";
     RgNoResult = 8, "RG ends without a finite result";
     AgmSpent = 9, "the cap on RD's or RG's mean is spent";
-    TooDeep = 10, "RJ would call itself a fifth time";
+    TooDeep = 10, "a fifth nested RJ call would be needed";
     OutOfRange = 11, "a swing's length is not 1 to 10,000,000 or its gravity not 1 to 20,000,000";
     Height = 12, "a swing's height is not 1 to 2L - 1";
     SumTooLarge = 13, "the step log's total would pass 2^64 - 1";

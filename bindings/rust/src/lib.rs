@@ -16,3 +16,6 @@ mod symbols;
 
 pub use answer::{Answer, Refusal};
 pub use entries::{rc, rd, rf, rg, rj};
+
+/// The version of this crate, and of the header and the Python package beside it.
+pub const VERSION: &str = env!("CARGO_PKG_VERSION");

@@ -1,4 +1,2 @@
-pub mod Digits
-pub mod DigitLaws
 pub mod Calls
 pub mod CallLaws

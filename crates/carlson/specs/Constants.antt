@@ -1,4 +1,5 @@
--- The constants of the Rust and of document 01 by their bits, and document 01's numbers for no. Definitions only.
+-- The constants of the Rust and of document 01 by their bits, and document 01's numbers for no. (Those that are what a formula
+-- says are in the crate `derived`.) Definitions only.
 use Prim.Native.Nat.{ℕ}
 use lib.Ieee.{Float}
 use Rattle.binary64.specs.Operators.{bits}
@@ -21,9 +22,11 @@ four = bits 0x4010_0000_0000_0000
 abbrev pub half : Float
 half = bits 0x3FE0_0000_0000_0000
 
+-- by its bits: 3.141592653589793
 abbrev pub pi : Float
 pi = bits 0x4009_21FB_5444_2D18
 
+-- by its bits: 1.5707963267948966
 abbrev pub half-pi : Float
 half-pi = bits 0x3FF9_21FB_5444_2D18
 
@@ -33,13 +36,6 @@ epsilon = bits 0x3CB0_0000_0000_0000
 
 abbrev pub infinity : Float
 infinity = bits 0x7FF0_0000_0000_0000
-
--- document 01, Rescaling: the limit, and its rounded reciprocal
-abbrev pub limit : Float
-limit = bits 0x47EF_FFFF_FFFF_FFFF
-
-abbrev pub reciprocal : Float
-reciprocal = bits 0x37F0_0000_0000_0001
 
 -- ---- document 01, "Numbers for no"
 -- an argument is NaN

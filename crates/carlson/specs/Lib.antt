@@ -2,5 +2,6 @@ pub mod Constants
 pub mod Answer
 pub mod Checks
 pub mod Rescaling
+pub mod Only
 pub mod Loop
 pub mod Common

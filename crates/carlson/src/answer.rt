@@ -1,15 +1,34 @@
-// An answer is one of two cases: a value with its round count, or the number of a refusal (document 01, "Numbers for no").
-// A value is made only by the functions here, one for each road to it, so that what an answer carries is decided in one place.
+// An answer is one of two cases: a value with its way, or the number of a refusal (document 01, "Numbers for no"). What the way
+// to a value tells beside the value is `Way`, which alone grows; a `Found` is made by the functions here, one for each road to
+// a value, by `carried` and by `rescaled`.
 use crate::constants::NAN_GIVEN;
 use binary64::is_finite;
 ghost use mathlib.Core.Path.{_≡_};
 ghost use lib.Ieee.{nan};
-ghost use Rattle.carlson.specs.Answer.{closedAt, infiniteAt, countedAt, settled, settledLate};
+ghost use Rattle.carlson.specs.Answer.{
+  bothWays,
+  closedAt,
+  carriedAt,
+  infiniteAt,
+  agmAt,
+  duplicationAt,
+  jointAt,
+  taylorAt,
+  reductionAt,
+  rescaledAt,
+  settled,
+  settledLate,
+};
+
+// What is known of the way to a value: the rounds begun over the call and all it calls.
+pub struct Way {
+    pub rounds: u32,
+}
 
 // What the steps found. Between the inner parts the value may be any f64; an entry hands out only a finite one.
 pub struct Found {
     pub value: f64,
-    pub rounds: u32,
+    pub way: Way,
 }
 
 pub enum Answer {
@@ -17,11 +36,30 @@ pub enum Answer {
     Refused(u32),
 }
 
+// Two ways gone one after the other.
+pub fn both_ways(a: Way, b: Way) -> Way
+    ensures { λ r. ⌜ r ≡ bothWays a b ⌝ }
+{
+    Way {
+        rounds: std::num::wrapping_add_u32(a.rounds, b.rounds),
+    }
+}
+
 // A formula gave the value: no round was begun.
 pub fn closed(value: f64) -> Found
     ensures { λ r. ⌜ r ≡ closedAt value ⌝ }
 {
-    Found { value, rounds: 0 }
+    Found {
+        value,
+        way: Way { rounds: 0 },
+    }
+}
+
+// A formula put together of what other functions found: it carries their way.
+pub fn carried(value: f64, way: Way) -> Found
+    ensures { λ r. ⌜ r ≡ carriedAt value way ⌝ }
+{
+    Found { value, way }
 }
 
 // The zero for an infinite argument.
@@ -30,43 +68,63 @@ pub fn infinite() -> Answer
 {
     Answer::Value(Found {
         value: 0.0,
-        rounds: 0,
+        way: Way { rounds: 0 },
     })
 }
 
 // The arithmetic-geometric mean, after so many passes that replaced the means.
 pub fn agm(value: f64, rounds: u32) -> Found
-    ensures { λ r. ⌜ r ≡ countedAt value rounds ⌝ }
+    ensures { λ r. ⌜ r ≡ agmAt value rounds ⌝ }
 {
-    Found { value, rounds }
+    Found {
+        value,
+        way: Way { rounds },
+    }
 }
 
 // Duplication, after so many passes begun.
 pub fn duplication(value: f64, rounds: u32) -> Found
-    ensures { λ r. ⌜ r ≡ countedAt value rounds ⌝ }
+    ensures { λ r. ⌜ r ≡ duplicationAt value rounds ⌝ }
 {
-    Found { value, rounds }
+    Found {
+        value,
+        way: Way { rounds },
+    }
 }
 
 // The joint duplication of RF and RD, after so many passes begun.
 pub fn joint(value: f64, rounds: u32) -> Found
-    ensures { λ r. ⌜ r ≡ countedAt value rounds ⌝ }
+    ensures { λ r. ⌜ r ≡ jointAt value rounds ⌝ }
 {
-    Found { value, rounds }
+    Found {
+        value,
+        way: Way { rounds },
+    }
 }
 
 // The expansion near RJ's zero: no round was begun.
 pub fn taylor(value: f64) -> Found
-    ensures { λ r. ⌜ r ≡ closedAt value ⌝ }
+    ensures { λ r. ⌜ r ≡ taylorAt value ⌝ }
 {
-    Found { value, rounds: 0 }
+    Found {
+        value,
+        way: Way { rounds: 0 },
+    }
 }
 
-// The reduction of a negative p, with the rounds of all that it called.
-pub fn reduction(value: f64, rounds: u32) -> Found
-    ensures { λ r. ⌜ r ≡ countedAt value rounds ⌝ }
+// The reduction of a negative p, with the way of all that it called.
+pub fn reduction(value: f64, way: Way) -> Found
+    ensures { λ r. ⌜ r ≡ reductionAt value way ⌝ }
 {
-    Found { value, rounds }
+    Found { value, way }
+}
+
+// What was found at rescaled arguments, with the value that this gives at those of the call.
+pub fn rescaled(found: Found, value: f64) -> Found
+    ensures { λ r. ⌜ r ≡ rescaledAt found value ⌝ }
+{
+    let way = found.way;
+    Found { value, way }
 }
 
 // A finite value stands; else the number says why there is none.

@@ -2,7 +2,10 @@
 use crate::constants::EPSILON;
 use binary64::abs;
 ghost use mathlib.Core.Path.{_≡_};
-ghost use Rattle.carlson.specs.Common.{apart, lambdaOf, thirdKind};
+ghost use Rattle.carlson.specs.Common.{apart, lambdaWith, thirdKind};
+
+// The cap on RD's and RG's mean, which the Rust does not have; document 01 adds it.
+pub const MEAN_CAP: u32 = 40;
 
 // Whether two running means are still so far apart that another pass is wanted.
 pub fn still_apart(xn: f64, yn: f64) -> bool
@@ -11,11 +14,20 @@ pub fn still_apart(xn: f64, yn: f64) -> bool
     abs(xn - yn) >= 2.7 * EPSILON * abs(xn)
 }
 
-// By how much a pass of duplication moves its arguments, from their roots.
-pub fn lambda_of(rx: f64, ry: f64, rz: f64) -> f64
-    ensures { λ r. ⌜ r ≡ lambdaOf rx ry rz ⌝ }
+// By how much a pass of duplication moves its arguments; beside it the root of the last one, which RD's sum wants too.
+pub struct Lambda {
+    pub lambda: f64,
+    pub rz: f64,
+}
+
+// From the arguments' roots.
+pub fn lambda_with(rx: f64, ry: f64, rz: f64) -> Lambda
+    ensures { λ r. ⌜ r ≡ lambdaWith rx ry rz ⌝ }
 {
-    rx * ry + rx * rz + ry * rz
+    Lambda {
+        lambda: rx * ry + rx * rz + ry * rz,
+        rz,
+    }
 }
 
 // The series of RD and RJ in the symmetric functions of their corrections (DLMF 19.36.2).

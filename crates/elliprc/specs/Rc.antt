@@ -7,9 +7,10 @@ use Rattle.series.specs.Atan.{atan}
 use Rattle.series.specs.Ln.{ln}
 use Rattle.series.specs.Ln1p.{ln-1p}
 use Rattle.carlson.specs.Constants.{zero, one, two, half, half-pi, below-zero, zero-given, rc-no-result}
-use Rattle.carlson.specs.Rescaling.{scaleOf2, beyondLimits, survive2}
+use Rattle.carlson.specs.Rescaling.{rescaling2}
 use Rattle.carlson.specs.Checks.{anyNan2, anyInfinite2}
-use Rattle.carlson.specs.Answer.{closedAt, settledLate}
+use Rattle.carlson.specs.Answer.{closedAt, rescaledAt, settledLate}
+use Rattle.carlson.specs.declared.answer.Found.{Found}
 use Rattle.carlson.specs.declared.answer.Answer.{Answer}
 use Rattle.carlson.specs.declared.answer.Answer.the-variants.{Refused}
 
@@ -45,16 +46,19 @@ rcCases prefix x y =
 unfoldable pub rcSteps : Float → Float → Float
 rcSteps x y = cond (lt y zero) (rcCases (root (x ⊘ (x ⊖ y))) (x ⊖ y) (neg y)) (rcCases one x y)
 
--- ---- rescaling: "the result is divided by the scale's root"
-unfoldable pub rcRescaled : Float → Float → Float → Float
-rcRescaled x y s = rcSteps (x ⊘ s) (y ⊘ s) ⊘ root s
+unfoldable pub rcFound : Float → Float → Found
+rcFound x y = closedAt (rcSteps x y)
 
-unfoldable pub rcUnchecked : Float → Float → Float
-rcUnchecked x y = let s = scaleOf2 x y in cond (beyondLimits s) (cond (survive2 x y s) (rcRescaled x y s) (rcSteps x y)) (rcSteps x y)
+-- ---- rescaling: "the result is divided by the scale's root"
+unfoldable pub overRoot : Found → Float → Found
+overRoot f s = rescaledAt f (f .value ⊘ root s)
+
+unfoldable pub rcUnchecked : Float → Float → Found
+rcUnchecked = rescaling2 overRoot rcFound
 
 -- ---- the entry: 2, 4, steps; a finite result stands; else 1, then +infinity gives 0, then 7. RC counts no round.
 unfoldable pub rc : Float → Float → Answer
 rc x y =
     cond (lt x zero) (Refused below-zero)
     (cond (eq y zero) (Refused zero-given)
-    (settledLate (closedAt (rcUnchecked x y)) (anyNan2 x y) (anyInfinite2 x y) rc-no-result))
+    (settledLate (rcUnchecked x y) (anyNan2 x y) (anyInfinite2 x y) rc-no-result))

@@ -1,40 +1,46 @@
-// RC, the degenerate symmetric elliptic integral of the first kind (elliprc.rs; DLMF 19.16.6). It is elementary: closed forms only.
+// RC, the degenerate symmetric elliptic integral of the first kind (elliprc.rs; DLMF 19.16.6). It is elementary: closed forms
+// only.
 mod cases;
 
 use crate::cases::steps;
 use carlson::answer::Answer;
+use carlson::answer::Found;
 use carlson::answer::closed;
+use carlson::answer::rescaled;
 use carlson::answer::settle_late;
 use carlson::checks::any_infinite2;
 use carlson::checks::any_nan2;
 use carlson::constants::BELOW_ZERO;
 use carlson::constants::RC_NO_RESULT;
 use carlson::constants::ZERO_GIVEN;
-use carlson::rescaling::beyond;
+use carlson::rescaling::rescales2;
 use carlson::rescaling::scale2;
-use carlson::rescaling::stay2;
 use root::sqrt;
 ghost use mathlib.Core.Path.{_≡_};
-ghost use Rattle.elliprc.specs.Rc.{rc, rcUnchecked, rcRescaled};
+ghost use Rattle.elliprc.specs.Rc.{rc, rcUnchecked, rcFound, overRoot};
 
-fn rescaled(x: f64, y: f64, scale: f64) -> f64
-    ensures { λ r. ⌜ r ≡ rcRescaled x y scale ⌝ }
+fn found(x: f64, y: f64) -> Found
+    ensures { λ r. ⌜ r ≡ rcFound x y ⌝ }
 {
-    steps(x / scale, y / scale) / sqrt(scale)
+    closed(steps(x, y))
+}
+
+// What was found at the rescaled arguments, over the scale's root.
+pub fn over_root(found: Found, scale: f64) -> Found
+    ensures { λ r. ⌜ r ≡ overRoot found scale ⌝ }
+{
+    rescaled(found, found.value / sqrt(scale))
 }
 
 // The inner part: any two f64s, any f64 back.
-pub fn elliprc_unchecked(x: f64, y: f64) -> f64
+pub fn elliprc_unchecked(x: f64, y: f64) -> Found
     ensures { λ r. ⌜ r ≡ rcUnchecked x y ⌝ }
 {
     let scale = scale2(x, y);
-    if beyond(scale) {
-        if stay2(x, y, scale) {
-            return rescaled(x, y, scale);
-        }
-        return steps(x, y);
+    if rescales2(x, y, scale) {
+        return over_root(found(x / scale, y / scale), scale);
     }
-    steps(x, y)
+    found(x, y)
 }
 
 pub fn elliprc(x: f64, y: f64) -> Answer
@@ -46,6 +52,10 @@ pub fn elliprc(x: f64, y: f64) -> Answer
     if y == 0.0 {
         return Answer::Refused(ZERO_GIVEN);
     }
-    let found = closed(elliprc_unchecked(x, y));
-    settle_late(found, any_nan2(x, y), any_infinite2(x, y), RC_NO_RESULT)
+    settle_late(
+        elliprc_unchecked(x, y),
+        any_nan2(x, y),
+        any_infinite2(x, y),
+        RC_NO_RESULT,
+    )
 }

@@ -5,9 +5,9 @@ use lib.Ieee.{Float}
 use Rattle.binary64.specs.Operators.{_⊕_, _⊖_, _⊗_, _⊘_, bits}
 use Rattle.root.specs.Root.{root}
 use Rattle.carlson.specs.Constants.{zero, two, three, four, pi, agm-spent}
-use Rattle.carlson.specs.Common.{apart}
+use Rattle.carlson.specs.Common.{meanCap, apart}
 use Rattle.carlson.specs.Loop.{capped}
-use Rattle.carlson.specs.Answer.{countedAt}
+use Rattle.carlson.specs.Answer.{agmAt}
 use Rattle.carlson.specs.declared.answer.Answer.{Answer}
 use Rattle.carlson.specs.declared.answer.Answer.the-variants.{Value, Refused}
 use Rattle.elliprd.specs.declared.means.Sums.{Sums}
@@ -24,6 +24,7 @@ unfoldable pub rdMeanValue : Float → Float → Float → Float → Sums → Fl
 rdMeanValue x0 y0 y z s =
     ((x0 ⊕ three ⊗ y0) ⊘ (four ⊗ z ⊗ (x0 ⊕ y0)) ⊖ s .sum ⊘ (z ⊗ (y ⊖ z))) ⊗ (pi ⊘ (s .xn ⊕ s .yn)) ⊗ three
 
+-- by its bits: 0.25
 unfoldable pub rdAgmStart : Float → Float → Sums
 rdAgmStart y z = record { xn = root y; yn = root z; sum = zero; sumpow = bits 0x3FD0_0000_0000_0000 }
 
@@ -31,12 +32,13 @@ abbrev pub rdTogether : Sums → Bool
 rdTogether s = not (apart (s .xn) (s .yn))
 
 abbrev pub rdAgmFound : Float → Float → Float → Float → Sums → ℕ → Answer
-rdAgmFound x0 y0 y z s n = Value (countedAt (rdMeanValue x0 y0 y z s) n)
+rdAgmFound x0 y0 y z s n = Value (agmAt (rdMeanValue x0 y0 y z s) n)
 
 abbrev pub rdAgmSpent : Sums → ℕ → Answer
 rdAgmSpent s n = Refused agm-spent
 
--- document 01, Rounds: the added cap is 40, and it is refused with 9 if the test still says go on
+-- document 01, Rounds: with the added cap spent it is refused with 9, if the test still says go on
 unfoldable pub rdAgmOf : Float → Float → Answer
 rdAgmOf y z =
-    capped sumsOf rdTogether (rdAgmFound (root y) (root z) y z) rdAgmSpent 40 (rdTogether (rdAgmStart y z)) (rdAgmStart y z) 0
+    capped sumsOf rdTogether (rdAgmFound (root y) (root z) y z) rdAgmSpent meanCap (rdTogether (rdAgmStart y z))
+    (rdAgmStart y z) 0

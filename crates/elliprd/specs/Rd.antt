@@ -5,9 +5,9 @@ use Rattle.binary64.specs.Leaves.{minimum}
 use Rattle.binary64.specs.Operators.{_⊗_, _⊘_, bits}
 use Rattle.root.specs.Root.{root}
 use Rattle.carlson.specs.Constants.{zero, one, three, four, pi, below-zero, zeros, z-not-above, no-result}
-use Rattle.carlson.specs.Rescaling.{scaleOf3, beyondLimits, survive3}
+use Rattle.carlson.specs.Rescaling.{rescaling3}
 use Rattle.carlson.specs.Checks.{anyNan3, anyInfinite3}
-use Rattle.carlson.specs.Answer.{closedAt, settledLate}
+use Rattle.carlson.specs.Answer.{closedAt, rescaledAt, settledLate}
 use Rattle.carlson.specs.declared.answer.Answer.{Answer}
 use Rattle.carlson.specs.declared.answer.Answer.the-variants.{Value, Refused}
 use Rattle.elliprd.specs.Means.{rdAgmOf}
@@ -25,7 +25,8 @@ rdZero y = Value (closedAt (three ⊗ pi ⊘ (four ⊗ y ⊗ root y)))
 -- the mean where x = 0 and y <= 16z, else duplication
 unfoldable pub rdGeneral : Float → Float → Float → Answer
 rdGeneral x y z =
-    cond (eq x zero) (cond (le y (bits 0x4030_0000_0000_0000 ⊗ z)) (rdAgmOf y z) (Value (rdDuplication x y z))) (Value (rdDuplication x y z))
+    cond (eq x zero) (cond (le y (bits 0x4030_0000_0000_0000 ⊗ z)) (rdAgmOf y z) (Value (rdDuplication x y z)))
+    (Value (rdDuplication x y z))
 
 unfoldable pub rdOrdered : Float → Float → Float → Answer
 rdOrdered x y z = cond (eq y z) (cond (eq x y) (rdEqual x) (cond (eq x zero) (rdZero y) (rdGeneral x y z))) (rdGeneral x y z)
@@ -36,16 +37,11 @@ rdSteps x y z = cond (eq x z) (rdOrdered y x z) (rdOrdered x y z)
 
 -- ---- rescaling: "by the scale and then its root"
 unfoldable pub overScale : Answer → Float → Answer
-overScale (Value f) s = Value (record { value = f .value ⊘ s ⊘ root s; rounds = f .rounds })
+overScale (Value f) s = Value (rescaledAt f (f .value ⊘ s ⊘ root s))
 overScale (Refused n) s = Refused n
 
-unfoldable pub rdRescaled : Float → Float → Float → Float → Answer
-rdRescaled x y z s = overScale (rdSteps (x ⊘ s) (y ⊘ s) (z ⊘ s)) s
-
 unfoldable pub rdUnchecked : Float → Float → Float → Answer
-rdUnchecked x y z =
-    let s = scaleOf3 x y z in
-    cond (beyondLimits s) (cond (survive3 x y z s) (rdRescaled x y z s) (rdSteps x y z)) (rdSteps x y z)
+rdUnchecked = rescaling3 overScale rdSteps
 
 -- ---- the entry: 2 (the smaller of x and y, NaN passed over), 3, 5, steps with 9; finite stands; else 1, +infinity gives 0, 6
 unfoldable pub rdSettled : Answer → Bool → Bool → Answer

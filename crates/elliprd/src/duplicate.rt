@@ -3,12 +3,24 @@ use binary64::max;
 use carlson::answer::Found;
 use carlson::answer::duplication;
 use carlson::answer::not_a_number;
-use carlson::common::lambda_of;
+use carlson::common::Lambda;
+use carlson::common::lambda_with;
 use carlson::common::third_kind;
 use power::pow_neg_3_2;
 use root::sqrt;
 ghost use mathlib.Core.Path.{_≡_};
-ghost use Rattle.elliprd.specs.Duplicate.{rdMean, rdStart, rdBegin, rdMoved, rdStep, rdClose, rdCorrection, rdFactor, rdSeries, rdDuplication};
+ghost use Rattle.elliprd.specs.Duplicate.{
+  rdMean,
+  rdStart,
+  rdBegin,
+  rdMoved,
+  rdStep,
+  rdClose,
+  rdCorrection,
+  rdFactor,
+  rdSeries,
+  rdDuplication,
+};
 
 // The Rust's cap on its passes.
 const CAP: u32 = 50;
@@ -56,26 +68,24 @@ fn begin(x: f64, y: f64, z: f64) -> Round
 }
 
 // One pass, with its lambda and the root of zn.
-fn moved(s: Round, lambda: f64, rz: f64) -> Round
-    ensures { λ r. ⌜ r ≡ rdMoved s lambda rz ⌝ }
+fn moved(s: Round, l: Lambda) -> Round
+    ensures { λ r. ⌜ r ≡ rdMoved s l ⌝ }
 {
     Round {
-        an: (s.an + lambda) / 4.0,
-        xn: (s.xn + lambda) / 4.0,
-        yn: (s.yn + lambda) / 4.0,
-        zn: (s.zn + lambda) / 4.0,
+        an: (s.an + l.lambda) / 4.0,
+        xn: (s.xn + l.lambda) / 4.0,
+        yn: (s.yn + l.lambda) / 4.0,
+        zn: (s.zn + l.lambda) / 4.0,
         q: s.q / 4.0,
         fnval: s.fnval / 4.0,
-        sum: s.sum + s.fnval / (rz * (s.zn + lambda)),
+        sum: s.sum + s.fnval / (l.rz * (s.zn + l.lambda)),
     }
 }
 
 fn step(s: Round) -> Round
     ensures { λ r. ⌜ r ≡ rdStep s ⌝ }
 {
-    let rz = sqrt(s.zn);
-    let lambda = lambda_of(sqrt(s.xn), sqrt(s.yn), rz);
-    moved(s, lambda, rz)
+    moved(s, lambda_with(sqrt(s.xn), sqrt(s.yn), sqrt(s.zn)))
 }
 
 fn close(s: Round) -> bool

@@ -6,8 +6,8 @@ use crate::duplicate::duplicated;
 use crate::means::agm_of;
 use binary64::min;
 use carlson::answer::Answer;
-use carlson::answer::Found;
 use carlson::answer::closed;
+use carlson::answer::rescaled;
 use carlson::answer::settle_late;
 use carlson::checks::any_infinite3;
 use carlson::checks::any_nan3;
@@ -17,12 +17,11 @@ use carlson::constants::NO_RESULT;
 use carlson::constants::PI;
 use carlson::constants::Z_NOT_ABOVE;
 use carlson::constants::ZEROS;
-use carlson::rescaling::beyond;
+use carlson::rescaling::rescales3;
 use carlson::rescaling::scale3;
-use carlson::rescaling::stay3;
 use root::sqrt;
 ghost use mathlib.Core.Path.{_≡_};
-ghost use Rattle.elliprd.specs.Rd.{rdEqual, rdZero, rdGeneral, rdOrdered, rdSteps, overScale, rdRescaled, rdUnchecked, rdSettled, rd};
+ghost use Rattle.elliprd.specs.Rd.{rdEqual, rdZero, rdGeneral, rdOrdered, rdSteps, overScale, rdUnchecked, rdSettled, rd};
 
 // RD(x, x, x)
 fn all_equal(x: f64) -> Answer
@@ -81,30 +80,18 @@ pub fn over_scale(a: Answer, scale: f64) -> Answer
     ensures { λ r. ⌜ r ≡ overScale a scale ⌝ }
 {
     match a {
-        Answer::Value(found) => Answer::Value(Found {
-            value: found.value / scale / sqrt(scale),
-            rounds: found.rounds,
-        }),
+        Answer::Value(found) => Answer::Value(rescaled(found, found.value / scale / sqrt(scale))),
         Answer::Refused(n) => Answer::Refused(n),
     }
 }
 
-fn rescaled(x: f64, y: f64, z: f64, scale: f64) -> Answer
-    ensures { λ r. ⌜ r ≡ rdRescaled x y z scale ⌝ }
-{
-    over_scale(steps(x / scale, y / scale, z / scale), scale)
-}
-
-// The inner part: any three f64s, any f64 back with its rounds, or no. 9.
+// The inner part: any three f64s, any f64 back with its way, or no. 9.
 pub fn elliprd_unchecked(x: f64, y: f64, z: f64) -> Answer
     ensures { λ r. ⌜ r ≡ rdUnchecked x y z ⌝ }
 {
     let scale = scale3(x, y, z);
-    if beyond(scale) {
-        if stay3(x, y, z, scale) {
-            return rescaled(x, y, z, scale);
-        }
-        return steps(x, y, z);
+    if rescales3(x, y, z, scale) {
+        return over_scale(steps(x / scale, y / scale, z / scale), scale);
     }
     steps(x, y, z)
 }

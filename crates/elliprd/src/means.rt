@@ -1,15 +1,13 @@
 // RD(0, y, z) at moderate ratios, by the arithmetic-geometric mean and the sum of its squared differences.
 use carlson::answer::Answer;
 use carlson::answer::agm;
+use carlson::common::MEAN_CAP;
 use carlson::common::still_apart;
 use carlson::constants::AGM_SPENT;
 use carlson::constants::PI;
 use root::sqrt;
 ghost use mathlib.Core.Path.{_≡_};
 ghost use Rattle.elliprd.specs.Means.{sumsOf, rdMeanValue, rdAgmOf};
-
-// The Rust has no cap here; document 01 adds one.
-const CAP: u32 = 40;
 
 // The running means, and the running sum with its power of two.
 pub struct Sums {
@@ -57,7 +55,7 @@ pub fn agm_of(y: f64, z: f64) -> Answer
     let mut n: u32 = 0;
     loop {
         if still_apart(s.xn, s.yn) {
-            if n == CAP {
+            if n == MEAN_CAP {
                 break Answer::Refused(AGM_SPENT);
             }
             s = next_sums(s);

@@ -1,3 +1,3 @@
-pub mod Means
 pub mod Duplicate
+pub mod Means
 pub mod Rf

@@ -7,8 +7,9 @@ use Rattle.root.specs.Root.{root}
 use Rattle.carlson.specs.Constants.{two, pi}
 use Rattle.carlson.specs.Common.{apart}
 use Rattle.carlson.specs.Loop.{capped}
-use Rattle.carlson.specs.Answer.{countedAt}
+use Rattle.carlson.specs.Answer.{agmAt}
 use Rattle.carlson.specs.declared.answer.Found.{Found}
+use Rattle.elliprf.specs.Duplicate.{rfCap}
 use Rattle.elliprf.specs.declared.means.Means.{Means}
 
 unfoldable pub meansOf : Means → Means
@@ -21,11 +22,11 @@ unfoldable pub agmStart : Float → Float → Means
 agmStart x y = record { xn = root x; yn = root y }
 
 abbrev pub agmCount : Means → ℕ → Found
-agmCount m n = countedAt (agmValue m) n
+agmCount m n = agmAt (agmValue m) n
 
 abbrev pub together : Means → Bool
 together m = not (apart (m .xn) (m .yn))
 
--- document 01, Rounds: the cap is 11, and with it spent it answers all the same. Counted are the passes that replaced the means.
+-- document 01, Rounds: with RF's cap spent the mean answers all the same. Counted are the passes that replaced the means.
 unfoldable pub agmOf : Float → Float → Found
-agmOf x y = capped meansOf together agmCount agmCount 11 (together (agmStart x y)) (agmStart x y) 0
+agmOf x y = capped meansOf together agmCount agmCount rfCap (together (agmStart x y)) (agmStart x y) 0

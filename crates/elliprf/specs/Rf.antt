@@ -4,13 +4,13 @@ use lib.Ieee.{Float, eq}
 use Rattle.binary64.specs.Operators.{_⊗_, _⊘_}
 use Rattle.root.specs.Root.{root}
 use Rattle.carlson.specs.Constants.{zero, one, two, pi, nan-given, below-zero, zeros, no-result}
-use Rattle.carlson.specs.Rescaling.{scaleOf3, beyondLimits, survive3}
+use Rattle.carlson.specs.Rescaling.{rescaling3}
 use Rattle.carlson.specs.Checks.{anyNan3, anyInfinite3, below3, zerosOf3}
 use Rattle.carlson.specs.Answer.{closedAt, infiniteAt, settled}
 use Rattle.carlson.specs.declared.answer.Found.{Found}
 use Rattle.carlson.specs.declared.answer.Answer.{Answer}
 use Rattle.carlson.specs.declared.answer.Answer.the-variants.{Refused}
-use Rattle.elliprc.specs.Rc.{rcUnchecked}
+use Rattle.elliprc.specs.Rc.{overRoot, rcUnchecked}
 use Rattle.elliprf.specs.Means.{agmOf}
 use Rattle.elliprf.specs.Duplicate.{rfDuplication}
 
@@ -25,7 +25,7 @@ oneZero y = closedAt (pi ⊘ (two ⊗ root y))
 
 -- RF(x, y, y) = RC(x, y)
 unfoldable pub twoEqual : Float → Float → Found
-twoEqual x y = closedAt (rcUnchecked x y)
+twoEqual x y = rcUnchecked x y
 
 -- a zero is exchanged with z, and the mean is of the other two; else duplication, in the order given
 unfoldable pub rfGeneral : Float → Float → Float → Found
@@ -38,16 +38,8 @@ rfSteps x y z =
     (cond (eq y z) (cond (eq x zero) (oneZero y) (twoEqual x y)) (rfGeneral x y z)))
 
 -- ---- rescaling: "the result is divided by the scale's root"
-unfoldable pub overRoot : Found → Float → Found
-overRoot f s = record { value = f .value ⊘ root s; rounds = f .rounds }
-
-unfoldable pub rfRescaled : Float → Float → Float → Float → Found
-rfRescaled x y z s = overRoot (rfSteps (x ⊘ s) (y ⊘ s) (z ⊘ s)) s
-
 unfoldable pub rfUnchecked : Float → Float → Float → Found
-rfUnchecked x y z =
-    let s = scaleOf3 x y z in
-    cond (beyondLimits s) (cond (survive3 x y z s) (rfRescaled x y z s) (rfSteps x y z)) (rfSteps x y z)
+rfUnchecked = rescaling3 overRoot rfSteps
 
 -- ---- the entry: 1, 2, 3, then +infinity gives 0, then the steps, then 6
 unfoldable pub rf : Float → Float → Float → Answer

@@ -4,10 +4,22 @@ use binary64::max;
 use carlson::answer::Found;
 use carlson::answer::duplication;
 use carlson::answer::not_a_number;
-use carlson::common::lambda_of;
+use carlson::common::Lambda;
+use carlson::common::lambda_with;
 use root::sqrt;
 ghost use mathlib.Core.Path.{_≡_};
-ghost use Rattle.elliprf.specs.Duplicate.{meanOf, rfStart, rfBegin, rfStep, rfClose, rfCorrection, rfFactor, rfSeries, rfDuplication};
+ghost use Rattle.elliprf.specs.Duplicate.{
+  meanOf,
+  rfStart,
+  rfBegin,
+  rfMoved,
+  rfStep,
+  rfClose,
+  rfCorrection,
+  rfFactor,
+  rfSeries,
+  rfDuplication,
+};
 
 // The Rust's cap on its passes.
 const CAP: u32 = 11;
@@ -51,18 +63,24 @@ fn begin(x: f64, y: f64, z: f64) -> Round
     }
 }
 
-fn step(s: Round) -> Round
-    ensures { λ r. ⌜ r ≡ rfStep s ⌝ }
+// One pass, with its lambda.
+fn moved(s: Round, l: Lambda) -> Round
+    ensures { λ r. ⌜ r ≡ rfMoved s l ⌝ }
 {
-    let lambda = lambda_of(sqrt(s.xn), sqrt(s.yn), sqrt(s.zn));
     Round {
-        an: (s.an + lambda) / 4.0,
-        xn: (s.xn + lambda) / 4.0,
-        yn: (s.yn + lambda) / 4.0,
-        zn: (s.zn + lambda) / 4.0,
+        an: (s.an + l.lambda) / 4.0,
+        xn: (s.xn + l.lambda) / 4.0,
+        yn: (s.yn + l.lambda) / 4.0,
+        zn: (s.zn + l.lambda) / 4.0,
         q: s.q / 4.0,
         fnval: s.fnval * 4.0,
     }
+}
+
+fn step(s: Round) -> Round
+    ensures { λ r. ⌜ r ≡ rfStep s ⌝ }
+{
+    moved(s, lambda_with(sqrt(s.xn), sqrt(s.yn), sqrt(s.zn)))
 }
 
 fn close(s: Round) -> bool

@@ -18,13 +18,13 @@ use carlson::constants::NAN_GIVEN;
 use carlson::constants::NO_RESULT;
 use carlson::constants::PI;
 use carlson::constants::ZEROS;
-use carlson::rescaling::beyond;
+use carlson::rescaling::rescales3;
 use carlson::rescaling::scale3;
-use carlson::rescaling::stay3;
 use elliprc::elliprc_unchecked;
+use elliprc::over_root;
 use root::sqrt;
 ghost use mathlib.Core.Path.{_≡_};
-ghost use Rattle.elliprf.specs.Rf.{allEqual, oneZero, twoEqual, rfGeneral, rfSteps, overRoot, rfRescaled, rfUnchecked, rf};
+ghost use Rattle.elliprf.specs.Rf.{allEqual, oneZero, twoEqual, rfGeneral, rfSteps, rfUnchecked, rf};
 
 // RF(x, x, x)
 fn all_equal(x: f64) -> Found
@@ -40,11 +40,11 @@ fn one_zero(y: f64) -> Found
     closed(PI / (2.0 * sqrt(y)))
 }
 
-// RF(x, y, y)
+// RF(x, y, y), which is RC's answer whole
 fn two_equal(x: f64, y: f64) -> Found
     ensures { λ r. ⌜ r ≡ twoEqual x y ⌝ }
 {
-    closed(elliprc_unchecked(x, y))
+    elliprc_unchecked(x, y)
 }
 
 // No two alike. A zero goes to the mean with the two others, in the Rust's order.
@@ -90,32 +90,13 @@ fn steps(x: f64, y: f64, z: f64) -> Found
     general(x, y, z)
 }
 
-// What was found at the rescaled arguments, over the scale's root.
-fn over_root(found: Found, scale: f64) -> Found
-    ensures { λ r. ⌜ r ≡ overRoot found scale ⌝ }
-{
-    Found {
-        value: found.value / sqrt(scale),
-        rounds: found.rounds,
-    }
-}
-
-fn rescaled(x: f64, y: f64, z: f64, scale: f64) -> Found
-    ensures { λ r. ⌜ r ≡ rfRescaled x y z scale ⌝ }
-{
-    over_root(steps(x / scale, y / scale, z / scale), scale)
-}
-
-// The inner part: any three f64s, any f64 back with its rounds.
+// The inner part: any three f64s, any f64 back with its way.
 pub fn elliprf_unchecked(x: f64, y: f64, z: f64) -> Found
     ensures { λ r. ⌜ r ≡ rfUnchecked x y z ⌝ }
 {
     let scale = scale3(x, y, z);
-    if beyond(scale) {
-        if stay3(x, y, z, scale) {
-            return rescaled(x, y, z, scale);
-        }
-        return steps(x, y, z);
+    if rescales3(x, y, z, scale) {
+        return over_root(steps(x / scale, y / scale, z / scale), scale);
     }
     steps(x, y, z)
 }

@@ -4,15 +4,15 @@ use lib.Ieee.{Float, eq}
 use Rattle.binary64.specs.Operators.{_⊕_, _⊗_, _⊘_}
 use Rattle.root.specs.Root.{root}
 use Rattle.carlson.specs.Constants.{zero, two, four, pi, below-zero, rg-no-result}
-use Rattle.carlson.specs.Rescaling.{scaleOf3, beyondLimits, survive3}
+use Rattle.carlson.specs.Rescaling.{rescaling3}
 use Rattle.carlson.specs.Checks.{anyNan3, below3}
-use Rattle.carlson.specs.Answer.{closedAt, settledLate}
+use Rattle.carlson.specs.Answer.{closedAt, carriedAt, rescaledAt, settledLate}
 use Rattle.carlson.specs.declared.answer.Answer.{Answer}
 use Rattle.carlson.specs.declared.answer.Answer.the-variants.{Value, Refused}
 use Rattle.elliprc.specs.Rc.{rcUnchecked}
-use Rattle.rgmeans.specs.Means.{rgAgmOf}
-use Rattle.rgjoint.specs.Joint.{rgJoint}
-use Rattle.elliprg.specs.Sorting.{sortedOf}
+use Rattle.rg_means.specs.Means.{rgAgmOf}
+use Rattle.rg_joint.specs.Joint.{rgJoint}
+use Rattle.sorting.specs.Sorting.{largestFirst}
 
 -- ---- special cases (DLMF 19.20(ii))
 -- RG(x, x, x)
@@ -25,7 +25,7 @@ rgZero y = Value (closedAt (pi ⊗ root y ⊘ four))
 
 -- RG(x, y, y)
 unfoldable pub rgTwo : Float → Float → Answer
-rgTwo x y = Value (closedAt ((y ⊗ rcUnchecked x y ⊕ root x) ⊘ two))
+rgTwo x y = let rc = rcUnchecked x y in Value (carriedAt ((y ⊗ rc .value ⊕ root x) ⊘ two) (rc .way))
 
 -- RG(0, 0, x)
 unfoldable pub rgAlone : Float → Answer
@@ -42,20 +42,15 @@ rgSorted x y z =
     cond (eq x z) (rgTop x y z) (cond (eq y z) (rgLow x y) (cond (eq y zero) (rgAgmOf x z) (Value (rgJoint x y z))))
 
 unfoldable pub rgSteps : Float → Float → Float → Answer
-rgSteps x y z = let t = sortedOf (record { x = x; y = y; z = z }) in rgSorted (t .x) (t .y) (t .z)
+rgSteps x y z = let t = largestFirst (record { x = x; y = y; z = z }) in rgSorted (t .x) (t .y) (t .z)
 
 -- ---- rescaling: "multiplied by the root"
 unfoldable pub timesRoot : Answer → Float → Answer
-timesRoot (Value f) s = Value (record { value = f .value ⊗ root s; rounds = f .rounds })
+timesRoot (Value f) s = Value (rescaledAt f (f .value ⊗ root s))
 timesRoot (Refused n) s = Refused n
 
-unfoldable pub rgRescaled : Float → Float → Float → Float → Answer
-rgRescaled x y z s = timesRoot (rgSteps (x ⊘ s) (y ⊘ s) (z ⊘ s)) s
-
 unfoldable pub rgUnchecked : Float → Float → Float → Answer
-rgUnchecked x y z =
-    let s = scaleOf3 x y z in
-    cond (beyondLimits s) (cond (survive3 x y z s) (rgRescaled x y z s) (rgSteps x y z)) (rgSteps x y z)
+rgUnchecked = rescaling3 timesRoot rgSteps
 
 -- ---- the entry: 2, steps with 9; finite stands; else 1, 8
 unfoldable pub rgSettled : Answer → Bool → Answer

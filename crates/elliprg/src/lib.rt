@@ -1,27 +1,38 @@
 // RG, the symmetric elliptic integral of the second kind (elliprg.rs; DLMF 19.16.2_5).
-mod sorting;
-
-use crate::sorting::Triple;
-use crate::sorting::sorted;
 use carlson::answer::Answer;
-use carlson::answer::Found;
+use carlson::answer::carried;
 use carlson::answer::closed;
+use carlson::answer::rescaled;
 use carlson::answer::settle_late;
 use carlson::checks::any_nan3;
 use carlson::checks::below3;
 use carlson::constants::BELOW_ZERO;
 use carlson::constants::PI;
 use carlson::constants::RG_NO_RESULT;
-use carlson::rescaling::beyond;
+use carlson::rescaling::rescales3;
 use carlson::rescaling::scale3;
-use carlson::rescaling::stay3;
 use elliprc::elliprc_unchecked;
-use rgjoint::joined;
-use rgmeans::agm_of;
+use rg_joint::joined;
+use rg_means::agm_of;
 use root::sqrt;
+use sorting::Triple;
+use sorting::largest_first;
 ghost use mathlib.Core.Path.{_≡_};
 ghost use mathlib.Core.Bool.{false};
-ghost use Rattle.elliprg.specs.Rg.{rgEqual, rgZero, rgTwo, rgAlone, rgTop, rgLow, rgSorted, rgSteps, timesRoot, rgRescaled, rgUnchecked, rgSettled, rg};
+ghost use Rattle.elliprg.specs.Rg.{
+  rgEqual,
+  rgZero,
+  rgTwo,
+  rgAlone,
+  rgTop,
+  rgLow,
+  rgSorted,
+  rgSteps,
+  timesRoot,
+  rgUnchecked,
+  rgSettled,
+  rg,
+};
 
 // RG(x, x, x)
 fn all_equal(x: f64) -> Answer
@@ -41,7 +52,8 @@ fn one_zero(y: f64) -> Answer
 fn two_equal(x: f64, y: f64) -> Answer
     ensures { λ r. ⌜ r ≡ rgTwo x y ⌝ }
 {
-    Answer::Value(closed((y * elliprc_unchecked(x, y) + sqrt(x)) / 2.0))
+    let rc = elliprc_unchecked(x, y);
+    Answer::Value(carried((y * rc.value + sqrt(x)) / 2.0, rc.way))
 }
 
 // RG(0, 0, x)
@@ -93,7 +105,7 @@ fn in_order(x: f64, y: f64, z: f64) -> Answer
 fn steps(x: f64, y: f64, z: f64) -> Answer
     ensures { λ r. ⌜ r ≡ rgSteps x y z ⌝ }
 {
-    let t = sorted(Triple { x, y, z });
+    let t = largest_first(Triple { x, y, z });
     in_order(t.x, t.y, t.z)
 }
 
@@ -102,30 +114,18 @@ fn times_root(a: Answer, scale: f64) -> Answer
     ensures { λ r. ⌜ r ≡ timesRoot a scale ⌝ }
 {
     match a {
-        Answer::Value(found) => Answer::Value(Found {
-            value: found.value * sqrt(scale),
-            rounds: found.rounds,
-        }),
+        Answer::Value(found) => Answer::Value(rescaled(found, found.value * sqrt(scale))),
         Answer::Refused(n) => Answer::Refused(n),
     }
 }
 
-fn rescaled(x: f64, y: f64, z: f64, scale: f64) -> Answer
-    ensures { λ r. ⌜ r ≡ rgRescaled x y z scale ⌝ }
-{
-    times_root(steps(x / scale, y / scale, z / scale), scale)
-}
-
-// The inner part: any three f64s, any f64 back with its rounds, or no. 9.
+// The inner part: any three f64s, any f64 back with its way, or no. 9.
 pub fn elliprg_unchecked(x: f64, y: f64, z: f64) -> Answer
     ensures { λ r. ⌜ r ≡ rgUnchecked x y z ⌝ }
 {
     let scale = scale3(x, y, z);
-    if beyond(scale) {
-        if stay3(x, y, z, scale) {
-            return rescaled(x, y, z, scale);
-        }
-        return steps(x, y, z);
+    if rescales3(x, y, z, scale) {
+        return times_root(steps(x / scale, y / scale, z / scale), scale);
     }
     steps(x, y, z)
 }

@@ -5,17 +5,18 @@ use lib.Ieee.{Float, neg, le, eq}
 use Rattle.binary64.specs.Operators.{_⊘_}
 use Rattle.carlson.specs.Constants.{nan-given, below-zero, zeros, zero-given, no-result, too-deep}
 use Rattle.carlson.specs.Constants.{zero as plus-zero}
-use Rattle.carlson.specs.Rescaling.{scaleOf4, beyondLimits, survive4}
+use Rattle.carlson.specs.Rescaling.{scaleOf4, rescales4}
 use Rattle.carlson.specs.Checks.{anyNan4, anyInfinite4, below3, zerosOf3}
-use Rattle.carlson.specs.Answer.{closedAt, infiniteAt, settled}
+use Rattle.carlson.specs.Answer.{taylorAt, infiniteAt, settled}
 use Rattle.carlson.specs.declared.answer.Answer.{Answer}
 use Rattle.carlson.specs.declared.answer.Answer.the-variants.{Value, Refused}
+use Rattle.sorting.specs.Sorting.{rising}
 use Rattle.elliprd.specs.Rd.{overScale}
-use Rattle.rjpositive.specs.Positive.{rjPositive}
-use Rattle.rjnegative.specs.declared.nearzero.Near.{Near}
-use Rattle.rjnegative.specs.declared.nearzero.Near.the-variants.{Taylor, Far}
-use Rattle.rjnegative.specs.NearZero.{nearZero}
-use Rattle.rjnegative.specs.Reduction.{rising, reduceOf, reducedAnswer}
+use Rattle.rj_positive.specs.Positive.{rjPositive}
+use Rattle.rj_negative.specs.declared.nearzero.Near.{Near}
+use Rattle.rj_negative.specs.declared.nearzero.Near.the-variants.{Taylor, Far}
+use Rattle.rj_negative.specs.NearZero.{nearZero}
+use Rattle.rj_negative.specs.Reduction.{reduceOf, reducedAnswer}
 use Rattle.elliprj.specs.declared.plan.Plan.{Plan}
 use Rattle.elliprj.specs.declared.plan.Plan.the-variants.{Done, Rescale, Reduce}
 
@@ -27,13 +28,11 @@ planUnscaled x y z p = cond (le p plus-zero) (Reduce (reduceOf x y z (neg p))) (
 unfoldable pub planScaled : Float → Float → Float → Float → Plan
 planScaled x y z p =
     let s = scaleOf4 x y z p in
-    cond (beyondLimits s)
-    (cond (survive4 x y z p s) (Rescale (record { x = x ⊘ s; y = y ⊘ s; z = z ⊘ s; p = p ⊘ s; scale = s })) (planUnscaled x y z p))
-    (planUnscaled x y z p)
+    cond (rescales4 x y z p s) (Rescale (record { x = x ⊘ s; y = y ⊘ s; z = z ⊘ s; p = p ⊘ s; scale = s })) (planUnscaled x y z p)
 
 -- near RJ's zero the expansion answers, before any rescaling
 unfoldable pub planNear : Near → Float → Float → Float → Float → Plan
-planNear (Taylor v) x y z p = Done (Value (closedAt v))
+planNear (Taylor v) x y z p = Done (Value (taylorAt v))
 planNear Far x y z p = planScaled x y z p
 
 -- for p at most zero, at the arguments in rising order

@@ -17,7 +17,7 @@ use carlson::constants::TOO_DEEP;
 use carlson::constants::ZERO_GIVEN;
 use carlson::constants::ZEROS;
 use elliprd::over_scale;
-use rjnegative::carried;
+use rj_negative::carried;
 ghost use mathlib.Core.Path.{_≡_};
 ghost use Rattle.elliprj.specs.Rj.{planOf, rjRun, rjUnchecked, rjSettled, rj};
 

@@ -1,16 +1,15 @@
 // What a call of RJ does, before it calls itself.
 use carlson::answer::Answer;
 use carlson::answer::taylor;
-use carlson::rescaling::beyond;
+use carlson::rescaling::rescales4;
 use carlson::rescaling::scale4;
-use carlson::rescaling::stay4;
-use rjnegative::Near;
-use rjnegative::Reduced;
-use rjnegative::Triple;
-use rjnegative::elliprj_pv_near_zero;
-use rjnegative::reduce;
-use rjnegative::risen;
-use rjpositive::positive::positive;
+use rj_negative::Near;
+use rj_negative::Reduced;
+use rj_negative::elliprj_pv_near_zero;
+use rj_negative::reduce;
+use rj_positive::positive::positive;
+use sorting::Triple;
+use sorting::rising;
 ghost use mathlib.Core.Path.{_≡_};
 ghost use Rattle.elliprj.specs.Rj.{planUnscaled, planScaled, planNear, planOf};
 
@@ -43,17 +42,14 @@ fn scaled(x: f64, y: f64, z: f64, p: f64) -> Plan
     ensures { λ r. ⌜ r ≡ planScaled x y z p ⌝ }
 {
     let scale = scale4(x, y, z, p);
-    if beyond(scale) {
-        if stay4(x, y, z, p, scale) {
-            return Plan::Rescale(Rescaled {
-                x: x / scale,
-                y: y / scale,
-                z: z / scale,
-                p: p / scale,
-                scale,
-            });
-        }
-        return unscaled(x, y, z, p);
+    if rescales4(x, y, z, p, scale) {
+        return Plan::Rescale(Rescaled {
+            x: x / scale,
+            y: y / scale,
+            z: z / scale,
+            p: p / scale,
+            scale,
+        });
     }
     unscaled(x, y, z, p)
 }
@@ -72,7 +68,7 @@ pub fn planned(x: f64, y: f64, z: f64, p: f64) -> Plan
     ensures { λ r. ⌜ r ≡ planOf x y z p ⌝ }
 {
     if p <= 0.0 {
-        let t = risen(Triple { x, y, z });
+        let t = rising(Triple { x, y, z });
         let a = t.x;
         let b = t.y;
         let c = t.z;

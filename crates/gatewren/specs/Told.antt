@@ -14,5 +14,5 @@ valueAfter (Value f) before = f .value
 valueAfter (Refused n) before = before
 
 unfoldable pub roundsAfter : Answer → ℕ → ℕ
-roundsAfter (Value f) before = f .rounds
+roundsAfter (Value f) before = f .way .rounds
 roundsAfter (Refused n) before = before

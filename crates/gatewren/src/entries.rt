@@ -16,7 +16,7 @@ pub fn told(a: Answer, value: &mut f64, rounds: &mut u32) -> u32
     match a {
         Answer::Value(found) => {
             *value = found.value;
-            *rounds = found.rounds;
+            *rounds = found.way.rounds;
             0
         }
         Answer::Refused(n) => n,

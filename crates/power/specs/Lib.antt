@@ -2,4 +2,3 @@ pub mod Power
 pub mod Laws
 pub mod Parts
 pub mod Examples
-pub mod Start

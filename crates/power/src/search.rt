@@ -2,6 +2,7 @@
 use crate::bound::Side;
 use crate::middle::reaches;
 use crate::middle::side;
+use crate::way::Way;
 ghost use mathlib.Core.Path.{_≡_};
 ghost use mathlib.Core.Bool.{true};
 ghost use Prim.Native.Nat.{_+_, _<_};
@@ -10,7 +11,8 @@ ghost use Rattle.power.specs.Parts.{cutAt, Held, Answer};
 
 const INFINITY: u64 = 0x7ff0_0000_0000_0000; // the pattern of the infinity
 
-// Whether r is the answer as far as bounds of one word tell, for a number that is not at an end of the range. This is all that most calls do.
+// Whether r is the answer as far as bounds of one word tell, for a number that is not at an end of the range. This is all that
+// most calls do.
 pub fn is_clear(n: u64, y: u64, r: u64) -> bool
     requires { ⌜ Held n y ⌝ }
     ensures { λ t. ⌜ (t ≡ true → Answer (cutAt n y) r) ⌝ }
@@ -61,21 +63,39 @@ fn digits(n: u64, y: u64) -> u64
     found
 }
 
+// A pattern, and what found it.
+pub struct Pattern {
+    pub r: u64,
+    pub way: Way,
+}
+
 // At the guess or beside it, as far as tests have shown, and in any case by its digits.
-pub fn search(n: u64, y: u64, r: u64) -> u64
+pub fn search(n: u64, y: u64, r: u64) -> Pattern
     requires { ⌜ Held n y ⌝ }
-    ensures { λ r. ⌜ Answer (cutAt n y) r ⌝ }
+    ensures { λ a. ⌜ Answer (cutAt n y) (a .r) ⌝ }
 {
     if is_answer(n, y, r) {
-        return r;
+        return Pattern {
+            r,
+            way: Way::Product,
+        };
     }
     let before = std::num::wrapping_sub_u64(r, 1);
     if is_answer(n, y, before) {
-        return before;
+        return Pattern {
+            r: before,
+            way: Way::Neighbour,
+        };
     }
     let after = std::num::wrapping_add_u64(r, 1);
     if is_answer(n, y, after) {
-        return after;
+        return Pattern {
+            r: after,
+            way: Way::Neighbour,
+        };
     }
-    digits(n, y)
+    Pattern {
+        r: digits(n, y),
+        way: Way::Digits,
+    }
 }

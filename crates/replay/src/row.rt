@@ -1,8 +1,8 @@
 // One row of the list: a call, ` =`, and what the oracle answers to it.
 use calls::Call;
-use calls::Line;
-use calls::call_of;
 use libc::STDOUT_FILENO;
+use listing_read::Line;
+use listing_read::call_of;
 ghost use Prim.Native.Nat.{_≤_};
 ghost use lib.ListN.{length};
 
@@ -72,7 +72,7 @@ fn show(row: &[u8], line: &[u8]) {
 
 fn compare(call: Call, said: &[u8], row: &[u8], shown: bool) -> Verdict {
     let mut text = [0u8; 31];
-    let n = texts::answer_text(call, answers::answer_of(call), &mut text);
+    let n = listing_write::answer_text(call, answers::answer_of(call), &mut text);
     if says(&text[..n], said) {
         return Verdict::Agrees(place(call));
     }

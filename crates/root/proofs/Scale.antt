@@ -5,7 +5,7 @@ use native.Mathlib.Nat.{le-trans, le-of-eq, not-le-of-lt, mul-one, one-mul, mul-
 use native.Mathlib.Omega.{arith}
 use lib.Dec.{lit≤}
 use lib.Pow.{pow-add}
-use Rattle.rounding.specs.Cut.{infinity, value}
+use Rattle.rounding.specs.Cut.{value}
 use Rattle.rounding.specs.Value.{value-small, value-high}
 use Rattle.root.specs.Parts.{four, Scaled}
 
@@ -17,7 +17,7 @@ join m e k y h =
     ∙ ap (λ (z : ℕ). m * z) (sym (pow-add 2 e 1022) ∙ ap (λ (z : ℕ). 2 ^ z) h ∙ pow-add 2 k (y + y))
     ∙ sym (mul-assoc m (2 ^ k) (2 ^ (y + y)))
 
-module _ (b : ℕ) (l : 2 ^ 52 ≤ b) (u : b < infinity) where
+module _ (b : ℕ) (l : 2 ^ 52 ≤ b) where
   -- the digits, the exponent, and the exponent's half
   abbrev m : ℕ
   m = b % 2 ^ 52 + 2 ^ 52
@@ -36,7 +36,7 @@ module _ (b : ℕ) (l : 2 ^ 52 ≤ b) (u : b < infinity) where
     same = ap (λ (z : ℕ). z * four 511) digits ∙ join m e k y h ∙ ap (λ (z : ℕ). z * four y) i;
     low = c;
     high = a;
-    small = omega arith;
+    small = λ u. omega arith;
   }
 
   pub normal-odd : b / 2 ^ 52 % 2 ≡ 1 → Scaled b m y
@@ -68,5 +68,5 @@ subnormal-is b n y u e l h s = record {
   same = ap (λ (z : ℕ). z * four 511) (value-small b (omega arith)) ∙ sym e;
   low = l;
   high = h;
-  small = omega arith;
+  small = λ u. omega arith;
 }

@@ -1,7 +1,7 @@
 -- What the functions below `sqrt` say to each other. Definitions only.
 use Prim.Native.Nat.{ℕ, _+_, _*_, _^_, _≤_, _<_}
 use mathlib.Core.Path.{_≡_}
-use Rattle.rounding.specs.Cut.{value}
+use Rattle.rounding.specs.Cut.{infinity, value}
 
 -- 4 ^ k, shut: antt's `omega` stops at numbers as large as 4 ^ 511
 unfoldable pub four : ℕ → ℕ
@@ -13,9 +13,10 @@ pub record Scaled (b n y : ℕ) : Type 0 where
   pub same : value b * four 511 ≡ n * four y
   pub low : 2 ^ 52 ≤ n
   pub high : n + 2 ≤ 2 ^ 54
-  pub small : y ≤ 1534
+  pub small : b < infinity → y ≤ 1534
 
--- c is the root of n * 2 ^ 52, rounded: c * c - c < n * 2 ^ 52 ≤ c * c + c. There is no tie, since (c + 1 / 2) ^ 2 is no whole number.
+-- c is the root of n * 2 ^ 52, rounded: c * c - c < n * 2 ^ 52 ≤ c * c + c. There is no tie, since (c + 1 / 2) ^ 2 is no whole
+-- number.
 pub record RootDigits (n c : ℕ) : Type 0 where
   pub above : c * c < n * 2 ^ 52 + c
   pub within : n * 2 ^ 52 ≤ c * c + c

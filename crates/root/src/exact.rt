@@ -1,6 +1,7 @@
 // The rounded root of n * 2 ^ 52: the whole number c with c * (c - 1) < n * 2 ^ 52 ≤ c * (c + 1).
 // A product is formed by the halves of c, c = h * 2 ^ 26 + l, so that it fits 64 bits.
-use crate::guess::guess;
+use crate::way::Way;
+use root_guess::guess;
 ghost use mathlib.Core.Path.{_≡_};
 ghost use mathlib.Core.Bool.{true};
 ghost use Prim.Native.Nat.{_+_, _*_, _^_, _≤_, _<_};
@@ -15,7 +16,8 @@ const TWO: u64 = 0x3fe0_0000_0000_0000; // with the 53 digits, the pattern of a 
 
 const FOUR: u64 = 0x3ff0_0000_0000_0000; // and from 2 to 4
 
-// Whether c is the root: the products of the halves are formed once for both tests, and l is 1 at least, so that no difference is below zero.
+// Whether c is the root: the products of the halves are formed once for both tests, and l is 1 at least, so that no difference
+// is below zero.
 pub fn is_root(n: u64, c: u64) -> bool
     ensures { λ r. ⌜ (r ≡ true → RootDigits n c) ⌝ }
 {
@@ -75,22 +77,40 @@ fn near(n: u64) -> u64
     0
 }
 
+// The digits of a root, and what found them.
+pub struct Digits {
+    pub c: u64,
+    pub way: Way,
+}
+
 // The root: near the guess, as far as tests have shown, and in any case by `bisect`.
-pub fn search(n: u64) -> u64
+pub fn search(n: u64) -> Digits
     requires { ⌜ (2 ^ 52 ≤ n) × (n + 2 ≤ 2 ^ 54) ⌝ }
-    ensures { λ r. ⌜ RootDigits n r ⌝ }
+    ensures { λ r. ⌜ RootDigits n (r .c) ⌝ }
 {
     let c = near(n);
     if is_root(n, c) {
-        return c;
+        return Digits {
+            c,
+            way: Way::Second,
+        };
     }
     let before = std::num::wrapping_sub_u64(c, 1);
     if is_root(n, before) {
-        return before;
+        return Digits {
+            c: before,
+            way: Way::Neighbour,
+        };
     }
     let after = std::num::wrapping_add_u64(c, 1);
     if is_root(n, after) {
-        return after;
+        return Digits {
+            c: after,
+            way: Way::Neighbour,
+        };
     }
-    bisect(n)
+    Digits {
+        c: bisect(n),
+        way: Way::Bisection,
+    }
 }

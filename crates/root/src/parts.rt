@@ -1,6 +1,6 @@
-// A finite f64 above zero, taken apart into a whole number and a power of four. For callers in other crates too.
+// The pattern of an f64 above zero, taken apart into a whole number and a power of four. For callers in other crates too.
+ghost use mathlib.Core.Path.{_≡_};
 ghost use Prim.Native.Nat.{_+_, _*_, _^_, _≤_, _<_};
-ghost use Rattle.rounding.specs.Cut.{infinity};
 ghost use Rattle.root.specs.Parts.{Scaled};
 
 const ONE: u64 = 0x10_0000_0000_0000; // 2 ^ 52
@@ -13,7 +13,7 @@ pub struct Parts {
 
 // The exponent's field says the power of two; where that is odd, n takes one more digit.
 fn normal(b: u64) -> Parts
-    ensures { λ r. ⌜ (2 ^ 52 ≤ b → b < infinity → Scaled b (r .n) (r .y)) ⌝ }
+    ensures { λ r. ⌜ (2 ^ 52 ≤ b → Scaled b (r .n) (r .y)) ⌝ }
 {
     let m = b % ONE + ONE;
     let y = (b / ONE + 1021) / 2;
@@ -37,8 +37,9 @@ fn subnormal(b: u64) -> Parts
     Parts { n, y }
 }
 
+// Zero has no such parts and gives two zeros. A pattern past the infinity's is taken as if the exponents went on.
 pub fn scaled(b: u64) -> Parts
-    ensures { λ r. ⌜ (0 < b → b < infinity → Scaled b (r .n) (r .y)) ⌝ }
+    ensures { λ r. ⌜ (b ≡ 0 → (r .n ≡ 0) × (r .y ≡ 0)) × (0 < b → Scaled b (r .n) (r .y)) ⌝ }
 {
     if ONE <= b {
         return normal(b);

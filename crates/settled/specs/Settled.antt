@@ -1,4 +1,5 @@
--- Document 01's sixteen settled examples, in its order, as one table under one statement: antt computes each from the definitions. Assumes nothing.
+-- Document 01's sixteen settled examples, in its order, as one table under one statement: antt computes each from the
+-- definitions. Assumes nothing.
 use mathlib.Core.Path.{_≡_, refl}
 use mathlib.Core.List.{List, [], _∷_}
 use lib.Ieee.{Float, ofBits, add, sub, mul, div, neg, lt, le, eq, isNan}
@@ -8,17 +9,17 @@ use Rattle.binary64.specs.Operators.{bits}
 use Rattle.root.specs.Root.{root}
 use Rattle.fused.specs.Fused.{fused}
 use Rattle.carlson.specs.Constants.{zero, one, two, three, four, half, infinity}
-use Rattle.carlson.specs.Answer.{closedAt, infiniteAt, settled, settledLate}
+use Rattle.carlson.specs.Answer.{wayOf, closedAt, taylorAt, infiniteAt, settled, settledLate}
+use Rattle.carlson.specs.Rescaling.{rescaling2, rescaling3}
 use Rattle.carlson.specs.declared.answer.Answer.{Answer}
 use Rattle.carlson.specs.declared.answer.Answer.the-variants.{Value, Refused}
-use Rattle.elliprc.specs.Rc.{rc, rcUnchecked, rcSteps, rcCases, atEqual}
+use Rattle.elliprc.specs.Rc.{rc, rcUnchecked, rcFound, rcSteps, rcCases, atEqual}
 use Rattle.elliprf.specs.Rf.{rf, rfUnchecked, rfSteps, allEqual, oneZero}
 use Rattle.elliprd.specs.Rd.{rd, rdUnchecked, rdSteps, rdOrdered, rdEqual, rdSettled}
-use Rattle.elliprg.specs.Sorting as order
+use Rattle.sorting.specs.Sorting.{fallXY, fallXZ, riseXY, riseYZ, rising, largestFirst}
 use Rattle.elliprg.specs.Rg.{rg, rgUnchecked, rgSteps, rgSorted, rgLow, rgAlone, rgSettled}
-use Rattle.rjpositive.specs.Positive.{rjAll, rjPositive}
-use Rattle.rjnegative.specs.Reduction.{sortXY, sortYZ, rising}
-use Rattle.rjnegative.specs.NearZero.{largestOf, distant, deltasOf, linearOf, errorOf, quadraticOf, cubicOf, taylorOf, nearZero}
+use Rattle.rj_positive.specs.Positive.{rjAll, rjPositive}
+use Rattle.rj_negative.specs.NearZero.{largestOf, distant, deltasOf, linearOf, errorOf, quadraticOf, cubicOf, taylorOf, nearZero}
 use Rattle.elliprj.specs.Rj.{rj, rjUnchecked, rjRun, rjSettled, planOf, planNear, planScaled, planUnscaled}
 
 -- ---- a row: an entry, its arguments, and the answer
@@ -41,7 +42,7 @@ All (row ∷ rest) = Holds row × All rest
 -- ---- the table's numbers; the others are the constants of the entries
 -- a value that no round was counted for
 abbrev pub is : Float → Answer
-is v = Value (record { value = v; rounds = 0 })
+is v = Value (record { value = v; way = wayOf 0 })
 
 -- all NaNs are one `Float`
 abbrev pub not-a-number : Float
@@ -84,11 +85,32 @@ table =
 -- what has to compute: the entries down the roads that the rows take, the leaves, and IEEE 754's operations
 pub sixteen : All table
 unfolding rf rfUnchecked rfSteps allEqual oneZero
-    rc rcUnchecked rcSteps rcCases atEqual
+    rc rcUnchecked rcFound rcSteps rcCases atEqual
     rd rdUnchecked rdSteps rdOrdered rdEqual rdSettled
-    rg rgUnchecked rgSteps rgSorted rgLow rgAlone rgSettled order.sortXY order.sortXZ order.sortYZ order.sortedOf
-    rj rjUnchecked rjRun rjSettled planOf planNear planScaled planUnscaled rjPositive rjAll rising sortXY sortYZ
+    rg rgUnchecked rgSteps rgSorted rgLow rgAlone rgSettled fallXY fallXZ riseYZ largestFirst
+    rj rjUnchecked rjRun rjSettled planOf planNear planScaled planUnscaled rjPositive rjAll rising riseXY
     nearZero taylorOf cubicOf quadraticOf errorOf linearOf deltasOf distant largestOf
-    closedAt infiniteAt settled settledLate absolute maximum minimum root rounded value fused
+    rescaling2 rescaling3 closedAt taylorAt infiniteAt settled settledLate absolute maximum minimum root rounded value fused
     ofBits add sub mul div neg lt le eq isNan
-sixteen = (refl, (refl, (refl, (refl, (refl, (refl, (refl, (refl, (refl, (refl, (refl, (refl, (refl, (refl, (refl, (refl, tt))))))))))))))))
+sixteen = (
+  refl,
+  (
+    refl,
+    (
+      refl,
+      (
+        refl,
+        (
+          refl,
+          (
+            refl,
+            (
+              refl,
+              (refl, (refl, (refl, (refl, (refl, (refl, (refl, (refl, (refl, tt))))))))),
+            ),
+          ),
+        ),
+      ),
+    ),
+  ),
+)

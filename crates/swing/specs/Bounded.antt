@@ -1,5 +1,5 @@
--- For arguments in range RF does not refuse, so that the only numbers are 11 and 12, and the period is a finite f64 above zero: from
--- 2 ^ -11 to 2 ^ 19 seconds (the true bounds are nearer, and nothing asks for them). Assumes nothing.
+-- For arguments in range RF does not refuse, so that the only numbers are 11 and 12, and the period is a finite f64 above zero:
+-- from 2 ^ -11 to 2 ^ 19 seconds (the true bounds are nearer, and nothing asks for them). Assumes nothing.
 use Prim.Native.Nat.{ℕ, _-_, _*_, _^_, _≤_, _<_}
 use mathlib.Core.Path.{_≡_, refl, sym, _∙_, subst}
 use mathlib.Core.Bool.{Bool, true, false, cond}
@@ -14,8 +14,10 @@ use Rattle.binary64.specs.Leaves.{absolute, maximum, minimum}
 use Rattle.binary64.specs.Operators.{_⊗_, bits}
 use Rattle.carlson.specs.Constants.{zero as +0, one}
 use Rattle.carlson.specs.Checks.{below3}
-use Rattle.carlson.specs.Rescaling.{scaleOf3, beyondLimits}
-use Rattle.carlson.specs.Answer.{settled}
+use Rattle.carlson.specs.Rescaling.{scaleOf3, beyondLimits, rescaling3}
+use Rattle.carlson.specs.Answer.{carriedAt, settled}
+use Rattle.carlson.specs.Only.{Only, Finite, refused}
+use Rattle.carlson.specs.Only as only
 use Rattle.carlson.specs.declared.answer.Found.{Found}
 use Rattle.carlson.specs.declared.answer.Answer.{Answer}
 use Rattle.carlson.specs.declared.answer.Answer.the-variants.{Value, Refused}
@@ -28,15 +30,12 @@ use Rattle.swing.specs.Period.{
   times,
   swung,
   periodOf,
-  Only,
-  finite-value,
-  length-refused,
-  height-refused,
+  swingNumbers,
   length-or-gravity,
   height-number,
 }
 use Rattle.swing.specs.Ranges.{From1, in-within}
-use Rattle.swing.specs.Between.{Between, has-value, units-of, units-high, product-between}
+use Rattle.between.specs.Between.{Between, has-value, units-of, units-high, product-between}
 use Rattle.swing.specs.Compared.{
   lt-is,
   eq-is,
@@ -117,7 +116,7 @@ module _ {y : Float} (Y : Between (power 998) below-one y) where
   scale-is = rw (size-of-zero, own-size Y, size-of-one, no-nan-zero, above-zero Y, not-nan Y, below-1)
 
   unchecked-is : rfUnchecked +0 y one ≡ agmOf one y
-  unfolding rfUnchecked
+  unfolding rfUnchecked rescaling3
   unchecked-is = rw (scale-is, one-not-beyond, steps-are)
 
   pub rf-is : rf +0 y one ≡ Value (agmOf one y)
@@ -144,16 +143,17 @@ record InRange (l h g : ℕ) : Type 0 where
   gravity-in : From1 g 20000000
   height-in : From1 h (2 * l - 1)
 
--- what a swing of arguments in range takes, with RF's rounds
+-- what a swing of arguments in range takes, with RF's way
 swing-of : ℕ → ℕ → ℕ → Found
 swing-of l h g =
     let f = agmOf one (ratio (2 * l - h) (2 * l)) in
-    record { value = fourRoots l g ⊗ f .value; rounds = f .rounds }
+    carriedAt (fourRoots l g ⊗ f .value) (f .way)
 
 module _ (l h g : ℕ) (R : InRange l h g) where
   argument-in : Between (power 998) below-one (ratio (2 * l - h) (2 * l))
   argument-in =
-      argument (2 * l - h) (2 * l) (from-one l h (R .length-in) (R .height-in)) (less l h (R .length-in) (R .height-in)) (most l (R .length-in))
+      argument (2 * l - h) (2 * l) (from-one l h (R .length-in) (R .height-in)) (less l h (R .length-in) (R .height-in))
+      (most l (R .length-in))
     where
       from-one : (l h : ℕ) → From1 l 10000000 → From1 h (2 * l - 1) → 1 ≤ 2 * l - h
       from-one l h L H = omega arith
@@ -169,7 +169,7 @@ module _ (l h g : ℕ) (R : InRange l h g) where
   swung-is = rw (rf-is argument-in)
 
   swing-between : Between (power 1012) (power 1042) (swing-of l h g .value)
-  unfolding value swing-of
+  unfolding value swing-of carriedAt
   swing-between =
       product-between (four-roots l g (R .length-in) (R .gravity-in)) (mean (ratio (2 * l - h) (2 * l)) argument-in) (power 1012)
       (power 1042) tt tt tt
@@ -185,7 +185,8 @@ unfolding periodOf
 period-bounded l h g = go (within l 10000000) (within g 20000000) (within h (2 * l - 1)) refl refl refl
   where
     go : (s t u : Bool) → within l 10000000 ≡ s → within g 20000000 ≡ t → within h (2 * l - 1) ≡ u
-        → Bounded (cond s (cond t (cond u (swung l h g) (Refused height-number)) (Refused length-or-gravity)) (Refused length-or-gravity))
+        → Bounded (cond s (cond t (cond u (swung l h g) (Refused height-number)) (Refused length-or-gravity))
+        (Refused length-or-gravity))
     go false t u p q r = no-length
     go true false u p q r = no-length
     go true true false p q r = no-height
@@ -197,12 +198,12 @@ period-bounded l h g = go (within l 10000000) (within g 20000000) (within h (2 *
         } in
         subst Bounded (sym (swung-is l h g R)) (value-in (swing-between l h g R))
 
-bounded-only : (a : Answer) → Bounded a → Only a
-bounded-only (Value f) (value-in v) = finite-value (is-finite v)
-bounded-only (Refused n) no-length = length-refused
-bounded-only (Refused n) no-height = height-refused
+bounded-only : (a : Answer) → Bounded a → Only Finite swingNumbers a
+bounded-only (Value f) (value-in v) = only.value (is-finite v)
+bounded-only (Refused n) no-length = refused tt
+bounded-only (Refused n) no-height = refused tt
 
-pub period-only : (l h g : ℕ) → Only (periodOf l h g)
+pub period-only : (l h g : ℕ) → Only Finite swingNumbers (periodOf l h g)
 period-only l h g = bounded-only (periodOf l h g) (period-bounded l h g)
 
 pub period-value : (l h g : ℕ) (f : Found) → periodOf l h g ≡ Value f → Between (power 1012) (power 1042) (f .value)

@@ -1,15 +1,14 @@
 -- The period of a swing (document 02, 2026-01), each operation rounded once, in the order of the words. Definitions only.
 use Prim.Native.Nat.{ℕ, _-_, _*_}
-use mathlib.Core.Path.{_≡_}
-use mathlib.Core.Bool.{Bool, true, _&&_, cond}
+use mathlib.Core.Bool.{Bool, _&&_, cond}
+use mathlib.Core.List.{List, [], _∷_}
 use lib.Dec.{leb}
 use lib.IntN.{pos}
 use lib.Ieee.{Float, binary64, ofInt}
-use lib.Ieee.Scale.{finite}
 use Rattle.binary64.specs.Operators.{_⊗_, _⊘_}
 use Rattle.root.specs.Root.{root}
 use Rattle.carlson.specs.Constants.{zero, one, four}
-use Rattle.carlson.specs.declared.answer.Found.{Found}
+use Rattle.carlson.specs.Answer.{carriedAt}
 use Rattle.carlson.specs.declared.answer.Answer.{Answer}
 use Rattle.carlson.specs.declared.answer.Answer.the-variants.{Value, Refused}
 use Rattle.elliprf.specs.Rf.{rf}
@@ -36,9 +35,9 @@ ratio a b = whole a ⊘ whole b
 unfoldable pub fourRoots : ℕ → ℕ → Float
 fourRoots length gravity = four ⊗ root (ratio length gravity)
 
--- "times" what RF answers, with RF's rounds
+-- "times" what RF answers, with RF's way
 unfoldable pub times : Float → Answer → Answer
-times factor (Value f) = Value (record { value = factor ⊗ f .value; rounds = f .rounds })
+times factor (Value f) = Value (carriedAt (factor ⊗ f .value) (f .way))
 times factor (Refused n) = Refused n
 
 -- "four times the root of L/g times RF(0, (2L-h)/(2L), 1)"
@@ -61,8 +60,6 @@ heightFor length height answer = orRefused (within height (2 * length - 1)) heig
 unfoldable pub periodOf : ℕ → ℕ → ℕ → Answer
 periodOf length height gravity = lengthAndGravity length gravity (heightFor length height (swung length height gravity))
 
--- the only answers: a finite value with its rounds, 11 or 12. RF's own numbers are not among them.
-pub data Only : Answer → Type 0 where
-  finite-value : {f : Found} → finite (f .value) ≡ true → Only (Value f)
-  length-refused : Only (Refused length-or-gravity)
-  height-refused : Only (Refused height-number)
+-- beside a finite value the only answers are these. RF's own numbers are not among them.
+abbrev pub swingNumbers : List ℕ
+swingNumbers = length-or-gravity ∷ height-number ∷ []

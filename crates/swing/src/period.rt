@@ -1,11 +1,12 @@
 // The period of a swing, in seconds, from whole micrometres: four times the root of L/g times RF(0, (2L-h)/(2L), 1).
 use carlson::answer::Answer;
-use carlson::answer::Found;
+use carlson::answer::carried;
 use elliprf::elliprf;
 use root::sqrt;
 ghost use mathlib.Core.Path.{_≡_};
 ghost use Prim.Native.Nat.{_*_, _≤_};
-ghost use Rattle.swing.specs.Period.{within, ratio, fourRoots, times, swung, periodOf, Only};
+ghost use Rattle.swing.specs.Period.{within, ratio, fourRoots, times, swung, periodOf, swingNumbers};
+ghost use Rattle.carlson.specs.Only.{Only, Finite};
 
 // Document 02's numbers for no: the length or the gravity, then the height, is out of range.
 const LENGTH_OR_GRAVITY: u32 = 11;
@@ -48,10 +49,7 @@ fn multiplied(factor: f64, answer: Answer) -> Answer
     ensures { λ r. ⌜ r ≡ times factor answer ⌝ }
 {
     match answer {
-        Answer::Value(found) => Answer::Value(Found {
-            value: factor * found.value,
-            rounds: found.rounds,
-        }),
+        Answer::Value(found) => Answer::Value(carried(factor * found.value, found.way)),
         Answer::Refused(number) => Answer::Refused(number),
     }
 }
@@ -69,7 +67,7 @@ fn swing_time(length: u64, height: u64, gravity: u64) -> Answer
 // Any three numbers: the period with RF's rounds, or 11 or 12. Why RF never refuses here is in specs/Bounded.antt.
 pub fn period(length: u64, height: u64, gravity: u64) -> Answer
     ensures { λ r. ⌜ r ≡ periodOf length height gravity ⌝ }
-    ensures { λ r. ⌜ Only r ⌝ }
+    ensures { λ r. ⌜ Only Finite swingNumbers r ⌝ }
 {
     if in_range(length, MOST_LENGTH) {
         if in_range(gravity, MOST_GRAVITY) {

@@ -3,7 +3,7 @@ use Prim.Native.Nat.{ℕ, zero, suc, _/_}
 use mathlib.Core.Bool.{cond}
 use mathlib.Core.List.{List}
 use lib.Dec.{ltb}
-use Rattle.calls.specs.Digits.{digits}
+use Rattle.digits.specs.Digits.{digits}
 
 -- in how many decimal digits n is written, up to as many more than one as are allowed
 unfoldable pub placesOf : ℕ → ℕ → ℕ

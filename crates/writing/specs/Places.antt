@@ -5,8 +5,8 @@ use mathlib.Core.Bool.{Bool, true, false, cond}
 use mathlib.Core.List.{List}
 use native.Mathlib.Omega.{arith}
 use lib.Dec.{ltb}
-use Rattle.calls.specs.Digits.{digits}
-use Rattle.calls.specs.CallLaws.{digits-length}
+use Rattle.digits.specs.Digits.{digits}
+use Rattle.digits.specs.DigitLaws.{digits-length}
 use Rattle.writing.specs.Decimal.{placesOf}
 use Rattle.writing.specs.Written.{Put}
 

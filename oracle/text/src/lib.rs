@@ -22,16 +22,16 @@ pub fn prepare() {
     }
 }
 
-/// ELLIP_SRC, else the folder beside the repository; both from the repository's root.
+/// ELLIP_SRC, else the folder that the file `folder` names; both from the repository's root.
 fn folder() -> PathBuf {
     let root = Path::new(env!("CARGO_MANIFEST_DIR")).join("../..");
-    root.join(env::var_os("ELLIP_SRC").unwrap_or("../shared/docs/src".into()))
+    root.join(env::var_os("ELLIP_SRC").unwrap_or(include_str!("../folder").trim().into()))
 }
 
 fn read(path: &Path) -> String {
     println!("cargo:rerun-if-changed={}", path.display());
     fs::read_to_string(path)
-        .unwrap_or_else(|e| panic!("{}: {e} (ELLIP_SRC names the folder of the crate's text)", path.display()))
+        .unwrap_or_else(|e| panic!("{}: {e} (oracle/README.md says where the crate's text is looked for)", path.display()))
 }
 
 fn write(path: &Path, text: &str) {

@@ -15,12 +15,10 @@ elliprc-spec =
     (λ c κs. tt)
     (λ c κs. tt)
     (λ c κs. tt)
-    (λ c κs. tt)
     (λ c. rw (
-      c .before .before .before .before .before .before .if1 .left,
-      c .before .before .before .before .before .if2 .left,
-      sym (c .before .before .before .before .elliprc-unchecked .ensures),
-      sym (c .before .before .before .closed .ensures),
+      c .before .before .before .before .before .if1 .left,
+      c .before .before .before .before .if2 .left,
+      sym (c .before .before .before .elliprc-unchecked .ensures),
       sym (c .before .before .any-nan2 .ensures),
       sym (c .before .any-infinite2 .ensures),
     ) (c .settle-late .ensures)))

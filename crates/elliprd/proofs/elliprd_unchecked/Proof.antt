@@ -1,11 +1,12 @@
--- `elliprd_unchecked` meets its contract: its tests are those of the definition, in its order. Assumes nothing.
+-- `elliprd_unchecked` meets its contract: its test is the definition's. Assumes nothing.
 use mathlib.Core.Path.{sym, _∙_}
+use Rattle.carlson.specs.Rescaling.{rescaling3}
 use Rattle.elliprd.specs.Rd.{rdUnchecked}
 use Rattle.elliprd.proofs.elliprd_unchecked.Statement.{statement}
 use Rattle.elliprd.proofs.elliprd_unchecked.Tie as tie
 
 pub elliprd-unchecked-spec : {M : Type 1} → statement M
-unfolding rdUnchecked
+unfolding rdUnchecked rescaling3
 elliprd-unchecked-spec =
     tie.close
     (tie.spec
@@ -14,16 +15,14 @@ elliprd-unchecked-spec =
     (λ c κs. tt)
     (λ c κs. tt)
     (λ c. rw (
-      sym (c .before .before .before .before .before .scale3 .ensures),
-      sym (c .before .before .before .before .beyond .ensures) ∙ c .before .before .before .if1 .taken,
-      sym (c .before .before .stay3 .ensures) ∙ c .before .if2 .taken,
-    ) (c .rescaled .ensures))
+      sym (c .before .before .before .before .scale3 .ensures),
+      sym (c .before .before .before .rescales3 .ensures) ∙ c .before .before .if1 .taken,
+      sym (c .before .steps .ensures),
+    ) (c .over-scale .ensures))
     (λ c κs. tt)
     (λ c. rw (
-      sym (c .before .before .before .before .before .scale3 .ensures),
-      sym (c .before .before .before .before .beyond .ensures) ∙ c .before .before .before .if1 .taken,
-      sym (c .before .before .stay3 .ensures) ∙ c .before .if2 .left,
-    ) (c .steps .ensures))
-    (λ c κs. tt)
-    (λ c. rw (sym (c .before .before .before .scale3 .ensures), sym (c .before .before .beyond .ensures) ∙ c .before .if1 .left)
+      sym (c .before .before .before .scale3 .ensures),
+      sym (c .before .before .rescales3 .ensures)
+          ∙ c .before .if1 .left,
+    )
     (c .steps2 .ensures)))

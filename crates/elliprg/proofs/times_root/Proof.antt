@@ -12,6 +12,7 @@ times-root-spec =
     (tie.spec
     (λ c. search needs)
     (λ c κs. tt)
+    (λ c κs. tt)
     (λ c. search needs)
-    (λ c. rw (c .before .before .before .a .given .1, sym (c .before .sqrt .ensures)))
+    (λ c. rw (c .before .before .before .before .a .given .1, sym (c .before .before .sqrt .ensures), sym (c .rescaled .ensures)))
     (λ c. rw (c .before .a2 .given .1)))

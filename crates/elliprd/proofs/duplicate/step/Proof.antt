@@ -11,6 +11,6 @@ step-spec = tie.close (tie.spec (λ c κs. tt) (λ c κs. tt) (λ c κs. tt) (λ
       sym (c .before .before .before .before .sqrt .ensures),
       sym (c .before .before .before .sqrt2 .ensures),
       sym (c .before .before .sqrt3 .ensures),
-      sym (c .before .lambda-of .ensures),
+      sym (c .before .lambda-with .ensures),
       sym (c .moved .ensures),
     )))

@@ -5,10 +5,10 @@ use mathlib.Core.Bool.{Bool, not}
 use native.Mathlib.Omega.{arith}
 use lib.Ieee.{Float}
 use Rattle.root.specs.Root.{root}
-use Rattle.carlson.specs.Answer.{countedAt}
-use Rattle.carlson.specs.Common.{apart}
+use Rattle.carlson.specs.Answer.{agmAt}
+use Rattle.carlson.specs.Common.{meanCap}
 use Rattle.carlson.specs.Constants.{zero}
-use Rattle.carlson.specs.Loop.{capped, ends-spent, ends-found, goes-on}
+use Rattle.carlson.specs.Loop.{capped, Left, left-begins, left-on, left-spent, left-found}
 use Rattle.carlson.specs.declared.answer.Answer.the-variants.{Value}
 use Rattle.binary64.specs.Operators.{bits}
 use Rattle.elliprd.specs.declared.means.Sums.{Sums}
@@ -17,48 +17,32 @@ use Rattle.elliprd.proofs.means.agm_of.Statement.{statement}
 use Rattle.elliprd.proofs.means.agm_of.Tie as tie
 
 abbrev Inv-loop : tie.InvT-loop
-Inv-loop y z x0 y0 s₀ n₀ s n =
-    (n ≤ 40)
-    × (capped sumsOf rdTogether (rdAgmFound x0 y0 y z) rdAgmSpent (40 - n) (rdTogether s) s n
-    ≡ capped sumsOf rdTogether (rdAgmFound x0 y0 y z) rdAgmSpent 40 (rdTogether s₀) s₀ 0)
+Inv-loop y z x0 y0 s₀ n₀ s n = Left sumsOf rdTogether (rdAgmFound x0 y0 y z) rdAgmSpent meanCap (rdTogether s₀) s₀
+    (rdTogether s) s n
 
 abbrev μ-loop : tie.MeasureT-loop
-μ-loop y z x0 y0 s₀ n₀ s n = 40 - n
+μ-loop y z x0 y0 s₀ n₀ s n = meanCap - n
 
 abbrev begun : Float → Float → Sums
 begun a b = record { xn = a; yn = b; sum = zero; sumpow = bits 0x3FD0_0000_0000_0000 }
 
 whole : (y z a b : Float) → a ≡ root y → b ≡ root z
-    → capped sumsOf rdTogether (rdAgmFound a b y z) rdAgmSpent 40 (rdTogether (begun a b)) (begun a b) 0 ≡ rdAgmOf y z
+    → capped sumsOf rdTogether (rdAgmFound a b y z) rdAgmSpent meanCap (rdTogether (begun a b)) (begun a b) 0 ≡ rdAgmOf y z
 unfolding rdAgmOf rdAgmStart
 whole y z a b e f = rw (e, f)
-
--- what the test said, as the loop sees it
-test : (b : Bool) (s : Sums) (t : Bool) → b ≡ apart (s .xn) (s .yn) → b ≡ t → rdTogether s ≡ not t
-test b s t e f = ap not (sym e ∙ f)
 
 loop-again : tie.Need-loop-again Inv-loop μ-loop
 loop-again c =
     let k = c .before .before .before in
-    let l = k .before .loop in
-    let a = k .before .before in (
-      omega arith,
-      goes-on sumsOf rdTogether (rdAgmFound (a .before .sqrt .result) (a .sqrt2 .result) (a .before .before .args .y)
-          (a .before .before .args .z)) rdAgmSpent 40
-          (rdTogether (l .s)) (rdTogether (c .next-sums .result)) (l .s) (c .next-sums .result) (l .n)
-          (test (k .still-apart .result) (l .s) _ (k .still-apart .ensures)
-          (c .before .before .if1 .taken)) (omega arith) (c .next-sums .ensures) refl (l .inv .1),
-    )
+    left-on (k .before .loop .inv) (ap not (sym (k .still-apart .ensures) ∙ c .before .before .if1 .taken)) (omega arith)
+    (c .next-sums .ensures) refl
 
 returns : tie.Need-returns Inv-loop μ-loop
 returns c =
     let k = c .before .before in
-    let l = k .before .loop in
     let a = k .before .before in
     let b = a .before .before .args in
-    ends-spent sumsOf rdTogether (rdAgmFound (a .before .sqrt .result) (a .sqrt2 .result) (b .y) (b .z)) rdAgmSpent 40 (rdTogether (l .s)) (l .s)
-    (l .n)
-    (test (k .still-apart .result) (l .s) _ (k .still-apart .ensures) (c .before .if1 .taken)) (c .if2 .taken) (l .inv .1)
+    left-spent (k .before .loop .inv) (ap not (sym (k .still-apart .ensures) ∙ c .before .if1 .taken)) (c .if2 .taken)
     ∙ whole (b .y) (b .z) _ _ (a .before .sqrt .ensures) (a .sqrt2 .ensures)
 
 returns-2 : tie.Need-returns-2 Inv-loop μ-loop
@@ -67,10 +51,8 @@ returns-2 c =
     let l = k .before .loop in
     let a = k .before .before in
     let b = a .before .before .args in
-    ap Value (c .agm .ensures ∙ ap (λ (v : Float). countedAt v (l .n)) (c .before .value-of .ensures))
-    ∙ ends-found sumsOf rdTogether (rdAgmFound (a .before .sqrt .result) (a .sqrt2 .result) (b .y) (b .z)) rdAgmSpent (40 - l .n)
-    (rdTogether (l .s)) (l .s) (l .n)
-    (test (k .still-apart .result) (l .s) _ (k .still-apart .ensures) (c .before .before .if1 .left)) (l .inv .1)
+    ap Value (c .agm .ensures ∙ ap (λ (v : Float). agmAt v (l .n)) (c .before .value-of .ensures))
+    ∙ left-found (l .inv) (ap not (sym (k .still-apart .ensures) ∙ c .before .before .if1 .left))
     ∙ whole (b .y) (b .z) _ _ (a .before .sqrt .ensures) (a .sqrt2 .ensures)
 
 pub agm-of-spec : {M : Type 1} → statement M
@@ -81,7 +63,7 @@ agm-of-spec =
     μ-loop
     (λ c κs. tt)
     (λ c κs. tt)
-    (λ c. (omega arith, refl))
+    (λ c. left-begins)
     (λ c κs. tt)
     (λ c κs. tt)
     (λ c. record { fits = omega arith })

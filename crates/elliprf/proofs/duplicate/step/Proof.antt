@@ -6,10 +6,11 @@ use Rattle.elliprf.proofs.duplicate.step.Tie as tie
 
 pub step-spec : {M : Type 1} → statement M
 unfolding rfStep
-step-spec = tie.close (tie.spec (λ c κs. tt) (λ c κs. tt) (λ c κs. tt) (λ c κs. tt)
+step-spec = tie.close (tie.spec (λ c κs. tt) (λ c κs. tt) (λ c κs. tt) (λ c κs. tt) (λ c κs. tt)
     (λ c. rw (
-      sym (c .before .before .before .before .before .before .before .before .before .sqrt .ensures),
-      sym (c .before .before .before .before .before .before .before .before .sqrt2 .ensures),
-      sym (c .before .before .before .before .before .before .before .sqrt3 .ensures),
-      sym (c .before .before .before .before .before .before .lambda-of .ensures),
+      sym (c .before .before .before .before .sqrt .ensures),
+      sym (c .before .before .before .sqrt2 .ensures),
+      sym (c .before .before .sqrt3 .ensures),
+      sym (c .before .lambda-with .ensures),
+      sym (c .moved .ensures),
     )))

@@ -11,18 +11,11 @@ scaled-spec =
     (tie.spec
     (λ c κs. tt)
     (λ c κs. tt)
+    (λ c. rw (sym (c .before .before .scale4 .ensures), sym (c .before .rescales4 .ensures) ∙ c .if1 .taken))
     (λ c κs. tt)
     (λ c. rw (
-      sym (c .before .before .before .before .scale4 .ensures),
-      sym (c .before .before .before .beyond .ensures) ∙ c .before .before .if1 .taken,
-      sym (c .before .stay4 .ensures) ∙ c .if2 .taken,
-    ))
-    (λ c κs. tt)
-    (λ c. rw (
-      sym (c .before .before .before .before .before .scale4 .ensures),
-      sym (c .before .before .before .before .beyond .ensures) ∙ c .before .before .before .if1 .taken,
-      sym (c .before .before .stay4 .ensures) ∙ c .before .if2 .left,
-    ) (c .unscaled .ensures))
-    (λ c κs. tt)
-    (λ c. rw (sym (c .before .before .before .scale4 .ensures), sym (c .before .before .beyond .ensures) ∙ c .before .if1 .left)
-    (c .unscaled2 .ensures)))
+      sym (c .before .before .before .scale4 .ensures),
+      sym (c .before .before .rescales4 .ensures)
+          ∙ c .before .if1 .left,
+    )
+    (c .unscaled .ensures)))

@@ -1,5 +1,6 @@
 -- `multiplied` meets its contract, case by case as its definition. Assumes nothing.
 use borrow.Author.Needs.{needs}
+use mathlib.Core.Path.{sym}
 use Rattle.swing.specs.Period.{times}
 use Rattle.swing.proofs.period.multiplied.Statement.{statement}
 use Rattle.swing.proofs.period.multiplied.Tie as tie
@@ -10,6 +11,7 @@ multiplied-spec =
     tie.close
     (tie.spec
     (λ c. search needs)
+    (λ c κs. tt)
     (λ c. search needs)
-    (λ c. rw (c .before .before .answer .given .1))
+    (λ c. rw (c .before .before .before .answer .given .1, sym (c .carried .ensures)))
     (λ c. rw (c .before .answer2 .given .1)))

@@ -4,7 +4,8 @@ use mathlib.Core.Path.{_≡_, sym, _∙_, subst}
 use mathlib.Core.Bool.{Bool, true}
 use native.Mathlib.Omega.{arith}
 use Rattle.carlson.specs.declared.answer.Answer.{Answer}
-use Rattle.swing.specs.Period.{within, periodOf, Only}
+use Rattle.swing.specs.Period.{within, periodOf, swingNumbers}
+use Rattle.carlson.specs.Only.{Only, Finite}
 use Rattle.swing.specs.Ranges.{From1, in-within}
 use Rattle.swing.specs.Bounded.{period-only}
 use Rattle.swing.proofs.period.period.Statement.{statement}
@@ -15,27 +16,31 @@ passed : (n most : ℕ) (r : Bool) → r ≡ within n most → r ≡ true → Fr
 passed n most r e t = in-within n most (sym e ∙ t)
 
 mul-in-range : tie.Need-mul-in-range
-mul-in-range c = let l = passed _ _ _ (c .before .before .before .in-range .ensures) (c .before .before .if1 .taken) in record { fits = omega arith }
+mul-in-range c = let l = passed _ _ _ (c .before .before .before .in-range .ensures) (c .before .before .if1 .taken) in
+    record { fits = omega arith }
 
 sub-in-range : tie.Need-sub-in-range
-sub-in-range c = let l = passed _ _ _ (c .before .before .before .in-range .ensures) (c .before .before .if1 .taken) in omega arith
+sub-in-range c = let l = passed _ _ _ (c .before .before .before .in-range .ensures) (c .before .before .if1 .taken) in
+    omega arith
 
 swing-time-requires : tie.Need-swing-time-requires
 swing-time-requires c κs =
-    let l = passed _ _ _ (c .before .before .before .before .before .in-range .ensures) (c .before .before .before .before .if1 .taken) in
+    let l = passed _ _ _ (c .before .before .before .before .before .in-range .ensures)
+    (c .before .before .before .before .if1 .taken) in
     let g = passed _ _ _ (c .before .before .before .in-range2 .ensures) (c .before .before .if2 .taken) in
     let h = passed _ _ _ (c .before .in-range3 .ensures) (c .if3 .taken) in
     (l .largest, (g .largest, omega arith))
 
 -- both clauses from the first: what the definition gives is a finite value, 11 or 12
-settled : (l h g : ℕ) (r : Answer) → r ≡ periodOf l h g → (r ≡ periodOf l h g) × Only r
-settled l h g r e = (e, subst Only (sym e) (period-only l h g))
+settled : (l h g : ℕ) (r : Answer) → r ≡ periodOf l h g → (r ≡ periodOf l h g) × Only Finite swingNumbers r
+settled l h g r e = (e, subst (Only Finite swingNumbers) (sym e) (period-only l h g))
 
 returns : tie.Need-returns
 unfolding periodOf
 returns c =
     settled _ _ _ _ (rw (
-      sym (c .before .before .before .before .before .before .in-range .ensures) ∙ c .before .before .before .before .before .if1 .taken,
+      sym (c .before .before .before .before .before .before .in-range .ensures)
+          ∙ c .before .before .before .before .before .if1 .taken,
       sym (c .before .before .before .before .in-range2 .ensures) ∙ c .before .before .before .if2 .taken,
       sym (c .before .before .in-range3 .ensures) ∙ c .before .if3 .taken,
     ) (c .swing-time .ensures))

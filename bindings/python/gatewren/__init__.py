@@ -1,0 +1,335 @@
+"""Gatewren for Python: Carlson's elliptic integrals rc, rf, rd, rg, rj, the leaves they stand on, and the knee bench's swing time
+and step log.
+
+What is called is the proved library as a shared object, which `./gatewren shared` builds and `pip install` takes along;
+GATEWREN_SO may name another place.
+
+    >>> rf(4, 4, 4)
+    Value(value=0.5, rounds=0)
+    >>> rd(0, 0, 1)
+    Refused(Refusal.ZEROS)
+    >>> float(rf(4, 4, 4))
+    0.5
+
+An entry answers with a Value or a Refused. A Refused has no value: float(), arithmetic, comparison with anything but another
+answer, and use as a condition raise an error, so that it is never taken for a number.
+"""
+
+from __future__ import annotations
+
+import ctypes
+import enum
+import operator
+import os
+import pathlib
+from collections.abc import Callable, Iterable
+from typing import NoReturn, SupportsFloat, SupportsIndex
+
+__all__ = ["Refusal", "Answer", "Value", "Total", "Refused", "rc", "rf", "rd", "rg", "rj"]
+__all__ += ["swing", "steps", "sqrt", "mul_add", "pow_neg_3_2", "atan", "ln", "ln_1p"]
+
+__version__ = "0.2.0"
+
+
+class Refusal(enum.Enum):
+    """The numbers for no; docs/REFUSALS.md has the order in which an entry tests."""
+
+    NAN_GIVEN = 1  # an argument is NaN
+    BELOW_ZERO = 2  # an argument is below zero that must not be
+    ZEROS = 3  # too many zeros
+    ZERO_GIVEN = 4  # RC's y or RJ's p is zero
+    Z_NOT_ABOVE = 5  # RD's z is zero or less
+    NO_RESULT = 6  # RF, RD or RJ ends without a finite result
+    RC_NO_RESULT = 7  # RC ends so
+    RG_NO_RESULT = 8  # RG ends so
+    AGM_SPENT = 9  # the cap on RD's or RG's mean is spent
+    TOO_DEEP = 10  # a fifth nested RJ call would be needed
+    OUT_OF_RANGE = 11  # a swing's length is not 1 to 10,000,000 or its gravity not 1 to 20,000,000
+    HEIGHT = 12  # a swing's height is not 1 to 2L - 1
+    SUM_TOO_LARGE = 13  # the step log's total would pass 2^64 - 1
+
+
+class Answer:
+    """A Value, a Total or a Refused. It is compared with other answers only, and is neither true nor false."""
+
+    __slots__ = ()
+
+    def _parts(self) -> tuple[object, ...]:
+        raise NotImplementedError
+
+    def __setattr__(self, name: str, value: object) -> NoReturn:
+        raise AttributeError("an answer does not change")
+
+    def __bool__(self) -> NoReturn:
+        raise TypeError("an answer is neither true nor false: ask whether it is a Value or a Refused")
+
+    def __eq__(self, other: object) -> bool:
+        if not isinstance(other, Answer):
+            raise TypeError(f"an answer is compared with an answer, not with {other!r}")
+        return type(self) is type(other) and self._parts() == other._parts()
+
+    def __hash__(self) -> int:
+        return hash((type(self), self._parts()))
+
+
+class Value(Answer):
+    """A finite value, and the number of rounds that were gone through."""
+
+    __slots__ = ("value", "rounds")
+    __match_args__ = ("value", "rounds")
+    value: float
+    rounds: int
+
+    def __init__(self, value: float, rounds: int) -> None:
+        object.__setattr__(self, "value", value)
+        object.__setattr__(self, "rounds", rounds)
+
+    def _parts(self) -> tuple[object, ...]:
+        return (self.value.hex(), self.rounds)
+
+    def __float__(self) -> float:
+        return self.value
+
+    def __repr__(self) -> str:
+        return f"Value(value={self.value!r}, rounds={self.rounds!r})"
+
+
+class Total(Answer):
+    """A step log's new total."""
+
+    __slots__ = ("steps",)
+    __match_args__ = ("steps",)
+    steps: int
+
+    def __init__(self, steps: int) -> None:
+        object.__setattr__(self, "steps", steps)
+
+    def _parts(self) -> tuple[object, ...]:
+        return (self.steps,)
+
+    def __index__(self) -> int:
+        return self.steps
+
+    def __repr__(self) -> str:
+        return f"Total(steps={self.steps!r})"
+
+
+class Refused(Answer):
+    """No value, and why. It has no __float__ and no arithmetic."""
+
+    __slots__ = ("refusal",)
+    __match_args__ = ("refusal",)
+    refusal: Refusal
+
+    def __init__(self, refusal: Refusal | int) -> None:
+        object.__setattr__(self, "refusal", Refusal(refusal))
+
+    @property
+    def number(self) -> int:
+        return self.refusal.value
+
+    def _parts(self) -> tuple[object, ...]:
+        return (self.refusal,)
+
+    def __repr__(self) -> str:
+        return f"Refused({self.refusal})"
+
+
+def _load() -> ctypes.CDLL:
+    here = pathlib.Path(__file__).resolve()
+    places = [here.with_name("libgatewren.so")]  # where the package was installed; in the repository, where it is built
+    places += [folder / "target" / "shared" / "libgatewren.so" for folder in here.parents[3:4]]
+    if "GATEWREN_SO" in os.environ:
+        places = [pathlib.Path(os.environ["GATEWREN_SO"])]
+    for path in places:
+        if path.is_file():
+            return ctypes.CDLL(str(path.resolve()))
+    raise ImportError(f"there is no {places[-1]}: build it by './gatewren shared', or name another place in GATEWREN_SO")
+
+
+_LIBRARY = _load()
+_DOUBLE = ctypes.c_double
+_PLACES = [ctypes.POINTER(ctypes.c_double), ctypes.POINTER(ctypes.c_uint32)]
+
+
+def _symbol(name: str, arguments: list[object], result: object) -> Callable[..., int | float]:
+    symbol = getattr(_LIBRARY, f"gatewren_{name}")
+    symbol.argtypes, symbol.restype = arguments, result
+    return symbol
+
+
+def _entry(name: str, arguments: list[object]) -> Callable[..., Value | Refused]:
+    symbol = _symbol(name, arguments + _PLACES, ctypes.c_uint32)
+
+    def answer(*numbers: object) -> Value | Refused:
+        value, rounds = ctypes.c_double(), ctypes.c_uint32()
+        number = symbol(*numbers, ctypes.byref(value), ctypes.byref(rounds))
+        return Value(value.value, rounds.value) if number == 0 else Refused(number)
+
+    return answer
+
+
+_RC = _entry("rc", [_DOUBLE] * 2)
+_RF = _entry("rf", [_DOUBLE] * 3)
+_RD = _entry("rd", [_DOUBLE] * 3)
+_RG = _entry("rg", [_DOUBLE] * 3)
+_RJ = _entry("rj", [_DOUBLE] * 4)
+_SWING = _entry("swing", [ctypes.c_uint64] * 3)
+_STEPS = _symbol("steps", [ctypes.POINTER(ctypes.c_uint64), ctypes.POINTER(ctypes.c_uint16), ctypes.c_size_t], ctypes.c_uint32)
+_SQRT = _symbol("sqrt", [_DOUBLE], _DOUBLE)
+_MUL_ADD = _symbol("mul_add", [_DOUBLE] * 3, _DOUBLE)
+_POW_NEG_3_2 = _symbol("pow_neg_3_2", [_DOUBLE], _DOUBLE)
+_ATAN = _symbol("atan", [_DOUBLE], _DOUBLE)
+_LN = _symbol("ln", [_DOUBLE], _DOUBLE)
+_LN_1P = _symbol("ln_1p", [_DOUBLE], _DOUBLE)
+
+
+def _whole(number: SupportsIndex, bits: int) -> int:
+    """A whole number of so many bits: ctypes would drop what is above them."""
+    number = operator.index(number)
+    if not 0 <= number < 2**bits:
+        raise ValueError(f"{number} is no whole number of {bits} bits")
+    return number
+
+
+# The entries. What is no number is no argument: c_double raises a TypeError.
+
+
+def rc(x: SupportsFloat, y: SupportsFloat) -> Value | Refused:
+    """RC(x, y); for y below zero its Cauchy principal value.
+
+    >>> rc(0, 1)
+    Value(value=1.5707963267948966, rounds=0)
+    >>> rc(1, 0)
+    Refused(Refusal.ZERO_GIVEN)
+    """
+    return _RC(_DOUBLE(x), _DOUBLE(y))
+
+
+def rf(x: SupportsFloat, y: SupportsFloat, z: SupportsFloat) -> Value | Refused:
+    """RF(x, y, z).
+
+    >>> rf(1, 0.5, 0.25)
+    Value(value=1.370171633266872, rounds=4)
+    >>> rf(-1, 0.5, 0.25)
+    Refused(Refusal.BELOW_ZERO)
+    """
+    return _RF(_DOUBLE(x), _DOUBLE(y), _DOUBLE(z))
+
+
+def rd(x: SupportsFloat, y: SupportsFloat, z: SupportsFloat) -> Value | Refused:
+    """RD(x, y, z).
+
+    >>> rd(4, 4, 4)
+    Value(value=0.125, rounds=0)
+    >>> rd(1, 0.5, 0)
+    Refused(Refusal.Z_NOT_ABOVE)
+    """
+    return _RD(_DOUBLE(x), _DOUBLE(y), _DOUBLE(z))
+
+
+def rg(x: SupportsFloat, y: SupportsFloat, z: SupportsFloat) -> Value | Refused:
+    """RG(x, y, z).
+
+    >>> rg(0, 0, 4)
+    Value(value=1.0, rounds=0)
+    """
+    return _RG(_DOUBLE(x), _DOUBLE(y), _DOUBLE(z))
+
+
+def rj(x: SupportsFloat, y: SupportsFloat, z: SupportsFloat, p: SupportsFloat) -> Value | Refused:
+    """RJ(x, y, z, p); for p below zero its Cauchy principal value.
+
+    >>> rj(4, 4, 4, 4)
+    Value(value=0.125, rounds=0)
+    >>> rj(3, 2, 2, -1)
+    Value(value=0.0, rounds=0)
+    """
+    return _RJ(_DOUBLE(x), _DOUBLE(y), _DOUBLE(z), _DOUBLE(p))
+
+
+# The knee bench.
+
+
+def swing(length: SupportsIndex, height: SupportsIndex, gravity: SupportsIndex) -> Value | Refused:
+    """The period of an ideal swing in seconds, from whole micrometres and micrometres per second squared.
+
+    >>> swing(250_000, 50_000, 9_806_650)
+    Value(value=1.0298016523976394, rounds=3)
+    >>> swing(250_000, 500_000, 9_806_650)
+    Refused(Refusal.HEIGHT)
+    """
+    return _SWING(_whole(length, 64), _whole(height, 64), _whole(gravity, 64))
+
+
+def steps(total: SupportsIndex, readings: Iterable[SupportsIndex]) -> Total | Refused:
+    """The total with the steps between successive readings of a 16-bit counter added; right if fewer than 65,536 lie between two.
+
+    >>> steps(120_000, [65500, 65535, 12, 40])
+    Total(steps=120076)
+    >>> steps(2**64 - 1, [0, 1])
+    Refused(Refusal.SUM_TOO_LARGE)
+    """
+    held = [_whole(reading, 16) for reading in readings]
+    sum_of = ctypes.c_uint64(_whole(total, 64))
+    number = _STEPS(ctypes.byref(sum_of), (ctypes.c_uint16 * len(held))(*held), len(held))
+    return Total(sum_of.value) if number == 0 else Refused(number)
+
+
+# The leaves. Which NaN a leaf gives is left open.
+
+
+def sqrt(x: SupportsFloat) -> float:
+    """The square root, rounded once.
+
+    >>> sqrt(2)
+    1.4142135623730951
+    """
+    return _SQRT(_DOUBLE(x))
+
+
+def mul_add(a: SupportsFloat, b: SupportsFloat, c: SupportsFloat) -> float:
+    """a times b plus c, rounded once.
+
+    >>> mul_add(0.1, 10, -1)
+    5.551115123125783e-17
+    """
+    return _MUL_ADD(_DOUBLE(a), _DOUBLE(b), _DOUBLE(c))
+
+
+def pow_neg_3_2(a: SupportsFloat) -> float:
+    """The power -3/2, rounded once.
+
+    >>> pow_neg_3_2(4)
+    0.125
+    """
+    return _POW_NEG_3_2(_DOUBLE(a))
+
+
+def atan(x: SupportsFloat) -> float:
+    """The arc tangent, within one unit; at every finite number and both infinities.
+
+    >>> atan(1)
+    0.7853981633974483
+    """
+    return _ATAN(_DOUBLE(x))
+
+
+def ln(x: SupportsFloat) -> float:
+    """The natural logarithm, within one unit; from 2 up, else NaN.
+
+    >>> ln(2)
+    0.6931471805599453
+    >>> ln(1.5)
+    nan
+    """
+    return _LN(_DOUBLE(x))
+
+
+def ln_1p(x: SupportsFloat) -> float:
+    """The natural logarithm of 1 + x, within one unit; for x from -3/4 to 3/4, else NaN.
+
+    >>> ln_1p(-0.5)
+    -0.6931471805599453
+    """
+    return _LN_1P(_DOUBLE(x))

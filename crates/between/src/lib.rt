@@ -1,0 +1,1 @@
+// Laws only: an f64 between two others, carried through each operation.

@@ -1,0 +1,108 @@
+-- Demand 1 (document 01): the only answers are a finite value, or one number out of a list. And how that, or any other property
+-- of what may be answered, goes through the steps that the entries share. Assumes nothing.
+use Prim.Native.Nat.{ℕ}
+use mathlib.Core.Path.{_≡_, refl, sym, subst}
+use mathlib.Core.Bool.{Bool, true, false, _&&_, _||_, cond}
+use mathlib.Core.List.{List, [], _∷_}
+use borrow.Author.Tests.{eqb-true}
+use lib.Dec.{T, eqb}
+use lib.Ieee.{Float, ofBits}
+use lib.Ieee.Fits.{and-l, and-r}
+use lib.Ieee.Scale.{finite}
+use Rattle.binary64.specs.Operators.{_⊘_}
+use Rattle.carlson.specs.Constants.{nan-given}
+use Rattle.carlson.specs.Answer.{infiniteAt, settled, settledLate}
+use Rattle.carlson.specs.Rescaling.{scaleOf2, scaleOf3, rescales2, rescales3, rescaling2, rescaling3}
+use Rattle.carlson.specs.declared.answer.Found.{Found}
+use Rattle.carlson.specs.declared.answer.Answer.{Answer}
+use Rattle.carlson.specs.declared.answer.Answer.the-variants.{Value, Refused}
+
+-- ---- the statement
+-- whether a number is in the list
+abbrev pub among : ℕ → List ℕ → Bool
+among n [] = false
+among n (m ∷ ms) = eqb n m || among n ms
+
+-- whether all of the first are in the second
+abbrev pub part : List ℕ → List ℕ → Bool
+part [] ms = true
+part (n ∷ ns) ms = among n ms && part ns ms
+
+-- a value of which P holds, or one of the numbers
+pub data Only (P : Found → Type 0) (numbers : List ℕ) : Answer → Type 0 where
+  value : {f : Found} → P f → Only P numbers (Value f)
+  refused : {n : ℕ} → T (among n numbers) → Only P numbers (Refused n)
+
+-- "a finite value": no NaN, no infinity
+abbrev pub Finite : Found → Type 0
+Finite f = finite (f .value) ≡ true
+
+-- between the inner parts the value may be any f64
+abbrev pub Any : Found → Type 0
+Any f = Unit {0}
+
+-- ---- through the steps
+-- a list may be longer
+pub among-part : (n : ℕ) (ns ms : List ℕ) → T (part ns ms) → T (among n ns) → T (among n ms)
+among-part n [] ms p h = absurd h
+among-part n (m ∷ ns) ms p h = go (eqb n m) refl h (among-part n ns ms (and-r (among m ms) (part ns ms) p))
+  where
+    go : (b : Bool) → eqb n m ≡ b → T (b || among n ns) → (T (among n ns) → T (among n ms)) → T (among n ms)
+    go true e h rest = subst (λ (k : ℕ). T (among k ms)) (sym (eqb-true n m e)) (and-l (among m ms) (part ns ms) p)
+    go false e h rest = rest h
+
+pub longer : {P : Found → Type 0} {a : Answer} (ns ms : List ℕ) → T (part ns ms) → Only P ns a → Only P ms a
+longer ns ms p (value v) = value v
+longer ns ms p (refused {n} h) = refused (among-part n ns ms p h)
+
+-- whichever is chosen
+pub chosen : {A : Type 0} (Q : A → Type 0) (b : Bool) {u v : A} → Q u → Q v → Q (cond b u v)
+chosen Q true p q = p
+chosen Q false p q = q
+
+-- rescaled or not
+pub rescaled2 : {A : Type 0} (Q : A → Type 0) (back : A → Float → A) (steps : Float → Float → A) → ((x y : Float) → Q (steps x y))
+    → ((a : A) (s : Float) → Q a → Q (back a s)) → (x y : Float) → Q (rescaling2 back steps x y)
+unfolding rescaling2
+rescaled2 Q back steps each kept x y =
+    let s = scaleOf2 x y in
+    chosen Q (rescales2 x y s) (kept (steps (x ⊘ s) (y ⊘ s)) s (each (x ⊘ s) (y ⊘ s))) (each x y)
+
+pub rescaled3 : {A : Type 0} (Q : A → Type 0) (back : A → Float → A) (steps : Float → Float → Float → A)
+    → ((x y z : Float) → Q (steps x y z))
+    → ((a : A) (s : Float) → Q a → Q (back a s)) → (x y z : Float) → Q (rescaling3 back steps x y z)
+unfolding rescaling3
+rescaled3 Q back steps each kept x y z =
+    let s = scaleOf3 x y z in
+    chosen Q (rescales3 x y z s) (kept (steps (x ⊘ s) (y ⊘ s) (z ⊘ s)) s (each (x ⊘ s) (y ⊘ s) (z ⊘ s))) (each x y z)
+
+-- settled: a value that is handed out is finite
+pub settled-only : (numbers : List ℕ) (f : Found) (n : ℕ) → T (among n numbers) → Only Finite numbers (settled f n)
+unfolding settled
+settled-only numbers f n h = go (finite (f .value)) refl
+  where
+    go : (b : Bool) → finite (f .value) ≡ b → Only Finite numbers (cond b (Value f) (Refused n))
+    go true e = value e
+    go false e = refused h
+
+pub infinite-only : (numbers : List ℕ) → Only Finite numbers infiniteAt
+unfolding infiniteAt ofBits
+infinite-only numbers = value refl
+
+pub late-only : (numbers : List ℕ) (f : Found) (nan unbounded : Bool) (n : ℕ) → T (among nan-given numbers) → T (among n numbers)
+    → Only Finite numbers (settledLate f nan unbounded n)
+unfolding settledLate
+late-only numbers f nan unbounded n g h = go (finite (f .value)) refl
+  where
+    go : (b : Bool) → finite (f .value) ≡ b
+        → Only Finite numbers (cond b (Value f) (cond nan (Refused nan-given) (cond unbounded infiniteAt (Refused n))))
+    go true e = value e
+    go false e = chosen (Only Finite numbers) nan (refused g)
+        (chosen (Only Finite numbers) unbounded (infinite-only numbers) (refused h))
+
+-- what the inner parts answered: a value is settled, their own numbers go through
+pub told-only : {ns : List ℕ} (ms : List ℕ) (settle : Answer → Answer) → ((f : Found) → Only Finite ms (settle (Value f)))
+    → ((n : ℕ) → settle (Refused n) ≡ Refused n) → T (part ns ms) → (a : Answer) → Only Any ns a → Only Finite ms (settle a)
+told-only ms settle each through p (Value f) (value v) = each f
+told-only {ns} ms settle each through p (Refused n) (refused h) =
+    subst (Only Finite ms) (sym (through n)) (refused (among-part n ns ms p h))

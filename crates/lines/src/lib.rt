@@ -1,7 +1,0 @@
-// The listing's replies (document 01): a line to its reply, the input as it comes.
-mod replies;
-mod stream;
-
-pub use crate::stream::Progress;
-pub use crate::stream::feed;
-pub use crate::stream::finish;

@@ -1,0 +1,34 @@
+-- How long the replies are. Assumes nothing.
+use Prim.Native.Nat.{ℕ, _≤_}
+use mathlib.Core.Bool.{Bool, true, false, cond}
+use mathlib.Core.List.{List, [], _∷_, append-nil}
+use native.Mathlib.Omega.{arith}
+use lib.Dec.{eqb}
+use lib.ListN.{length}
+use Rattle.listing_read.specs.Lines.{callOf}
+use Rattle.answers.specs.Answers.{answerOf}
+use Rattle.listing_write.specs.Text.{longestReply}
+use Rattle.listing_write.specs.Lengths.{text-length}
+use Rattle.listing_stream.specs.Replies.{replyTo, replyOf}
+use Rattle.listing_stream.specs.Stream.{saidAt, saidOf}
+use Rattle.listing_read.specs.declared.Line.{Line}
+use Rattle.listing_read.specs.declared.Line.the-variants.{Good, Bad}
+
+reply-to-length : (r : Line) → length (replyTo r) ≤ longestReply
+unfolding replyTo
+reply-to-length (Good c) = text-length c (answerOf c)
+reply-to-length Bad = omega arith
+
+-- no reply is longer than the longest answer
+pub reply-length : (l : List ℕ) → length (replyOf l) ≤ longestReply
+unfolding replyOf
+reply-length l = reply-to-length (callOf l)
+
+-- nor is what is said to one byte
+pub said-length : (held : List ℕ) (b : ℕ) → length (saidOf held (b ∷ [])) ≤ longestReply
+unfolding saidOf saidAt
+said-length held b = rw append-nil (go (eqb b 10))
+  where
+    go : (t : Bool) → length (cond t (replyOf held) []) ≤ longestReply
+    go true = reply-length held
+    go false = omega arith

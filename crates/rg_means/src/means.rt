@@ -1,0 +1,83 @@
+// RG with one zero: the arithmetic-geometric mean, its sum compensated so that no digit is lost in it.
+use carlson::answer::Answer;
+use carlson::answer::agm;
+use carlson::common::MEAN_CAP;
+use carlson::common::still_apart;
+use carlson::constants::AGM_SPENT;
+use carlson::constants::PI;
+use fused::mul_add;
+use root::sqrt;
+ghost use mathlib.Core.Path.{_≡_};
+ghost use Rattle.rg_means.specs.Means.{rgBegin, rgMoved, rgNext, rgMeanValue, rgAgmOf};
+
+// The running means, the sum with what its rounding lost, and the power of two.
+pub struct Sums {
+    pub xn: f64,
+    pub yn: f64,
+    pub rg: f64,
+    pub lost: f64,
+    pub sumpow: f64,
+}
+
+fn begin(xn: f64, yn: f64) -> Sums
+    ensures { λ r. ⌜ r ≡ rgBegin xn yn ⌝ }
+{
+    let mean = (xn + yn) / 2.0;
+    let rg = mean * mean;
+    Sums {
+        xn,
+        yn,
+        rg,
+        lost: mul_add(mean, mean, -rg),
+        sumpow: 0.25,
+    }
+}
+
+// One pass, with the root of the product of the means.
+fn moved(s: Sums, t: f64) -> Sums
+    ensures { λ r. ⌜ r ≡ rgMoved s t ⌝ }
+{
+    let xn = (s.xn + s.yn) / 2.0;
+    let sumpow = s.sumpow * 2.0;
+    let correction = sumpow * (xn - t) * (xn - t) - s.lost;
+    let next = s.rg - correction;
+    Sums {
+        xn,
+        yn: t,
+        rg: next,
+        lost: (s.rg - next) - correction,
+        sumpow,
+    }
+}
+
+fn next_sums(s: Sums) -> Sums
+    ensures { λ r. ⌜ r ≡ rgNext s ⌝ }
+{
+    moved(s, sqrt(s.xn * s.yn))
+}
+
+fn value_of(s: Sums) -> f64
+    ensures { λ r. ⌜ r ≡ rgMeanValue s ⌝ }
+{
+    let rf = PI / (s.xn + s.yn);
+    s.rg * rf / 2.0
+}
+
+// Refused if the cap is spent and the test still says go on.
+pub fn agm_of(x: f64, z: f64) -> Answer
+    ensures { λ r. ⌜ r ≡ rgAgmOf x z ⌝ }
+{
+    let mut s = begin(sqrt(x), sqrt(z));
+    let mut n: u32 = 0;
+    loop {
+        if still_apart(s.xn, s.yn) {
+            if n == MEAN_CAP {
+                break Answer::Refused(AGM_SPENT);
+            }
+            s = next_sums(s);
+            n += 1;
+        } else {
+            break Answer::Value(agm(value_of(s), n));
+        }
+    }
+}

@@ -1,9 +1,0 @@
--- `begin` meets its contract, step by step as its definition. Assumes nothing.
-use mathlib.Core.Path.{sym}
-use Rattle.rgjoint.specs.Joint.{jointBegun}
-use Rattle.rgjoint.proofs.joint.begin.Statement.{statement}
-use Rattle.rgjoint.proofs.joint.begin.Tie as tie
-
-pub begin-spec : {M : Type 1} → statement M
-unfolding jointBegun
-begin-spec = tie.close (tie.spec (λ c κs. tt) (λ c κs. tt) (λ c. rw (sym (c .before .rf-begin .ensures), sym (c .rd-begin .ensures))))

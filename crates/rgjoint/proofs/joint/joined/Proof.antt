@@ -1,8 +1,0 @@
--- `joined` meets its contract, step by step as its definition. Assumes nothing.
-use Rattle.rgjoint.specs.Joint.{rgJoint}
-use Rattle.rgjoint.proofs.joint.joined.Statement.{statement}
-use Rattle.rgjoint.proofs.joint.joined.Tie as tie
-
-pub joined-spec : {M : Type 1} → statement M
-unfolding rgJoint
-joined-spec = tie.close (tie.spec (λ c κs. tt) (λ c κs. tt) (λ c κs. tt) (λ c. cc))

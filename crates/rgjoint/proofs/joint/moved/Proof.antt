@@ -1,8 +1,0 @@
--- `moved` meets its contract, step by step as its definition. Assumes nothing.
-use Rattle.rgjoint.specs.Joint.{jointMoved}
-use Rattle.rgjoint.proofs.joint.moved.Statement.{statement}
-use Rattle.rgjoint.proofs.joint.moved.Tie as tie
-
-pub moved-spec : {M : Type 1} → statement M
-unfolding jointMoved
-moved-spec = tie.close (tie.spec (λ c κs. tt) (λ c κs. tt) (λ c. cc))

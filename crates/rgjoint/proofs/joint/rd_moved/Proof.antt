@@ -1,9 +1,0 @@
--- `rd_moved` meets its contract, step by step as its definition. Assumes nothing.
-use mathlib.Core.Path.{refl}
-use Rattle.rgjoint.specs.Joint.{rdMoved}
-use Rattle.rgjoint.proofs.joint.rd_moved.Statement.{statement}
-use Rattle.rgjoint.proofs.joint.rd_moved.Tie as tie
-
-pub rd-moved-spec : {M : Type 1} → statement M
-unfolding rdMoved
-rd-moved-spec = tie.close (tie.spec (λ c. refl))

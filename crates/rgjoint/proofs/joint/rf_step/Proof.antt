@@ -1,8 +1,0 @@
--- `rf_step` meets its contract, step by step as its definition. Assumes nothing.
-use Rattle.rgjoint.specs.Joint.{rfNext}
-use Rattle.rgjoint.proofs.joint.rf_step.Statement.{statement}
-use Rattle.rgjoint.proofs.joint.rf_step.Tie as tie
-
-pub rf-step-spec : {M : Type 1} → statement M
-unfolding rfNext
-rf-step-spec = tie.close (tie.spec (λ c. cc) (λ c κs. tt) (λ c κs. tt) (λ c. cc))

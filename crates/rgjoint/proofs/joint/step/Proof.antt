@@ -1,8 +1,0 @@
--- `step` meets its contract, step by step as its definition. Assumes nothing.
-use Rattle.rgjoint.specs.Joint.{jointNext}
-use Rattle.rgjoint.proofs.joint.step.Statement.{statement}
-use Rattle.rgjoint.proofs.joint.step.Tie as tie
-
-pub step-spec : {M : Type 1} → statement M
-unfolding jointNext
-step-spec = tie.close (tie.spec (λ c κs. tt) (λ c κs. tt) (λ c κs. tt) (λ c κs. tt) (λ c κs. tt) (λ c. cc))

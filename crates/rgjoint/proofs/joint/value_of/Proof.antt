@@ -1,9 +1,0 @@
--- `value_of` meets its contract, step by step as its definition. Assumes nothing.
-use mathlib.Core.Path.{sym}
-use Rattle.rgjoint.specs.Joint.{rgValue}
-use Rattle.rgjoint.proofs.joint.value_of.Statement.{statement}
-use Rattle.rgjoint.proofs.joint.value_of.Tie as tie
-
-pub value-of-spec : {M : Type 1} → statement M
-unfolding rgValue
-value-of-spec = tie.close (tie.spec (λ c κs. tt) (λ c. rw (sym (c .sqrt .ensures))))

@@ -1,9 +1,0 @@
--- `moved` meets its contract, step by step as its definition. Assumes nothing.
-use mathlib.Core.Path.{refl}
-use Rattle.rgmeans.specs.Means.{rgMoved}
-use Rattle.rgmeans.proofs.means.moved.Statement.{statement}
-use Rattle.rgmeans.proofs.means.moved.Tie as tie
-
-pub moved-spec : {M : Type 1} → statement M
-unfolding rgMoved
-moved-spec = tie.close (tie.spec (λ c. refl))

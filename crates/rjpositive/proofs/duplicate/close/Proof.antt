@@ -1,9 +1,0 @@
--- `close` meets its contract, step by step as its definition. Assumes nothing.
-use mathlib.Core.Path.{refl}
-use Rattle.rjpositive.specs.Duplicate.{rjClose}
-use Rattle.rjpositive.proofs.duplicate.close.Statement.{statement}
-use Rattle.rjpositive.proofs.duplicate.close.Tie as tie
-
-pub close-spec : {M : Type 1} → statement M
-unfolding rjClose
-close-spec = tie.close (tie.spec (λ c. refl))

@@ -1,8 +1,0 @@
--- `step` meets its contract, step by step as its definition. Assumes nothing.
-use Rattle.rjpositive.specs.Duplicate.{rjStep}
-use Rattle.rjpositive.proofs.duplicate.step.Statement.{statement}
-use Rattle.rjpositive.proofs.duplicate.step.Tie as tie
-
-pub step-spec : {M : Type 1} → statement M
-unfolding rjStep
-step-spec = tie.close (tie.spec (λ c κs. tt) (λ c κs. tt) (λ c κs. tt) (λ c κs. tt) (λ c κs. tt) (λ c. cc))

@@ -1,8 +1,0 @@
--- `with_roots` meets its contract, step by step as its definition. Assumes nothing.
-use Rattle.rjpositive.specs.Duplicate.{rjWith}
-use Rattle.rjpositive.proofs.duplicate.with_roots.Statement.{statement}
-use Rattle.rjpositive.proofs.duplicate.with_roots.Tie as tie
-
-pub with-roots-spec : {M : Type 1} → statement M
-unfolding rjWith
-with-roots-spec = tie.close (tie.spec (λ c κs. tt) (λ c κs. tt) (λ c κs. tt) (λ c κs. tt) (λ c κs. tt) (λ c. cc))

@@ -1,9 +1,0 @@
--- `by_rc` meets its contract, step by step as its definition. Assumes nothing.
-use mathlib.Core.Path.{sym}
-use Rattle.rjpositive.specs.Helper.{byRc1p}
-use Rattle.rjpositive.proofs.helper.by_rc.Statement.{statement}
-use Rattle.rjpositive.proofs.helper.by_rc.Tie as tie
-
-pub by-rc-spec : {M : Type 1} → statement M
-unfolding byRc1p
-by-rc-spec = tie.close (tie.spec (λ c κs. tt) (λ c κs. tt) (λ c. rw (sym (c .before .sqrt .ensures), sym (c .elliprc-unchecked .ensures))))

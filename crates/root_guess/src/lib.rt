@@ -1,0 +1,36 @@
+// A guess at a root, by plain f64 arithmetic, for `root`, which certifies it. Nothing is proved of it but that it is safe. In tests
+// it was the rounded root at all but one number of 400, and there its neighbour.
+//
+// x is m * scale * scale with 1/2 ≤ m < 2, and r near √m has few digits, so that r * r and d = m - r * r are exact. With w = d / (4 * r * r)
+// √m is r + d / (2 * r) * p(w), where p(w) = (√(1 + 4 * w) - 1) / (2 * w) = 1 - w + 2 * w * w - 5 * w * w * w + .. , and |w| is at most 2 ^ -8.
+// A polynomial of degree 6 gives the sum to 2 ^ -60. It is written as a product of three factors, which a processor works out side by side.
+// So that no number stands before them, the quotients are 1.456 times as large: 1.456 / (2 * r), and its square for w.
+// The sum with r comes last, so that the only rounding that counts is its own.
+mod start;
+
+use crate::start::slope;
+use crate::start::start;
+
+const ONE: u64 = 0x10_0000_0000_0000; // 2 ^ 52
+
+const TWO: u64 = 0x20_0000_0000_0000; // 2 ^ 53: below it, a pattern has its digits and the lowest bit of the exponent
+
+const PIECE: u64 = 0x8000_0000_0000; // 2 ^ 47: above it, six bits of those name the piece
+
+const HALF: u64 = 0x3fe0_0000_0000_0000; // the pattern of 1/2
+
+// At the root of the f64 that has the pattern b, finite and above zero; at any other pattern, some number or NaN.
+pub fn guess(b: u64) -> f64 {
+    let piece = b % TWO / PIECE;
+    let near = start(piece);
+    let by = slope(piece);
+    let scale = f64::from_bits((b / TWO + 512) * ONE);
+    let d = f64::from_bits(b % TWO + HALF) - near.1;
+    let w = d * by.1;
+    let e = w + 0.660882053792521;
+    let f = w - 0.13324170812948444;
+    let g = w - 0.8646944230901928;
+    let left = d * (by.0 * scale) * (e * e + 0.3642654054909283);
+    let right = (f * f + 0.8884543015832698) * (g * g + 0.19848538453708137);
+    near.0 * scale + left * right
+}

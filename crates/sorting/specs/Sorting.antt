@@ -1,0 +1,25 @@
+-- Three values brought into order by exchanges, as elliprg.rs and elliprj.rs have them. Definitions only.
+use mathlib.Core.Bool.{cond}
+use lib.Ieee.{lt}
+use Rattle.sorting.specs.declared.Triple.{Triple}
+
+-- two are exchanged where they stand wrong
+unfoldable pub riseXY : Triple → Triple
+riseXY t = cond (lt (t .y) (t .x)) (record { x = t .y; y = t .x; z = t .z }) t
+
+unfoldable pub riseYZ : Triple → Triple
+riseYZ t = cond (lt (t .z) (t .y)) (record { x = t .x; y = t .z; z = t .y }) t
+
+unfoldable pub fallXY : Triple → Triple
+fallXY t = cond (lt (t .x) (t .y)) (record { x = t .y; y = t .x; z = t .z }) t
+
+unfoldable pub fallXZ : Triple → Triple
+fallXZ t = cond (lt (t .x) (t .z)) (record { x = t .z; y = t .y; z = t .x }) t
+
+-- rising, for RJ with p below zero
+unfoldable pub rising : Triple → Triple
+rising t = riseXY (riseYZ (riseXY t))
+
+-- RG's own order: the largest first, then the smallest
+unfoldable pub largestFirst : Triple → Triple
+largestFirst t = riseYZ (fallXZ (fallXY t))

@@ -1,2 +1,0 @@
-pub mod Scaled
-pub mod Lengths

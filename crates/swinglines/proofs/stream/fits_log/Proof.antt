@@ -1,8 +1,0 @@
--- `fits_log` meets its contract, step by step as its definition. Assumes nothing.
-use Rattle.swinglines.specs.Stream.{takes}
-use Rattle.swinglines.proofs.stream.fits_log.Statement.{statement}
-use Rattle.swinglines.proofs.stream.fits_log.Tie as tie
-
-pub fits-log-spec : {M : Type 1} → statement M
-unfolding takes
-fits-log-spec = tie.close (tie.spec (λ c. rw (c .if1 .taken)) (λ c. rw (c .if1 .left)))

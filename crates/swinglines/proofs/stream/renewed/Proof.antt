@@ -1,9 +1,0 @@
--- `renewed` meets its contract, step by step as its definition. Assumes nothing.
-use mathlib.Core.Path.{sym}
-use Rattle.swinglines.specs.Stream.{fresh}
-use Rattle.swinglines.proofs.stream.renewed.Statement.{statement}
-use Rattle.swinglines.proofs.stream.renewed.Tie as tie
-
-pub renewed-spec : {M : Type 1} → statement M
-unfolding fresh
-renewed-spec = tie.close (tie.spec (λ c κs. tt) (λ c. rw (sym (c .start .ensures))))

@@ -1,3 +1,0 @@
-pub mod Replies
-pub mod Stream
-pub mod StreamLaws

@@ -1,9 +1,0 @@
--- `start` meets its contract. Assumes nothing.
-use mathlib.Core.Path.{refl}
-use Rattle.swingreading.specs.Reading.{startOf}
-use Rattle.swingreading.proofs.start.Statement.{statement}
-use Rattle.swingreading.proofs.start.Tie as tie
-
-pub start-spec : {M : Type 1} → statement M
-unfolding startOf
-start-spec = tie.close (tie.spec (λ c. refl))

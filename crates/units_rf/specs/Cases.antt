@@ -1,0 +1,167 @@
+-- RC's closed forms in two runs, for a prefix of any kind: RC with y above zero has the prefix one, RC with y below zero a root that the two runs
+-- share.
+-- Of atan and the logarithms only bounds are used.
+use mathlib.Core.Path.{_≡_, refl, sym, ap, ap₂, _∙_, subst}
+use mathlib.Core.Logic.{_⊎_, inl, inr}
+use Prim.Native.Nat.{ℕ, _-_, _*_, _^_, _≤_}
+use native.Mathlib.Nat.{le-refl, le-of-lt, lt-of-lt-of-le}
+use mathlib.Core.Bool.{true, false, not}
+use lib.Dec.{T, T-not, eqb, lt→ltb, nltb→le, lit<}
+use lib.Arith.{lt-of-le-ne}
+use lib.Ieee.{Float, nan, inf, fin, binary64, low, mul, div, eq, lt, below, level}
+use lib.Ieee.Fits.{eq→eqb, and-i}
+use Rattle.binary64.specs.Operators.{_⊖_, _⊗_, _⊘_}
+use Rattle.root.specs.Root.{root}
+use Rattle.series.specs.Atan.{atan}
+use Rattle.series.specs.Ln.{ln}
+use Rattle.scaling.specs.Near.{near}
+use Rattle.scaling.specs.Units.{lt-units, eq-units}
+use Rattle.scaling.specs.Kind.{Kind, last, floor-le, mulK, mulOk, divK, divOk, plusK, plusOk, within}
+use Rattle.scaling.specs.Last.{digits-of}
+use Rattle.scaling.specs.Two.{Two, mul-two, div-two, plus-two, lt-two}
+use Rattle.scaling.specs.One.{lit-two, litOk, widen-two}
+use Rattle.scaling.specs.Tests.{eq-two}
+use Rattle.scaling.specs.Leaf.{gapK, gapOk, gap-two, gap-units, leaf-two}
+use Rattle.scaling.specs.Root.{rootK, rootOk, root-two}
+use Rattle.scaling.specs.Gap.{raiseK, raise-two, ratio-least}
+use Rattle.scaling.specs.Pick.{choose}
+use Rattle.carlson.specs.Constants.{zero, two, half, half-pi}
+use Rattle.elliprc.specs.Rc.{atZero, atEqual, byAtan, byLn1p, byLn, rcCases}
+use Rattle.units.specs.Runs.{Fair}
+use Rattle.units_rf.specs.Leaves.{spread, atan-leaf, ln-leaf, spread-leaf, ratioK, leafK}
+
+-- ---- kinds
+-- an argument above zero, or the sum of two
+abbrev pub wideK : Kind
+wideK = record { any = false; zer = false; lo = 2 ^ 1010; hi = 2 ^ 1140; g = last binary64 (2 ^ 1010); u = 2; d = 0 }
+
+-- what is divided by: a root, or twice one
+abbrev pub divisorK : Kind
+divisorK = record { any = false; zer = false; lo = 2 ^ 1016; hi = 2 ^ 1110; g = last binary64 (2 ^ 1016); u = 1; d = 0 }
+
+-- the root of a difference
+abbrev gapRootK : Kind
+gapRootK = record { any = false; zer = false; lo = 2 ^ 1016; hi = 2 ^ 1108; g = last binary64 (2 ^ 1016); u = 1; d = 0 }
+
+-- a quotient that is the same in both runs
+abbrev freeK : Kind
+freeK = record { any = false; zer = false; lo = 2 ^ 940; hi = 2 ^ 1210; g = last binary64 (2 ^ 940); u = 0; d = 0 }
+
+-- a prefix of the kind P, times a leaf's value or not, over a divisor is of the kind R
+pub record Carries (k : ℕ) (P R : Kind) : Type 0 where
+  pub over : {p v w p' v' w' : Float} → Two binary64 k P p p' → Two binary64 k leafK v v' → Two binary64 k divisorK w w'
+      → Two binary64 k R (p ⊗ v ⊘ w) (p' ⊗ v' ⊘ w')
+  pub alone : {p w p' w' : Float} → Two binary64 k P p p' → Two binary64 k divisorK w w' → Two binary64 k R (p ⊘ w) (p' ⊘ w')
+
+-- ---- what is no number stays none
+mul-nan : (p : Float) → p ⊗ nan ≡ nan
+unfolding mul
+mul-nan nan = refl
+mul-nan (inf s) = refl
+mul-nan (fin s m e) = refl
+
+div-nan : (w : Float) → nan ⊘ w ≡ nan
+unfolding div
+div-nan w = refl
+
+-- of two numbers above zero that are neither equal nor in order, the second is below
+flip : {k : ℕ} {x y x' y' : Float} → Two binary64 k wideK x x' → Two binary64 k wideK y y' → T (not (eq x y)) → T (not (lt x y)) → T (lt y x)
+flip {x = x} {y} a b e l =
+    let S : a .s ≡ false = a .in-first .sign tt in
+    let S' : b .s ≡ false = b .in-first .sign tt in
+    let h = nltb→le (a .m) (b .m) (subst (λ z. T (not z)) (lt-units (a .first) (b .first) ∙ ap₂ (λ s t. below s (a .m) t (b .m)) S S') l) in
+    let g = subst (λ z. T (not z)) (eq-units (a .first) (b .first) ∙ ap₂ (λ s t. level s (a .m) t (b .m)) S S') e in
+    let n : b .m ≡ a .m → ⊥ = λ p. T-not (level false (a .m) false (b .m)) g (and-i (eqb (a .m) (b .m)) true (eq→eqb (sym p)) tt) in
+    subst T (sym (lt-units (b .first) (a .first) ∙ ap₂ (λ s t. below s (b .m) t (a .m)) S' S)) (lt→ltb (b .m) (a .m) (lt-of-le-ne h n))
+
+module _ {k : ℕ} where
+  root-wide : {x x' : Float} → Two binary64 k wideK x x' → Two binary64 k divisorK (root x) (root x')
+  unfolding rootK rootOk within
+  root-wide x = widen-two (root-two x tt) tt
+
+  gap-root : {x y x' y' : Float} → Two binary64 k wideK x x' → Two binary64 k wideK y y' → T (lt x y)
+      → Two binary64 k gapRootK (root (y ⊖ x)) (root (y' ⊖ x'))
+  unfolding gapK gapOk rootK rootOk within
+  gap-root x y t = widen-two (root-two (gap-two x y t tt tt) tt) tt
+
+  divides : {x x' : Float} → Two binary64 k gapRootK x x' → Two binary64 k divisorK x x'
+  unfolding within
+  divides x = widen-two x tt
+
+  -- the root of (y - x) / z, the same in both runs: floats that differ do so by a part in 2 ^ 55
+  ratio-root : {x y z x' y' z' : Float} (X : Two binary64 k wideK x x') (Y : Two binary64 k wideK y y') (Z : Two binary64 k wideK z z') → T (lt x y)
+      → Z .m ≤ Y .m → Z .n ≤ Y .n → Two binary64 k ratioK (root ((y ⊖ x) ⊘ z)) (root ((y' ⊖ x') ⊘ z'))
+  unfolding gapK gapOk divK divOk rootK rootOk raiseK within div-two
+  ratio-root X Y Z t p q =
+      let G = gap-two X Y t tt tt in
+      let g = gap-units X Y t tt tt in
+      let D = div-two G Z tt in
+      let at : (d d' w : ℕ) → d ≡ d' → 2 ^ 1019 ≤ near binary64 (d' * 2 ^ low binary64) w → 2 ^ 1019 ≤ near binary64 (d * 2 ^ low binary64) w =
+      λ d d' w e. subst (λ z. 2 ^ 1019 ≤ near binary64 (z * 2 ^ low binary64) w) (sym e) in
+      widen-two
+      (root-two
+      (raise-two (2 ^ 1019) D
+      (at (G .m) (near binary64 (Y .m - X .m) 1) (Z .m) (g .2)
+      (ratio-least binary64 (Y .m) (X .m) (Z .m) 1019 (digits-of (Y .first)) (digits-of (X .first)) (g .0)
+      (lt-of-lt-of-le (lit< tt) (floor-le (Z .in-first))) p refl))
+      (at (G .n) (near binary64 (Y .n - X .n) 1) (Z .n) (g .3)
+      (ratio-least binary64 (Y .n) (X .n) (Z .n) 1019 (digits-of (Y .second)) (digits-of (X .second)) (g .1)
+      (lt-of-lt-of-le (lit< tt) (floor-le (Z .in-second))) q refl)))
+      tt)
+      tt
+
+  module _ {P R : Kind} (C : Carries k P R) {p p' : Float} (pre : Two binary64 k P p p') where
+    -- what a leaf gives, over a divisor
+    over-fair : {v w v' w' : Float} → ((v ≡ nan) × (v' ≡ nan)) ⊎ Two binary64 k leafK v v' → Two binary64 k divisorK w w'
+        → Fair k R (p ⊗ v ⊘ w) (p' ⊗ v' ⊘ w')
+    over-fair {w = w} {w' = w'} (inl z) D =
+        inl (
+          ap (λ a. p ⊗ a ⊘ w) (z .0) ∙ ap (λ a. a ⊘ w) (mul-nan p) ∙ div-nan w,
+          ap (λ a. p' ⊗ a ⊘ w') (z .1) ∙ ap (λ a. a ⊘ w') (mul-nan p')
+              ∙ div-nan w',
+        )
+    over-fair (inr F) D = inr (C .over pre F D)
+
+    at-zero : {y y' : Float} → Two binary64 k wideK y y' → Fair k R (atZero p y) (atZero p' y')
+    unfolding atZero litOk within
+    at-zero Y = inr (C .over pre (widen-two (lit-two half-pi tt) tt) (root-wide Y))
+
+    at-equal : {x x' : Float} → Two binary64 k wideK x x' → Fair k R (atEqual p x) (atEqual p' x')
+    unfolding atEqual
+    at-equal X = inr (C .alone pre (root-wide X))
+
+    by-atan : {x y x' y' : Float} → Two binary64 k wideK x x' → Two binary64 k wideK y y' → T (lt x y) → Fair k R (byAtan p x y) (byAtan p' x' y')
+    unfolding byAtan gapOk
+    by-atan X Y t =
+        let g = gap-units X Y t tt tt in
+        over-fair (leaf-two atan atan-leaf refl refl refl (ratio-root X Y X t (le-of-lt (g .0)) (le-of-lt (g .1))))
+        (divides (gap-root X Y t))
+
+    by-ln-1p : {x y x' y' : Float} → Two binary64 k wideK x x' → Two binary64 k wideK y y' → T (lt y x)
+        → Fair k R (byLn1p p x y) (byLn1p p' x' y')
+    unfolding byLn1p mulK mulOk litOk within
+    by-ln-1p X Y t =
+        over-fair (leaf-two spread spread-leaf refl refl refl (ratio-root Y X X t (le-refl _) (le-refl _)))
+        (widen-two (mul-two (lit-two two tt) (gap-root Y X t) tt) tt)
+
+    by-ln : {x y x' y' : Float} → Two binary64 k wideK x x' → Two binary64 k wideK y y' → T (lt y x) → Fair k R (byLn p x y) (byLn p' x' y')
+    unfolding byLn divK divOk plusK plusOk rootK rootOk within
+    by-ln X Y t =
+        over-fair
+        (leaf-two ln ln-leaf refl refl refl
+        (widen-two (div-two (plus-two (root-two X tt) (gap-root Y X t) tt) (root-two Y tt) tt) tt))
+        (divides (gap-root Y X t))
+
+    pub cases-fair : {x y x' y' : Float} → eq x zero ≡ eq x' zero → (T (not (eq x zero)) → Two binary64 k wideK x x') → Two binary64 k wideK y y'
+        → Fair k R (rcCases p x y) (rcCases p' x' y')
+    unfolding rcCases litOk divK divOk within
+    cases-fair {x} {y} {x'} {y'} e X Y =
+        choose (Fair k R) (eq x zero) (eq x' zero) e (λ z. at-zero Y)
+        (λ z.
+        let X⁺ = X z in
+        choose (Fair k R) (eq x y) (eq x' y') (eq-two X⁺ Y tt) (λ q. at-equal X⁺)
+        (λ q.
+        choose (Fair k R) (lt x y) (lt x' y') (lt-two X⁺ Y tt) (λ t. by-atan X⁺ Y t)
+        (λ t.
+        choose (Fair k R) (lt half (y ⊘ x)) (lt half (y' ⊘ x')) (lt-two (lit-two half tt) (widen-two {B = freeK} (div-two Y X⁺ tt) tt) tt)
+        (λ h. by-ln-1p X⁺ Y (flip X⁺ Y q t)) (λ h. by-ln X⁺ Y (flip X⁺ Y q t)))))

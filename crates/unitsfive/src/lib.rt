@@ -1,1 +1,0 @@
-// Laws only, no function: demand 3 for all five functions, in one place.
