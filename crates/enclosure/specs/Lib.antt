@@ -14,6 +14,8 @@ pub mod Logarithm
 pub mod Seeds
 pub mod Constants
 pub mod Tiny
+pub mod Rise
+pub mod Addition
 pub mod Steep
 pub mod Ln
 pub mod Sizes
