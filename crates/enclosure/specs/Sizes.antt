@@ -99,10 +99,10 @@ loss-size j m low high =
 enough-digits : Order 2 (λ e M. (con (2 ^ 61) times M ≼ con 2 :* e) ∷ [] ⊩ con (2 ^ 61) :* M ≈ e :* con ln-two)
 enough-digits = by-below tt
 
-multiple-size : (b e t : ℕ) → 2 ^ b ≤ 2 * e → 2 ^ 61 ≤ multiple b e t
+pub multiple-size : (b e t : ℕ) → 2 ^ b ≤ 2 * e → 2 ^ 61 ≤ multiple b e t
 multiple-size b e t h = let k : 2 ^ 61 ≤ e * ln-two / 2 ^ b = le-div-iff-mul-le (pow-pos b) .1 (enough-digits .law e (2 ^ b) h) in omega arith
 
-multiple-fits : (b e t : ℕ) → t < 2 ^ 63 → 1 ≤ e → e < 2 ^ b → multiple b e t < 2 ^ 64
+pub multiple-fits : (b e t : ℕ) → t < 2 ^ 63 → 1 ≤ e → e < 2 ^ b → multiple b e t < 2 ^ 64
 multiple-fits b e t word some fits =
     let two : 2 ≤ 2 ^ b = omega arith in
     let first : e * ln-two / 2 ^ b ≤ ln-two = div-le-of-le-mul (2 ^ b) (omega arith) in

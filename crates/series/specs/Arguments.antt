@@ -171,7 +171,7 @@ module _ (a : ℕ) (low : tiny ≤ a) (high : a ≤ last) where
   pub seed-above : Seed (gain (number a)) j (gain-seed j m)
   seed-above =
       seed-scaled (gain (units (53 + j) m)) (gain (number a)) j (gain-seed j m) K num-is
-      (more-parts (2 ^ 1074) (value a) (2 ^ (53 + j)) m K parts num-is) (gain-seeds j m digits-fit (range .small))
+      (more-parts (2 ^ 1074) (value a) (2 ^ (53 + j)) m K parts num-is) (gain-seeds j m digits-fit)
 
   pub seed-below : (proper : value a < 2 ^ 1074) → Seed (loss (number a) proper) j (loss-seed j m)
   seed-below proper =
