@@ -126,7 +126,8 @@ module _ (x y : Quotient) (hx : 3 * x .num ≤ x .den) (hy : 3 * y .num ≤ y .d
   second-falls =
       let e : p * B + 8 * w ≡ r * C =
       way-back .law a b c d w p r B C (omega arith) (omega arith) w-is (omega arith) (omega arith) in
-      T-grows (across y hy) (across x hx) E (record { cross = apart .law p r B C w (le-of-eq e) }) (across-proper y hy) (across-proper x hx)
+      T-grows (across y hy) (across x hx) E (record { cross = apart .law p r B C w (le-of-eq e) }) (across-proper y hy)
+      (across-proper x hx)
 
   -- D is at most δ
   module _ (δ : Quotient) (near : y ≼ x ⊞ δ) where
@@ -157,7 +158,8 @@ module _ (x y : Quotient) (hx : 3 * x .num ≤ x .den) (hy : 3 * y .num ≤ y .d
         ≼-trans (⊞-mono grown ≼-refl) (≼-trans (turn t F (δ ⊠ δ) Y) (⊞-mono (⊞-mono ≼-refl (second-falls k)) ≼-refl))
 
 -- ---- half the way from x to y
-mid-third : Order 4 (λ a b c d. (d times con 3 :* a ≼ b) ∷ (b times con 3 :* c ≼ d) ∷ [] ⊩ con 3 :* (a :* d :+ c :* b) ≈ con 2 :* (b :* d))
+mid-third : Order 4 (λ a b c d. (d times con 3 :* a ≼ b) ∷ (b times con 3 :* c ≼ d) ∷ [] ⊩ con 3 :* (a :* d :+ c :* b)
+    ≈ con 2 :* (b :* d))
 mid-third = by-below tt
 
 mid-low : Order 4 (λ a b c d. (b times a :* d ≼ c :* b) ∷ [] ⊩ a :* (con 2 :* (b :* d)) ≈ (a :* d :+ c :* b) :* b)
@@ -168,12 +170,14 @@ mid-high = by-below tt
 
 -- (K is twice J)
 mid-first : Order 6 (λ a b c d J K.
-    (c :* b :* b times K ≼ con 2 :* J) ∷ (con 2 :* b times c :* (b :* J) ≼ (a :* J :+ con 1 :* b) :* d) ∷ (a :* b :* d times con 2 :* J ≼ K) ∷ []
+    (c :* b :* b times K ≼ con 2 :* J) ∷ (con 2 :* b times c :* (b :* J) ≼ (a :* J :+ con 1 :* b) :* d)
+    ∷ (a :* b :* d times con 2 :* J ≼ K) ∷ []
     ⊩ (a :* d :+ c :* b) :* (b :* K) ≈ (a :* K :+ con 1 :* b) :* (con 2 :* (b :* d)))
 mid-first = by-below tt
 
 mid-last : Order 6 (λ a b c d J K.
-    (b :* c :* d times K ≼ con 2 :* J) ∷ (con 2 :* d times c :* (b :* J) ≼ (a :* J :+ con 1 :* b) :* d) ∷ (a :* d :* d times con 2 :* J ≼ K) ∷ []
+    (b :* c :* d times K ≼ con 2 :* J) ∷ (con 2 :* d times c :* (b :* J) ≼ (a :* J :+ con 1 :* b) :* d)
+    ∷ (a :* d :* d times con 2 :* J ≼ K) ∷ []
     ⊩ c :* (con 2 :* (b :* d) :* K) ≈ ((a :* d :+ c :* b) :* K :+ con 1 :* (con 2 :* (b :* d))) :* d)
 mid-last = by-below tt
 
@@ -181,7 +185,8 @@ mid-last = by-below tt
 walk : (i j : ℕ) (x y : Quotient) (hx : 3 * x .num ≤ x .den) (hy : 3 * y .num ≤ y .den) → x ≼ y → y ≼ x ⊞ units j 1 → (n k : ℕ)
     → both y hy n k ≼ both x hx n k ⊞ units (2 * j + i) 1
 walk zero j x y hx hy up near n k =
-    let e : 2 ^ (2 * j + 0) ≡ 2 ^ j * 2 ^ j = let f : 2 * j + 0 ≡ j + j = omega arith in ap (λ (m : ℕ). 2 ^ m) f ∙ pow-add 2 j j in
+    let e : 2 ^ (2 * j + 0) ≡ 2 ^ j * 2 ^ j = let f : 2 * j + 0 ≡ j + j = omega arith in ap (λ (m : ℕ). 2 ^ m) f
+    ∙ pow-add 2 j j in
     ≼-trans (step x y hx hy up (units j 1) near n k) (⊞-mono ≼-refl (record { cross = le-of-eq (omega (arith, e)) }))
 walk (suc i) j x y hx hy up near n k =
     let a = x .num in
@@ -201,7 +206,8 @@ walk (suc i) j x y hx hy up near n k =
     let m = 2 * suc j + i in
     let e : 2 * suc j + i ≡ suc (2 * j + suc i) = omega arith in
     let twice : 2 ^ m ≡ 2 * 2 ^ (2 * j + suc i) = ap (λ (z : ℕ). 2 ^ z) e ∙ pow-succ' 2 (2 * j + suc i) in
-    let sum : units m 1 ⊞ units m 1 ≼ units (2 * j + suc i) 1 = ≼-trans (units-join m 1 1) (record { cross = le-of-eq (omega (arith, twice)) }) in
+    let sum : units m 1 ⊞ units m 1
+    ≼ units (2 * j + suc i) 1 = ≼-trans (units-join m 1 1) (record { cross = le-of-eq (omega (arith, twice)) }) in
     ≼-trans last (≼-trans (⊞-mono first ≼-refl) (≼-trans (⊞-under (both x hx n k) (units m 1) (units m 1)) (⊞-mono ≼-refl sum)))
 
 -- ---- what is at most any unit too much is not too much
@@ -209,7 +215,8 @@ power-more : (n : ℕ) → n < 2 ^ n
 power-more zero = omega arith
 power-more (suc n) = omega (arith, power-more n, pow-succ' 2 n)
 
-too-much : Order 5 (λ x x' y y' P. (P times nxt (y :* x') ≼ x :* y') ∷ (con 1 times x :* (y' :* P) ≼ (y :* P :+ con 1 :* y') :* x') ∷ []
+too-much : Order 5 (λ x x' y y' P. (P times nxt (y :* x') ≼ x :* y')
+    ∷ (con 1 times x :* (y' :* P) ≼ (y :* P :+ con 1 :* y') :* x') ∷ []
     ⊩ P ≈ y' :* x')
 too-much = by-below tt
 
@@ -225,7 +232,8 @@ one-more : Order 4 (λ a b c d. (b times c ≼ d) ∷ [] ⊩ c :* (b :* con 1) �
 one-more = by-below tt
 
 -- so f falls
-both-falls : (x y : Quotient) (hx : 3 * x .num ≤ x .den) (hy : 3 * y .num ≤ y .den) → x ≼ y → (n k : ℕ) → both y hy n k ≼ both x hx n k
+both-falls : (x y : Quotient) (hx : 3 * x .num ≤ x .den) (hy : 3 * y .num ≤ y .den) → x ≼ y → (n k : ℕ) → both y hy n k
+    ≼ both x hx n k
 both-falls x y hx hy up n k =
     let near : y ≼ x ⊞ units 0 1 = record { cross = one-more .law (x .num) (x .den) (y .num) (y .den) (omega arith) } in
     no-more (both y hy n k) (both x hx n k) (λ i.
@@ -270,7 +278,8 @@ module _ (t : Quotient) (h : 3 * t .num ≤ t .den) where
       ≼-trans (T-tiny-high (whole 0) (omega arith) (omega arith) k) (record { cross = omega arith }) in
       let top = upper-mono (across (whole 0) none) third (across-proper (whole 0) none) third-proper start n in
       let e = T-upper third third-proper n in
-      ≼-trans (⊞-mono ≼-refl inside) (≼-trans falls (≼-trans (⊞-mono first top) (record { cross = nothing-first .law (e .num) (e .den) })))
+      ≼-trans (⊞-mono ≼-refl inside) (≼-trans falls
+      (≼-trans (⊞-mono first top) (record { cross = nothing-first .law (e .num) (e .den) })))
     where
       nothing-first : Order 2 (λ n d. (con 0 :* d :+ n :* con 1) :* d ≈ n :* (con 1 :* d))
       nothing-first = by-below tt

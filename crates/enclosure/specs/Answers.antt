@@ -51,7 +51,8 @@ doubled-high : Order 6 (λ v b x x' p q.
     ⊩ con 2 :* x :* (q :* q) :* con 2 ≈ (v :* q :+ b :* q) :* (con 1 :* x') :* con 2)
 doubled-high = by-below tt
 
-pub doubled : {lower upper : ℕ → Quotient} (j B : ℕ) → Within lower upper (units (62 + j) B) (units (62 + j) 12) (units (62 + j) 39)
+pub doubled : {lower upper : ℕ → Quotient} (j B : ℕ)
+    → Within lower upper (units (62 + j) B) (units (62 + j) 12) (units (62 + j) 39)
     → Within (λ n. whole 2 ⊠ lower n) (λ n. whole 2 ⊠ upper n) (units (61 + j) B) (units (61 + j) 12) (units (61 + j) 39)
 doubled {lower} {upper} j B near =
     let p = 2 ^ (62 + j) in
@@ -61,10 +62,16 @@ doubled {lower} {upper} j B near =
     record {
       low = λ n.
           let x = upper n in
-          record { cross = le-of-mul-le-mul-right (doubled-low .law B 12 (x .num) (x .den) p q (near .low n .cross) up down) (omega arith) };
+          record {
+            cross = le-of-mul-le-mul-right (doubled-low .law B 12 (x .num) (x .den) p q (near .low n .cross) up down)
+                (omega arith);
+          };
       high = λ n.
           let x = lower n in
-          record { cross = le-of-mul-le-mul-right (doubled-high .law B 39 (x .num) (x .den) p q (near .high n .cross) up down) (omega arith) };
+          record {
+            cross = le-of-mul-le-mul-right (doubled-high .law B 39 (x .num) (x .den) p q (near .high n .cross) up down)
+                (omega arith);
+          };
     }
 
 pub double-near : (s : Quotient) (proper : s .num < s .den) (j sg : ℕ) → Seed s j sg
@@ -86,7 +93,8 @@ loss-within j m proper fits small =
 
 -- ---- ln of m * 2 ^ -(e + 53), below 1/2
 pub ln-below-within : (m b e : ℕ) → 2 ^ 52 ≤ m → m < 2 ^ 53 → 1 ≤ e → e < 2 ^ b → b ≤ 63
-    → Within (ln-below-lower (units 52 m) (suc e)) (ln-below-upper (units 52 m) (suc e)) (units (63 - b) (ln-below-answer b e m)) (units (63 - b) 12)
+    → Within (ln-below-lower (units 52 m) (suc e)) (ln-below-upper (units 52 m) (suc e))
+    (units (63 - b) (ln-below-answer b e m)) (units (63 - b) 12)
     (units (63 - b) 42)
 unfolding ln-below-answer
 ln-below-within m b e low high some fits few =
@@ -97,14 +105,17 @@ ln-below-within m b e low high some fits few =
 
 -- ---- ln between 1 and 2, where x - 1 is n units of 2 ^ -53; and between 1/2 and 1, where 1 - x is
 pub above-one-within : (m j : ℕ) → 2 ^ 52 ≤ m → m < 2 ^ 53 → let n = 2 * (m - 2 ^ 52) in n * 2 ^ j ≤ 2 ^ 53
-    → Within (ln-lower (units 52 m) 0) (ln-upper (units 52 m) 0) (units (61 + j) (gain-answer j n)) (units (61 + j) 12) (units (61 + j) 39)
+    → Within (ln-lower (units 52 m) 0) (ln-upper (units 52 m) 0) (units (61 + j) (gain-answer j n)) (units (61 + j) 12)
+    (units (61 + j) 39)
 unfolding gain-answer ln-lower ln-upper
 above-one-within m j low high fits =
     let sg = gain-seed j (2 * (m - 2 ^ 52) * 2 ^ j) in
-    with-none (doubled j (T-answer j sg) (T-near (ln-argument (units 52 m)) (ln-proper (units 52 m)) j sg (above-seeds m j low high fits)))
+    with-none (doubled j (T-answer j sg)
+    (T-near (ln-argument (units 52 m)) (ln-proper (units 52 m)) j sg (above-seeds m j low high fits)))
 
 pub below-one-within : (m j : ℕ) → 2 ^ 52 ≤ m → m < 2 ^ 53 → let n = 2 ^ 53 - m in n * 2 ^ j ≤ 2 ^ 53
-    → Within (ln-below-lower (units 52 m) 1) (ln-below-upper (units 52 m) 1) (units (61 + j) (loss-answer j n)) (units (61 + j) 12) (units (61 + j) 39)
+    → Within (ln-below-lower (units 52 m) 1) (ln-below-upper (units 52 m) 1) (units (61 + j) (loss-answer j n))
+    (units (61 + j) 12) (units (61 + j) 39)
 unfolding loss-answer
 below-one-within m j low high fits =
     let h = ln-third m low high in

@@ -1,4 +1,5 @@
--- ln below 1 is -(2(e+1) T(1/3) - 2 T(s)), and what is near 2e T(1/3) + 2 T(r) is near that: T(1/3) - T(s) is T(r) (`Addition`). Assumes nothing.
+-- ln below 1 is -(2(e+1) T(1/3) - 2 T(s)), and what is near 2e T(1/3) + 2 T(r) is near that, since T(1/3) - T(s) is T(r) (`Addition`).
+-- Assumes nothing.
 use Prim.Native.Nat.{ℕ, suc, _*_, _≤_}
 use mathlib.Core.List.{[], _∷_}
 use native.Mathlib.Omega.{arith}
@@ -12,7 +13,8 @@ use Rattle.enclosure.specs.Steep.{⊟-below, ⊟-above}
 
 -- (2e U + 2L + d) + 2S ≤ 2(e+1) U + d, where L + S ≤ U
 taken-low : Order 9 (λ e U U' L L' S S' d d'. (con 2 :* U' :* d' :* d' times (L :* S' :+ S :* L') :* U' ≼ U :* (L' :* S')) ∷ []
-    ⊩ (((con 2 :* e :* U :* (con 1 :* L') :+ con 2 :* L :* (con 1 :* U')) :* d' :+ d :* (con 1 :* U' :* (con 1 :* L'))) :* (con 1 :* S')
+    ⊩ (((con 2 :* e :* U :* (con 1 :* L') :+ con 2 :* L :* (con 1 :* U')) :* d' :+ d :* (con 1 :* U' :* (con 1 :* L'))) :*
+    (con 1 :* S')
     :+ con 2 :* S :* (con 1 :* U' :* (con 1 :* L') :* d')) :* (con 1 :* U' :* d')
     ≈ (con 2 :* nxt e :* U :* d' :+ d :* (con 1 :* U')) :* (con 1 :* U' :* (con 1 :* L') :* d' :* (con 1 :* S')))
 taken-low = by-below tt
@@ -20,7 +22,8 @@ taken-low = by-below tt
 -- 2(e+1) T ≤ (2e T + 2R) + 2S, where T ≤ S + R
 taken-high : Order 7 (λ e T T' R R' S S'. (con 2 :* T' times T :* (S' :* R') ≼ (S :* R' :+ R :* S') :* T') ∷ []
     ⊩ con 2 :* nxt e :* T :* (con 1 :* T' :* (con 1 :* R') :* (con 1 :* S'))
-    ≈ ((con 2 :* e :* T :* (con 1 :* R') :+ con 2 :* R :* (con 1 :* T')) :* (con 1 :* S') :+ con 2 :* S :* (con 1 :* T' :* (con 1 :* R')))
+    ≈ ((con 2 :* e :* T :* (con 1 :* R') :+ con 2 :* R :* (con 1 :* T')) :* (con 1 :* S') :+ con 2 :* S :*
+    (con 1 :* T' :* (con 1 :* R')))
     :* (con 1 :* T'))
 taken-high = by-below tt
 
@@ -40,8 +43,10 @@ below-near m h e N {v} {down} {up} near =
           let U = T-upper third third-proper n in
           let L = T-lower r N in
           let S = T-lower s n in
-          let law = taken-low .law e (U .num) (U .den) (L .num) (L .den) (S .num) (S .den) (down .num) (down .den) (third-high s h n N .cross) in
-          let sum : v ⊞ whole 2 ⊠ S ≼ whole (2 * suc e) ⊠ U ⊞ down = ≼-trans (⊞-mono (near .low n) ≼-refl) (record { cross = law }) in
+          let law = taken-low .law e (U .num) (U .den) (L .num) (L .den) (S .num) (S .den) (down .num) (down .den)
+          (third-high s h n N .cross) in
+          let sum : v ⊞ whole 2 ⊠ S ≼ whole (2 * suc e) ⊠ U ⊞ down =
+          ≼-trans (⊞-mono (near .low n) ≼-refl) (record { cross = law }) in
           ⊟-below v (whole 2 ⊠ S) (whole (2 * suc e) ⊠ U) down sum;
       high = λ n.
           let T = T-lower third n in
@@ -60,7 +65,8 @@ none-high : Order 4 (λ T T' L L'. L :* (con 1 :* T' :* L') ≈ (con 0 :* T :* L
 none-high = by-below tt
 
 pub with-none : {lower upper : ℕ → Quotient} {v down up : Quotient} → Within lower upper v down up
-    → Within (λ n. whole (2 * 0) ⊠ T-lower third n ⊞ lower n) (λ n. whole (2 * 0) ⊠ T-upper third third-proper n ⊞ upper n) v down up
+    → Within (λ n. whole (2 * 0) ⊠ T-lower third n ⊞ lower n)
+    (λ n. whole (2 * 0) ⊠ T-upper third third-proper n ⊞ upper n) v down up
 with-none {lower} {upper} near = record {
   low = λ n.
       let T = T-upper third third-proper n in

@@ -1,5 +1,5 @@
--- 2e T(1/3) + 2t, e ≥ 1: the rule is near it, in units of 2 ^ (b - 63), where e has at most b binary digits. The constant's own error
--- is e < 2 ^ b units of 2 ^ -63, which is 1 here. With t = T(s) this is ln of m * 2 ^ (e - 52). Assumes nothing.
+-- 2e T(1/3) + 2t, e ≥ 1: the rule is near it, in units of 2 ^ (b - 63), where e has at most b binary digits. The constant's own
+-- error is e < 2 ^ b units of 2 ^ -63, which is 1 here. With t = T(s) this is ln of m * 2 ^ (e - 52). Assumes nothing.
 use Prim.Native.Nat.{ℕ, _+_, _-_, _*_, _/_, _^_, _≤_, _<_}
 use mathlib.Core.Path.{_≡_, sym, _∙_, ap}
 use mathlib.Core.List.{[], _∷_}
@@ -74,7 +74,8 @@ module _ (b e B : ℕ) (some : 1 ≤ e) (fits : e < 2 ^ b) (few : b ≤ 63) {low
 
   -- THE LAW
   pub multiple-near : Within (λ n. whole (2 * e) ⊠ T-lower third n ⊞ whole 2 ⊠ lower n)
-      (λ n. whole (2 * e) ⊠ T-upper third third-proper n ⊞ whole 2 ⊠ upper n) (units (63 - b) Y) (units (63 - b) 12) (units (63 - b) 42)
+      (λ n. whole (2 * e) ⊠ T-upper third third-proper n ⊞ whole 2 ⊠ upper n) (units (63 - b) Y) (units (63 - b) 12)
+      (units (63 - b) 42)
   multiple-near =
       let M = 2 ^ b in
       let two : 2 ≤ M = omega arith in
@@ -106,8 +107,10 @@ module _ (b e B : ℕ) (some : 1 ≤ e) (fits : e < 2 ^ b) (few : b ≤ 63) {low
 
 -- THE LAW from 2 up
 pub ln-near : (m b e : ℕ) → 2 ^ 52 ≤ m → m < 2 ^ 53 → 1 ≤ e → e < 2 ^ b → b ≤ 63
-    → Within (ln-lower (units 52 m) e) (ln-upper (units 52 m) e) (units (63 - b) (ln-answer b e m)) (units (63 - b) 12) (units (63 - b) 42)
+    → Within (ln-lower (units 52 m) e) (ln-upper (units 52 m) e) (units (63 - b) (ln-answer b e m)) (units (63 - b) 12)
+    (units (63 - b) 42)
 unfolding ln-answer ln-lower ln-upper
 ln-near m b e low high some fits few =
     let s = ln-argument (units 52 m) in
-    multiple-near b e (T-answer 1 (ln-seed m)) some fits few (T-near s (ln-proper (units 52 m)) 1 (ln-seed m) (ln-seeds m low high))
+    multiple-near b e (T-answer 1 (ln-seed m)) some fits few
+    (T-near s (ln-proper (units 52 m)) 1 (ln-seed m) (ln-seeds m low high))

@@ -1,6 +1,6 @@
 -- How fast T rises from x to y: the partial sums by at most (y - x) / (1 - y^2), the upper ends by at least (y - x) / (1 - x^2).
--- A term's rise is bounded by y^(2k+1) - x^(2k+1) ≤ (2k+1) (y - x) y^2k, and from below likewise with x^2k; and these sum up to the
--- factor 1 / (1 - y^2) or 1 / (1 - x^2). Assumes nothing.
+-- A term's rise is bounded by y^(2k+1) - x^(2k+1) ≤ (2k+1) (y - x) y^2k, and from below likewise with x^2k; and these sum up to
+-- the factor 1 / (1 - y^2) or 1 / (1 - x^2). Assumes nothing.
 use Prim.Native.Nat.{ℕ, zero, suc, _+_, _-_, _*_, _≤_, _<_}
 use mathlib.Core.List.{[], _∷_}
 use native.Mathlib.Nat.{mul-le-mul}
@@ -13,7 +13,8 @@ use Rattle.enclosure.specs.Nested.{Falls, T-falls, nested}
 use Rattle.enclosure.specs.Expansion.{power}
 
 -- ---- a sum is below another where each term is
-paired : Order 8 (λ S S' a a' e e' c c'. ((S :* e' :+ e :* S') :* (a' :* c') :+ (a :* c' :+ c :* a') :* (S' :* e')) :* (S' :* a' :* (e' :* c'))
+paired : Order 8 (λ S S' a a' e e' c c'. ((S :* e' :+ e :* S') :* (a' :* c') :+ (a :* c' :+ c :* a') :* (S' :* e')) :*
+    (S' :* a' :* (e' :* c'))
     ≈ ((S :* a' :+ a :* S') :* (e' :* c') :+ (e :* c' :+ c :* e') :* (S' :* a')) :* (S' :* e' :* (a' :* c')))
 paired = by-below tt
 
@@ -44,7 +45,8 @@ T-mono h (suc n) = ⊞-mono (T-mono h n) (⊠-mono (odd-mono h n) ≼-refl)
 reorder : Order 4 (λ s s' w w'. s :* s :* (s :* w) :* (s' :* (s' :* s' :* w')) ≈ s :* (s :* s :* w) :* (s' :* s' :* (s' :* w')))
 reorder = by-below tt
 
-order-back : Order 4 (λ s s' w w'. s :* (s :* s :* w) :* (s' :* s' :* (s' :* w')) ≈ s :* s :* (s :* w) :* (s' :* (s' :* s' :* w')))
+order-back : Order 4 (λ s s' w w'. s :* (s :* s :* w) :* (s' :* s' :* (s' :* w'))
+    ≈ s :* s :* (s :* w) :* (s' :* (s' :* s' :* w')))
 order-back = by-below tt
 
 odd-under : (s : Quotient) (k : ℕ) → odd-power s k ≼ s ⊠ power (s ⊠ s) k
@@ -73,7 +75,8 @@ geo-last : Order 4 (λ D D' F F'. D :* F :* (con 1 :* (F' :* (D' :* con 1)))
     ≈ (con 0 :* (F' :* (D' :* con 1)) :+ F :* (D :* con 1) :* con 1) :* (D' :* F'))
 geo-last = by-below tt
 
-geo-step : Order 8 (λ F F' z z' D D' w w'. (con 1 :* (F' :* z') :+ F :* z :* con 1) :* (D :* w) :* (D' :* w' :* (F' :* (D' :* (z' :* w'))))
+geo-step : Order 8 (λ F F' z z' D D' w w'. (con 1 :* (F' :* z') :+ F :* z :* con 1) :* (D :* w) :*
+    (D' :* w' :* (F' :* (D' :* (z' :* w'))))
     ≈ (D :* w :* (F' :* (D' :* (z' :* w'))) :+ F :* (D :* (z :* w)) :* (D' :* w')) :* (con 1 :* (F' :* z') :* (D' :* w')))
 geo-step = by-below tt
 
@@ -109,11 +112,13 @@ rises-step : Order 13 (λ x x' y y' D D' o o' p p' w w' k.
     ∷ (D :* o :* p' :* w' :* x' :* y' :* y' :* y' times x :* y' ≼ y :* x')
     ∷ (con 2 :* D :* p' :* x' :* x' :* y :* y' :* y' times o :* (y' :* w') ≼ y :* w :* o') ∷ []
     ⊩ y :* y :* p :* (x' :* x' :* o' :* (con 1 :* (D' :* (y' :* y' :* w'))))
-    ≈ (x :* x :* o :* (con 1 :* (D' :* (y' :* y' :* w'))) :+ nxt (con 2 :* nxt k) :* (D :* (y :* y :* w)) :* (x' :* x' :* o')) :* (y' :* y' :* p'))
+    ≈ (x :* x :* o :* (con 1 :* (D' :* (y' :* y' :* w'))) :+ nxt (con 2 :* nxt k) :* (D :* (y :* y :* w)) :*
+    (x' :* x' :* o')) :* (y' :* y' :* p'))
 rises-step = by-below tt
 
 term-rises : Order 9 (λ o o' p p' D D' w w' k.
-    (con 2 :* k :+ con 1 times p :* (o' :* (con 1 :* (D' :* w'))) ≼ (o :* (con 1 :* (D' :* w')) :+ nxt (con 2 :* k) :* (D :* w) :* o') :* p') ∷ []
+    (con 2 :* k :+ con 1 times p :* (o' :* (con 1 :* (D' :* w')))
+    ≼ (o :* (con 1 :* (D' :* w')) :+ nxt (con 2 :* k) :* (D :* w) :* o') :* p') ∷ []
     ⊩ p :* con 1 :* (o' :* nxt (con 2 :* k) :* (D' :* w'))
     ≈ (o :* con 1 :* (D' :* w') :+ D :* w :* (o' :* nxt (con 2 :* k))) :* (p' :* nxt (con 2 :* k)))
 term-rises = by-below tt
@@ -128,7 +133,8 @@ module _ (x y D : Quotient) (up : x ≼ y) (near : y ≼ x ⊞ D) where
       let w = power (y ⊠ y) k in
       let most : o ≼ y ⊠ w = ≼-trans (odd-mono up k) (odd-under y k) in
       record {
-        cross = rises-step .law (x .num) (x .den) (y .num) (y .den) (D .num) (D .den) (o .num) (o .den) (p .num) (p .den) (w .num) (w .den) k
+        cross = rises-step .law (x .num) (x .den) (y .num) (y .den) (D .num) (D .den) (o .num) (o .den) (p .num) (p .den)
+            (w .num) (w .den) k
             (odd-rises k .cross) (near .cross) (up .cross) (most .cross);
       }
 
@@ -174,16 +180,20 @@ factor-mono {u} {v} h k l =
 
 -- ---- from u to v, which is u + D at least
 grows-step : Order 13 (λ u u' v v' D D' o o' p p' w w' k.
-    (u' :* u' :* u' :* u' :* v :* v times (o :* (con 1 :* (D' :* w')) :+ nxt (con 2 :* k) :* (D :* w) :* o') :* p' ≼ p :* (o' :* (con 1 :* (D' :* w'))))
+    (u' :* u' :* u' :* u' :* v :* v times (o :* (con 1 :* (D' :* w')) :+ nxt (con 2 :* k) :* (D :* w) :* o') :* p'
+    ≼ p :* (o' :* (con 1 :* (D' :* w'))))
     ∷ (o :* p' :* u' :* u' :* w' :* (u :* v' :+ u' :* v) times (u :* D' :+ D :* u') :* v' ≼ v :* (u' :* D'))
-    ∷ (p' :* u' :* u' :* D :* (nxt (con 2 :* k) :* o' :* w :* (u :* v' :+ u' :* v) :+ o :* u' :* v' :* w') times u :* v' ≼ v :* u')
+    ∷ (p' :* u' :* u' :* D :* (nxt (con 2 :* k) :* o' :* w :* (u :* v' :+ u' :* v) :+ o :* u' :* v' :* w') times u :* v'
+    ≼ v :* u')
     ∷ (con 2 :* D :* p' :* u :* u' :* u' :* v' :* v' times u :* w :* o' ≼ o :* (u' :* w')) ∷ []
-    ⊩ (u :* u :* o :* (con 1 :* (D' :* (u' :* u' :* w'))) :+ nxt (con 2 :* nxt k) :* (D :* (u :* u :* w)) :* (u' :* u' :* o')) :* (v' :* v' :* p')
+    ⊩ (u :* u :* o :* (con 1 :* (D' :* (u' :* u' :* w'))) :+ nxt (con 2 :* nxt k) :* (D :* (u :* u :* w)) :*
+    (u' :* u' :* o')) :* (v' :* v' :* p')
     ≈ v :* v :* p :* (u' :* u' :* o' :* (con 1 :* (D' :* (u' :* u' :* w')))))
 grows-step = by-below tt
 
 term-grows : Order 9 (λ o o' p p' D D' w w' k.
-    (con 2 :* k :+ con 1 times (o :* (con 1 :* (D' :* w')) :+ nxt (con 2 :* k) :* (D :* w) :* o') :* p' ≼ p :* (o' :* (con 1 :* (D' :* w')))) ∷ []
+    (con 2 :* k :+ con 1 times (o :* (con 1 :* (D' :* w')) :+ nxt (con 2 :* k) :* (D :* w) :* o') :* p'
+    ≼ p :* (o' :* (con 1 :* (D' :* w')))) ∷ []
     ⊩ (o :* con 1 :* (D' :* w') :+ D :* w :* (o' :* nxt (con 2 :* k))) :* (p' :* nxt (con 2 :* k))
     ≈ p :* con 1 :* (o' :* nxt (con 2 :* k) :* (D' :* w')))
 term-grows = by-below tt
@@ -207,7 +217,8 @@ module _ (u v D : Quotient) (apart : u ⊞ D ≼ v) where
       let p = odd-power v k in
       let w = power (u ⊠ u) k in
       record {
-        cross = grows-step .law (u .num) (u .den) (v .num) (v .den) (D .num) (D .den) (o .num) (o .den) (p .num) (p .den) (w .num) (w .den) k
+        cross = grows-step .law (u .num) (u .den) (v .num) (v .den) (D .num) (D .den) (o .num) (o .den) (p .num) (p .den)
+            (w .num) (w .den) k
             (odd-grows k .cross) (apart .cross) (above .cross) (odd-over u k .cross);
       }
 

@@ -81,8 +81,8 @@ inverse-seed m = 2 * (2 ^ 53 - m) * 2 ^ 62 / (2 ^ 53 + m)
 unfoldable pub ln-below-answer : ℕ → ℕ → ℕ → ℕ
 ln-below-answer b e m = multiple b e (T-answer 1 (inverse-seed m))
 
--- ---- ln between 1/2 and 2: ln_1p of the distance from 1, which is n units of 2 ^ -53. Where n has 53 - j binary digits, these are
--- n * 2 ^ j units of 2 ^ -(53 + j); the answer's size is in units of 2 ^ -(61 + j).
+-- ---- ln between 1/2 and 2: ln_1p of the distance from 1, which is n units of 2 ^ -53. Where n has 53 - j binary digits, these
+-- are n * 2 ^ j units of 2 ^ -(53 + j); the answer's size is in units of 2 ^ -(61 + j).
 unfoldable pub gain-answer : ℕ → ℕ → ℕ
 gain-answer j n = T-answer j (gain-seed j (n * 2 ^ j))
 

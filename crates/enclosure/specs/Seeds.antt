@@ -205,14 +205,16 @@ loss-seeds j m proper h a =
     }
 
 -- ---- a seed is that of the number, however its quotient is written
-same-low : Order 6 (λ g n d n' d' P. (d' times g :* d ≼ n :* P :+ d) ∷ (P times n :* d' ≼ n' :* d) ∷ [] ⊩ g :* d' :* d ≈ (n' :* P :+ d') :* d)
+same-low : Order 6 (λ g n d n' d' P. (d' times g :* d ≼ n :* P :+ d) ∷ (P times n :* d' ≼ n' :* d) ∷ [] ⊩ g :* d' :* d
+    ≈ (n' :* P :+ d') :* d)
 same-low = by-below tt
 
 same-high : Order 6 (λ g n d n' d' P. (d' times n :* P ≼ (g :+ con 3) :* d) ∷ (P times n' :* d ≼ n :* d') ∷ []
     ⊩ n' :* P :* d ≈ (g :+ con 3) :* d' :* d)
 same-high = by-below tt
 
-same-small : Order 4 (λ n d n' d'. (d' times con 5 :* n ≼ con 3 :* d) ∷ (con 5 times n' :* d ≼ n :* d') ∷ [] ⊩ con 5 :* n' :* d ≈ con 3 :* d' :* d)
+same-small : Order 4 (λ n d n' d'. (d' times con 5 :* n ≼ con 3 :* d) ∷ (con 5 times n' :* d ≼ n :* d') ∷ []
+    ⊩ con 5 :* n' :* d ≈ con 3 :* d' :* d)
 same-small = by-below tt
 
 pub seed-same : (r r' : Quotient) (j sg : ℕ) → r .num * r' .den ≡ r' .num * r .den → Seed r j sg → Seed r' j sg
@@ -250,7 +252,8 @@ module _ (m j : ℕ) (low : 2 ^ 52 ≤ m) (high : m < 2 ^ 53) where
   above-seeds fits =
       let n = 2 * (m - 2 ^ 52) in
       let same = above-same (m - 2 ^ 52) (m + 2 ^ 52) J (omega arith) in
-      seed-same (gain (units (53 + j) (n * J))) (ln-argument (units 52 m)) j (gain-seed j (n * J)) (rw scale same) (gain-seeds j (n * J) fits)
+      seed-same (gain (units (53 + j) (n * J))) (ln-argument (units 52 m)) j (gain-seed j (n * J)) (rw scale same)
+      (gain-seeds j (n * J) fits)
 
   pub below-seeds : let n = 2 ^ 53 - m in n * J ≤ 2 ^ 53 → Seed (beyond m low high) j (loss-seed j (n * J))
   below-seeds fits =
@@ -262,4 +265,5 @@ module _ (m j : ℕ) (low : 2 ^ 52 ≤ m) (high : m < 2 ^ 53) where
       let den : 2 * 2 ^ (53 + j) - n * J ≡ (2 ^ 53 + m) * J = rw scale (loss-den n (2 ^ 53 + m) J (omega arith)) in
       let same : n * J * beyond m low high .den ≡ beyond m low high .num * (2 * 2 ^ (53 + j) - n * J) =
       rw (beyond-num m low high, beyond-den m low high, den) (below-same n (2 ^ 53 + m) J) in
-      seed-same (loss (units (53 + j) (n * J)) proper) (beyond m low high) j (loss-seed j (n * J)) same (loss-seeds j (n * J) proper fits small)
+      seed-same (loss (units (53 + j) (n * J)) proper) (beyond m low high) j (loss-seed j (n * J)) same
+      (loss-seeds j (n * J) proper fits small)

@@ -100,7 +100,8 @@ enough-digits : Order 2 (λ e M. (con (2 ^ 61) times M ≼ con 2 :* e) ∷ [] �
 enough-digits = by-below tt
 
 pub multiple-size : (b e t : ℕ) → 2 ^ b ≤ 2 * e → 2 ^ 61 ≤ multiple b e t
-multiple-size b e t h = let k : 2 ^ 61 ≤ e * ln-two / 2 ^ b = le-div-iff-mul-le (pow-pos b) .1 (enough-digits .law e (2 ^ b) h) in omega arith
+multiple-size b e t h = let k : 2 ^ 61 ≤ e * ln-two / 2 ^ b =
+    le-div-iff-mul-le (pow-pos b) .1 (enough-digits .law e (2 ^ b) h) in omega arith
 
 pub multiple-fits : (b e t : ℕ) → t < 2 ^ 63 → 1 ≤ e → e < 2 ^ b → multiple b e t < 2 ^ 64
 multiple-fits b e t word some fits =

@@ -1,4 +1,5 @@
--- How large atan, ln and ln(1 + a) - ln(1 - a) are at an argument of 2 ^ -90 to 2 ^ 526, for ln above 1: from 2 ^ -104 to 2 ^ 16, or no number.
+-- How large atan, ln and ln(1 + a) - ln(1 - a) are at an argument of 2 ^ -90 to 2 ^ 526, above 1 for ln: from 2 ^ -104 to 2 ^ 16,
+-- or no number.
 -- A rule's answer has 60 to 64 digits of a known unit (`Sizes`), so its size is known within a few powers of two. Assumes nothing.
 use Prim.Native.Nat.{ℕ, _+_, _-_, _*_, _/_, _^_, _≤_, _<_}
 use mathlib.Core.Path.{_≡_, sym, ap, _∙_, subst}
@@ -175,7 +176,8 @@ module _ {x : Float} {n : ℕ} (is : Is binary64 x false n) (from : 2 ^ least �
   pub ln-between : 2 ^ 1074 < n → Between binary64 false low high (ln x)
   ln-between above = elim (lt-or-le logarithm.one b) [
     | inl h ↦ elim (lt-or-le b logarithm.two) [ inl l ↦ ln-above-one h l | inr l ↦ ln-from-two l ]
-    | inr h ↦ absurd (not-le-of-lt above (le-trans (le-of-eq (sym (value-back is))) (le-trans (value-le b logarithm.one h) (le-of-eq one-is))))
+    | inr h ↦ absurd (not-le-of-lt above
+        (le-trans (le-of-eq (sym (value-back is))) (le-trans (value-le b logarithm.one h) (le-of-eq one-is))))
   ]
 
   -- ---- ln(1 + a) - ln(1 - a): both sizes, and their sum

@@ -78,7 +78,8 @@ pub seed-size : (t : Bool) (s j m : ℕ) → (t ≡ true → s ≡ 1) → Close 
 seed-size true s j m e h =
     let fits : m ≤ 2 ^ 53 = omega (arith, h .high) in
     let strict = proper j m (h .high) in
-    le-trans (loss-size j m (h .low) fits) (T-size (loss (units (53 + j) m) strict) j (loss-seed j m) (loss-seeds j m strict fits (h .small (e refl))))
+    le-trans (loss-size j m (h .low) fits)
+    (T-size (loss (units (53 + j) m) strict) j (loss-seed j m) (loss-seeds j m strict fits (h .small (e refl))))
 seed-size false s j m e h =
     let fits : m ≤ 2 ^ 53 = omega (arith, h .high) in
     le-trans (gain-size j m (h .low)) (T-size (gain (units (53 + j) m)) j (gain-seed j m) (gain-seeds j m fits))
@@ -113,7 +114,8 @@ module _ (e m : ℕ) (range : Exponent e m) where
   high = range .high
 
   -- (by the seed that the quotient is)
-  asked : (s : Quotient) (p d sg : ℕ) → p * 2 ^ 62 / d ≡ sg → sg < 2 ^ 62 → Seed s 1 sg → (p ≤ d) × (2 ^ 61 ≤ d) × (d < 2 ^ 63) → Multiple e p d
+  asked : (s : Quotient) (p d sg : ℕ) → p * 2 ^ 62 / d ≡ sg → sg < 2 ^ 62 → Seed s 1 sg
+      → (p ≤ d) × (2 ^ 61 ≤ d) × (d < 2 ^ 63) → Multiple e p d
   asked s p d sg is small seed divides = record {
     least = range .least;
     most = range .most;

@@ -1,4 +1,5 @@
--- Leading zeros: of ln's exponent e, with the rule's sum as the code forms it, and of digits that are shifted up. Assumes nothing.
+-- Leading zeros: of ln's exponent e, with the rule's sum as the code forms it, and of digits that are shifted up.
+-- Assumes nothing.
 use Prim.Native.Nat.{ℕ, suc, _+_, _-_, _*_, _/_, _%_, _^_, _≤_, _<_}
 use mathlib.Core.Path.{_≡_, refl, sym, ap, _∙_, subst}
 use mathlib.Core.Bool.{Bool, true, false}

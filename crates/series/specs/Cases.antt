@@ -119,7 +119,8 @@ module _ (b : ℕ) where
       → logarithm.ln-below-half (logarithm.below-exponent b) (logarithm.full-digits b) ≡ logarithm.ln-below-two b
   ln-below-half h l = rw (ne-eqb b 0 (some h), lt-ltb b logarithm.half l)
 
-  pub ln-below-one : logarithm.half ≤ b → b < logarithm.one → logarithm.ln-close true (logarithm.one - b) ≡ logarithm.ln-below-two b
+  pub ln-below-one : logarithm.half ≤ b → b < logarithm.one
+      → logarithm.ln-close true (logarithm.one - b) ≡ logarithm.ln-below-two b
   ln-below-one h l = rw (ne-eqb b 0 (some (omega arith)), le-ltb b logarithm.half h, lt-ltb b logarithm.one l)
 
   pub ln-one : b ≡ logarithm.one → ofBits binary64 0 ≡ logarithm.ln-below-two b
@@ -128,7 +129,8 @@ module _ (b : ℕ) where
       let l : logarithm.one ≤ b = omega arith in
       rw (ne-eqb b 0 (some (omega arith)), le-ltb b logarithm.half h, le-ltb b logarithm.one l, eq-eqb b logarithm.one e)
 
-  pub ln-above-one : logarithm.one ≤ b → (b ≡ logarithm.one → ⊥) → logarithm.ln-close false (2 * (b - logarithm.one)) ≡ logarithm.ln-below-two b
+  pub ln-above-one : logarithm.one ≤ b → (b ≡ logarithm.one → ⊥)
+      → logarithm.ln-close false (2 * (b - logarithm.one)) ≡ logarithm.ln-below-two b
   ln-above-one l d =
       let h : logarithm.half ≤ b = omega arith in
       rw (ne-eqb b 0 (some (omega arith)), le-ltb b logarithm.half h, le-ltb b logarithm.one l, ne-eqb b logarithm.one d)
@@ -165,7 +167,8 @@ ln-below-range b h l = elim (lt-or-le b (2 ^ 52)) [
       rw (subnormal b k .0, subnormal b k .1)
       (record { least = omega arith; most = omega arith; low = full-low b h most; high = full-high b h most })
   | inr k ↦
-      rw (normal b k .0, normal b k .1) (record { least = omega arith; most = omega arith; low = omega arith; high = omega arith })
+      rw (normal b k .0, normal b k .1)
+      (record { least = omega arith; most = omega arith; low = omega arith; high = omega arith })
 ]
 
 -- up to 3/4 is up to 1

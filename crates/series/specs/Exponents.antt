@@ -1,4 +1,5 @@
--- Binary digits of the exponents and of digits that are shifted up; and that ln's answers have 62 at least, and fit a word. Assumes nothing.
+-- Binary digits of the exponents and of digits that are shifted up; and that ln's answers have 62 at least, and fit a word.
+-- Assumes nothing.
 use Prim.Native.Nat.{ℕ, suc, _+_, _-_, _*_, _^_, _≤_, _<_}
 use mathlib.Core.Path.{_≡_, sym, ap, _∙_, subst}
 use mathlib.Core.Logic.{inl, inr}
@@ -51,7 +52,8 @@ module _ (n : ℕ) (least : 1 ≤ n) where
     full-high =
         let h : size n ≤ 53 = size-most in
         let e : size n + (53 - size n) ≡ 53 = omega arith in
-        lt-of-lt-of-le (mul-lt-mul-of-pos-right (size-lt n) (pow-pos (53 - size n))) (le-of-eq (joined (size n) (53 - size n) 53 e))
+        lt-of-lt-of-le (mul-lt-mul-of-pos-right (size-lt n) (pow-pos (53 - size n)))
+        (le-of-eq (joined (size n) (53 - size n) 53 e))
 
 -- ---- ln's exponent e
 module _ (e m : ℕ) (range : Exponent e m) where

@@ -1,4 +1,4 @@
--- ln of an f64: the whole-number rule's answer, rounded once (document 01, "What the leaves mean"; below 2, document 02, 2026-02).
+-- ln of an f64: the whole-number rule's answer, rounded once (document 01, "What the leaves mean"; document 02, 2026-02).
 -- Definitions only.
 use Prim.Native.Nat.{ℕ, _+_, _-_, _*_, _^_}
 use mathlib.Core.Bool.{Bool, true, false, cond}
@@ -25,8 +25,8 @@ minus-zero = 0x8000_0000_0000_0000
 abbrev pub ln-from-two : ℕ → ℕ → Float
 ln-from-two e m = round binary64 false (ln-answer (size e) e m) (2 ^ (63 - size e))
 
--- Between 1/2 and 2 the distance from 1 is n units of 2 ^ -53, n of 53 - j binary digits: the answer in units of 2 ^ -(61 + j). With
--- the sign s, below 1.
+-- Between 1/2 and 2 the distance from 1 is n units of 2 ^ -53, n of 53 - j binary digits: the answer in units of 2 ^ -(61 + j).
+-- With the sign s, below 1.
 abbrev pub close-answer : Bool → ℕ → ℕ → ℕ
 close-answer s j n = cond s (loss-answer j n) (gain-answer j n)
 

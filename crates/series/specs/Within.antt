@@ -223,7 +223,8 @@ few = omega arith
 
 -- from 2 up
 ln-within-from-two : (b : ℕ) → two ≤ b → b < infinity
-    → Near 0 (ln (ofBits binary64 b)) (ln-lower (units 52 (digits b)) (field b - 1023)) (ln-upper (units 52 (digits b)) (field b - 1023))
+    → Near 0 (ln (ofBits binary64 b)) (ln-lower (units 52 (digits b)) (field b - 1023))
+    (ln-upper (units 52 (digits b)) (field b - 1023))
 ln-within-from-two b h l =
     let e = field b - 1023 in
     let m = digits b in
@@ -260,7 +261,8 @@ ln-within-above-one b h l =
 
 -- THEOREM: above 1 the number is m * 2 ^ e, m = digits / 2 ^ 52 (`ln-parts`)
 pub ln-within : (b : ℕ) → logarithm.one < b → b < infinity
-    → Near 0 (ln (ofBits binary64 b)) (ln-lower (units 52 (digits b)) (field b - 1023)) (ln-upper (units 52 (digits b)) (field b - 1023))
+    → Near 0 (ln (ofBits binary64 b)) (ln-lower (units 52 (digits b)) (field b - 1023))
+    (ln-upper (units 52 (digits b)) (field b - 1023))
 ln-within b h l = elim (lt-or-le b two) [
   | inl k ↦ let e : field b - 1023 ≡ 0 = omega arith in rw e (ln-within-above-one b h k)
   | inr k ↦ ln-within-from-two b k l

@@ -88,9 +88,11 @@ not-above {m = m} i e h =
 plain : {v : Float} {s : Bool} {m : ℕ} → Is binary64 v s m → s ≡ false → Is binary64 v false m
 plain {v} {m = m} i e = subst (λ s. Is binary64 v s m) e i
 
-added : (s t : Bool) (m n r : ℕ) → s ≡ false → t ≡ false → 9 * 2 ^ 1071 ≤ near binary64 (near binary64 (m + n) 1 * 2 ^ low binary64) r
+added : (s t : Bool) (m n r : ℕ) → s ≡ false → t ≡ false
+    → 9 * 2 ^ 1071 ≤ near binary64 (near binary64 (m + n) 1 * 2 ^ low binary64) r
     → 9 * 2 ^ 1071 ≤ near binary64 (near binary64 (addN s m t n) 1 * 2 ^ low binary64) r
-added s t m n r e f = subst (λ z. 9 * 2 ^ 1071 ≤ near binary64 (near binary64 z 1 * 2 ^ low binary64) r) (sym (ap₂ (λ s t. addN s m t n) e f))
+added s t m n r e f = subst (λ z. 9 * 2 ^ 1071 ≤ near binary64 (near binary64 z 1 * 2 ^ low binary64) r)
+    (sym (ap₂ (λ s t. addN s m t n) e f))
 
 module _ {k : ℕ} where
   root-wide : {x x' : Float} → Two binary64 k wideK x x' → Two binary64 k divisorK (root x) (root x')

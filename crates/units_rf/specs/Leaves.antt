@@ -1,5 +1,6 @@
--- atan, ln and the spread ln(1 + a) - ln(1 - a) as RC's two runs take them: at a number from 2 ^ -90 to 2 ^ 71, ln from 9/8 on, the value is a NaN
--- or lies from 2 ^ -104 to 2 ^ 16. Such a bound is a leaf's whole rule, since its argument is the same float in both runs.
+-- atan, ln and the spread ln(1 + a) - ln(1 - a) as RC's two runs take them: at a number from 2 ^ -90 to 2 ^ 71, ln from 9/8 on,
+-- the value is a NaN or lies from 2 ^ -104 to 2 ^ 16. Such a bound is a leaf's whole rule, since its argument is the same float in
+-- both runs.
 use mathlib.Core.Path.{refl, subst}
 use mathlib.Core.Logic.{inl, inr}
 use Prim.Native.Nat.{ℕ, _*_, _^_, _≤_}
@@ -62,7 +63,8 @@ ln-leaf x v =
     let X = subst (λ (s : Bool). Is binary64 x s (v .n)) (v .within .sign tt) (v .is) in
     let from = floor-le (v .within) in
     inr (leaf-value (lit≤ tt)
-    (ln-between X (le-trans (lit≤ tt) from) (le-trans (v .within .to) (pow-mono {i = 1300} {j = bounds.most} (lit≤ tt))) (lt-of-lt-of-le (lit< tt) from)))
+    (ln-between X (le-trans (lit≤ tt) from) (le-trans (v .within .to) (pow-mono {i = 1300} {j = bounds.most} (lit≤ tt)))
+    (lt-of-lt-of-le (lit< tt) from)))
 
 pub spread-leaf : Leaf binary64 spread ratioK leafK
 spread-leaf x v = elim (spread-between (plain v) (floor-le (v .within)) (far v)) [ inl e ↦ inl e | inr w ↦ inr (leaf-value (lit≤ tt) w) ]

@@ -131,7 +131,8 @@ by-rc y N =
 abbrev halfK : Kind
 halfK = record { any = false; zer = false; lo = 2 ^ 1073; hi = 2 ^ 1073; g = last binary64 (2 ^ 1073); u = 0; d = 0 }
 
-by-ln : {k : ℕ} (y : Float) → Two binary64 k halfK (neg y) (neg y) → Two binary64 k halfK (one ⊕ y) (one ⊕ y) → Fair k termK (byLn1p y) (byLn1p y)
+by-ln : {k : ℕ} (y : Float) → Two binary64 k halfK (neg y) (neg y) → Two binary64 k halfK (one ⊕ y) (one ⊕ y)
+    → Fair k termK (byLn1p y) (byLn1p y)
 unfolding byLn1p divK divOk plusK plusOk rootK rootOk within litOk ofBits
 by-ln y N O =
     let r = root-two N tt in

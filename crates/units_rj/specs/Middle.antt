@@ -137,7 +137,8 @@ module _ {k : ℕ} {b : Float} (B : Two binary64 k middleK b b) where
   -- so 1 - b is a quarter at least
   rest : T (not (lt half (b ⊘ one))) → Two binary64 k restK (one ⊖ b) (one ⊖ b)
   unfolding sub nudgeK nudgeOk within litOk ofBits
-  rest h = widen-two (nudge-two (lit-two one tt) (neg-two (recast (2 ^ 870) (3 * 2 ^ 1072) (floor-le (B .in-first)) (quarters h))) tt) tt
+  rest h = widen-two (nudge-two (lit-two one tt)
+      (neg-two (recast (2 ^ 870) (3 * 2 ^ 1072) (floor-le (B .in-first)) (quarters h))) tt) tt
 
   by-ln : T (not (lt half (b ⊘ one))) → Fair k termK (byLn one one b) (byLn one one b)
   unfolding byLn plusK plusOk divK divOk rootK rootOk within litOk ofBits

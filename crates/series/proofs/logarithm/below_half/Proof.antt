@@ -18,7 +18,8 @@ unfolding ln-below-answer
 returns c =
     let a = c .before .args in
     c .multiple .ensures
-    ∙ ap (λ (g : ℕ). round binary64 true (multiple (size (a .e)) (a .e) (T-answer 1 g)) (2 ^ (63 - size (a .e)))) (inverse-seed-is (a .m))
+    ∙ ap (λ (g : ℕ). round binary64 true (multiple (size (a .e)) (a .e) (T-answer 1 g)) (2 ^ (63 - size (a .e))))
+    (inverse-seed-is (a .m))
 
 pub below-half-spec : {M : Type 1} → statement M
 below-half-spec =

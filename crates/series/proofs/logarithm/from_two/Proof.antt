@@ -18,7 +18,8 @@ unfolding ln-answer
 returns c =
     let a = c .before .args in
     c .multiple .ensures
-    ∙ ap (λ (g : ℕ). round binary64 false (multiple (size (a .e)) (a .e) (T-answer 1 g)) (2 ^ (63 - size (a .e)))) (ln-seed-is (a .m))
+    ∙ ap (λ (g : ℕ). round binary64 false (multiple (size (a .e)) (a .e) (T-answer 1 g)) (2 ^ (63 - size (a .e))))
+    (ln-seed-is (a .m))
 
 pub from-two-spec : {M : Type 1} → statement M
 from-two-spec =

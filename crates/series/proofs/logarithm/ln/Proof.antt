@@ -33,7 +33,8 @@ float-from-bits-result c = search needs
 
 returns-4 : tie.Need-returns-4
 unfolding ofBits
-returns-4 c = let a = c .before .before .before .before in ln-minus-zero (a .before .args .x) (a .split .result) (a .split .ensures) (c .if4 .taken)
+returns-4 c = let a = c .before .before .before .before in ln-minus-zero (a .before .args .x) (a .split .result)
+    (a .split .ensures) (c .if4 .taken)
 
 returns-5 : tie.Need-returns-5
 unfolding ofBits div

@@ -27,7 +27,8 @@ module _ (b : ℕ) (none : b ≡ 0 → ⊥) (low : b < 2 ^ 52) where
   zeros-most = shift-most b least below
 
   exponent-is : 1010 + leadingZeros 64 b ≡ below-exponent b
-  exponent-is = let e : 1010 + leadingZeros 64 b ≡ 1074 - size b = omega (arith, zeros b (omega arith)) in e ∙ sym (cases.subnormal b low .0)
+  exponent-is = let e : 1010 + leadingZeros 64 b ≡ 1074 - size b = omega (arith, zeros b (omega arith)) in e
+      ∙ sym (cases.subnormal b low .0)
 
   digits-are : b * 2 ^ (leadingZeros 64 b - 11) % 2 ^ 64 ≡ full-digits b
   digits-are = shifted-is b least below ∙ sym (cases.subnormal b low .1)
@@ -44,7 +45,8 @@ below-half-requires : tie.Need-below-half-requires
 below-half-requires c κs =
     let b = c .before .before .args .b in
     let none = c .before .if1 .left in
-    rw (exponent-is b none (c .if2 .taken), digits-are b none (c .if2 .taken)) (cases.ln-below-range b (omega arith) (omega arith))
+    rw (exponent-is b none (c .if2 .taken), digits-are b none (c .if2 .taken))
+    (cases.ln-below-range b (omega arith) (omega arith))
 
 returns-2 : tie.Need-returns-2
 returns-2 c =

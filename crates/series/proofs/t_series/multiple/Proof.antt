@@ -54,7 +54,12 @@ add-scaled c =
     let h = a .pre .1 in
     let e = a .args .e in
     record {
-      fits = omega (arith, the-sum c, multiple-fits (size e) e (T-answer 1 (a .args .p * 2 ^ 62 / a .args .d)) (h .fits) (h .least) (size-lt e));
+      fits = omega (
+        arith,
+        the-sum c,
+        multiple-fits (size e) e (T-answer 1 (a .args .p * 2 ^ 62 / a .args .d)) (h .fits)
+            (h .least) (size-lt e),
+      );
     }
 
 sub-scaled-2 : tie.Need-sub-scaled-2

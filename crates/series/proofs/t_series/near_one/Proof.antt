@@ -31,15 +31,24 @@ the-seed c =
 t-sum-requires : tie.Need-t-sum-requires
 t-sum-requires c κs =
     let a = c .before .before in
-    subst (λ (g : ℕ). Seeded (a .args .j) g) (sym (the-seed c)) (seeded (eqb (a .args .s) 1) (a .args .s) (a .args .j) (a .args .m) (eqb-true (a .args .s) 1) (a .pre .1))
+    subst (λ (g : ℕ). Seeded (a .args .j) g) (sym (the-seed c))
+    (seeded (eqb (a .args .s) 1) (a .args .s) (a .args .j) (a .args .m) (eqb-true (a .args .s) 1) (a .pre .1))
 
 the-sum : (c : tie.After-t-sum) → let a = c .before .before .before .args in c .t-sum .result ≡ T-answer (a .j) (seed (eqb (a .s) 1) (a .j) (a .m))
 the-sum c = c .t-sum .ensures ∙ ap (λ (g : ℕ). T-answer (c .before .before .before .args .j) g) (the-seed (c .before))
 
 scaled-requires : tie.Need-scaled-requires
 scaled-requires c κs =
-    let a = c .before .before .before in
-    (omega (arith, the-sum c, seed-size (eqb (a .args .s) 1) (a .args .s) (a .args .j) (a .args .m) (eqb-true (a .args .s) 1) (a .pre .1)), omega (arith, a .pre .1 .most), a .pre .0)
+    let a = c .before .before .before in (
+      omega (
+        arith,
+        the-sum c,
+        seed-size (eqb (a .args .s) 1) (a .args .s) (a .args .j) (a .args .m) (eqb-true (a .args .s) 1)
+            (a .pre .1),
+      ),
+      omega (arith, a .pre .1 .most),
+      a .pre .0,
+    )
 
 returns : tie.Need-returns
 returns c =
