@@ -151,12 +151,15 @@ module _ (s : Quotient) (proper : s .num < s .den) (j sg : ℕ) (seed : Seed s j
       let fits : T-factor s proper ⊠ (x ⊠ (s ⊠ over 1 0)) ≼ units (62 + j) 2 = record { cross = le-of-mul-le-mul-right k (pow-pos 66) } in
       ≼-trans (⊠-mono ≼-refl (late (T-term s) z (T-factor s proper) (T-falls s proper) (terms odd))) fits
 
-  -- THE LAW
-  pub T-near : Within (T-lower s) (T-upper s proper) (units (62 + j) (T-answer j sg)) (units (62 + j) 12) (units (62 + j) 39)
+  -- THE LAW, of one enclosure: the answer is no higher above its lower end, nor lower below its upper end
+  pub T-tight : Within (λ n. T-upper s proper (terms odd)) (λ n. T-lower s (terms odd))
+      (units (62 + j) (T-answer j sg)) (units (62 + j) 12) (units (62 + j) 39)
   unfolding T-answer T-lower T-upper
-  T-near =
-      let at-low : units (62 + j) B ≼ T-lower s (terms odd) ⊞ units (62 + j) 12 = ≼-trans partial-low
-      (⊞-mono (T-expansion s (terms odd) .0) ≼-refl) in
-      let at-high : T-upper s proper (terms odd) ≼ units (62 + j) B ⊞ units (62 + j) 39 =
-      gathered (62 + j) B 37 2 (≼-trans (T-expansion s (terms odd) .1) partial-high) tail-high in
-      near-all (T-nested s proper) (terms odd) at-low at-high
+  T-tight = record {
+    low = λ n. ≼-trans partial-low (⊞-mono (T-expansion s (terms odd) .0) ≼-refl);
+    high = λ n. gathered (62 + j) B 37 2 (≼-trans (T-expansion s (terms odd) .1) partial-high) tail-high;
+  }
+
+  -- and so of all
+  pub T-near : Within (T-lower s) (T-upper s proper) (units (62 + j) (T-answer j sg)) (units (62 + j) 12) (units (62 + j) 39)
+  T-near = near-all (T-nested s proper) (terms odd) (T-tight .low 0) (T-tight .high 0)

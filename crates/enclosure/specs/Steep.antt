@@ -22,7 +22,7 @@ put-over : Order 9 (λ a a' z z' x x' b b' w.
     ⊩ a :* (x' :* z' :* b') ≈ (w :* b' :+ b :* (x' :* z')) :* a')
 put-over = by-below tt
 
-⊟-below : (a z x b : Quotient) → a ⊞ z ≼ x ⊞ b → a ≼ x ⊟ z ⊞ b
+pub ⊟-below : (a z x b : Quotient) → a ⊞ z ≼ x ⊞ b → a ≼ x ⊟ z ⊞ b
 ⊟-below a z x b h =
     let w = x .num * z .den - z .num * x .den in
     let e : x .num * z .den ≤ w + z .num * x .den = omega arith in
@@ -32,7 +32,7 @@ taken-off : Order 7 (λ a a' z z' x x' w. (con 1 times x :* (a' :* z') ≼ (a :*
     ⊩ w :* a' ≈ a :* (x' :* z'))
 taken-off = by-below tt
 
-⊟-above : {a x : Quotient} (z : Quotient) → x ≼ a ⊞ z → x ⊟ z ≼ a
+pub ⊟-above : {a x : Quotient} (z : Quotient) → x ≼ a ⊞ z → x ⊟ z ≼ a
 ⊟-above {a} {x} z h =
     let w = x .num * z .den - z .num * x .den in
     elim (lt-or-le (x .num * z .den) (z .num * x .den)) [

@@ -50,7 +50,7 @@ T-tiny-low : (s : Quotient) (h : s .num < s .den) (n : ℕ) → s ≼ T-upper s 
 unfolding T-lower sum odd-power
 T-tiny-low s h n = let first : s ≼ T-lower s 1 = record { cross = T-first-lower .law (s .num) (s .den) } in ≼-trans first (T-nested s h 1 n)
 
-T-tiny-high : (s : Quotient) (h : s .num < s .den) → 5 * s .num ≤ 3 * s .den → (n : ℕ) → T-lower s n ≼ s ⊞ s ⊠ (s ⊠ s)
+pub T-tiny-high : (s : Quotient) (h : s .num < s .den) → 5 * s .num ≤ 3 * s .den → (n : ℕ) → T-lower s n ≼ s ⊞ s ⊠ (s ⊠ s)
 unfolding T-upper sum odd-power
 T-tiny-high s h small n =
     let w = s .den * s .den - s .num * s .num in

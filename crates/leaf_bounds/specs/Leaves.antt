@@ -1,4 +1,5 @@
--- How large atan, ln and ln(1 + a) - ln(1 - a) are at an argument above zero of 2 ^ -90 to 2 ^ 526: from 2 ^ -104 to 2 ^ 16, or no number.
+-- How large atan, ln and ln(1 + a) - ln(1 - a) are at an argument of 2 ^ -90 to 2 ^ 526, above 1 for ln: from 2 ^ -104 to 2 ^ 16,
+-- or no number.
 -- A rule's answer has 60 to 64 digits of a known unit (`Sizes`), so its size is known within a few powers of two. Assumes nothing.
 use Prim.Native.Nat.{ℕ, _+_, _-_, _*_, _/_, _^_, _≤_, _<_}
 use mathlib.Core.Path.{_≡_, sym, ap, _∙_, subst}
@@ -14,8 +15,8 @@ use Rattle.algebra.specs.Order.{lt-or-le}
 use Rattle.rounding.specs.Cut.{infinity, value}
 use Rattle.rounding.specs.Value.{value-lt}
 use Rattle.rounding.specs.Sign.{bits-neg}
-use Rattle.enclosure.specs.Rules.{atan-answer, half-pi, steep-answer, T-answer, gain-seed, loss-seed, ln-answer}
-use Rattle.enclosure.specs.Sizes.{atan-size, atan-fits, steep-size, T-size, T-fits, gain-size, loss-size}
+use Rattle.enclosure.specs.Rules.{atan-answer, half-pi, steep-answer, T-answer, gain-seed, loss-seed, ln-answer, gain-answer}
+use Rattle.enclosure.specs.Sizes.{atan-size, atan-fits, steep-size, T-size, T-fits, gain-size, loss-size, above-one-size}
 use Rattle.enclosure.specs.Enclosure.{gain, loss}
 use Rattle.series.specs.Pattern.{size-bits, field, digits}
 use Rattle.series.specs.Near.{number}
@@ -26,7 +27,7 @@ use Rattle.series.specs.Ln as logarithm
 use Rattle.series.specs.Ln1p.{ln-1p}
 use Rattle.series.specs.Ln1p as one-plus
 use Rattle.series.specs.Cases as cases
-use Rattle.series.specs.Exponents.{digits-most, answer-fits, answer-size}
+use Rattle.series.specs.Exponents.{full-low, full-high, digits-most, answer-fits, answer-size}
 use Rattle.series.specs.Arguments.{one-is, above-one, inverse-is, seed-above, seed-below}
 use Rattle.series.specs.Names.{signed-bits}
 use Rattle.scaling.specs.Units.{Is, neg-units}
@@ -146,18 +147,37 @@ module _ {x : Float} {n : ℕ} (is : Is binary64 x false n) (from : 2 ^ least �
         ]
   ]
 
-  -- ---- ln
-  pub ln-between : (ln x ≡ nan) ⊎ Powers binary64 false low high (ln x)
-  ln-between = elim (lt-or-le b logarithm.two) [
-    | inl h ↦ inl (sym (cases.ln-below x b bits h))
-    | inr h ↦
-        let e = field b - 1023 in
-        let m = digits b in
-        let range = cases.ln-range b h finite in
-        let few = digits-most e m range in
-        let long = answer-size e m range in
-        inr (subst (Powers binary64 false low high) (cases.ln-from x b bits h finite)
-        (answer false (ln-answer (size e) e m) (63 - size e) (omega arith) (answer-fits e m range) (omega arith) (omega arith)))
+  -- ---- ln, where the argument is above 1
+  ln-from-two : logarithm.two ≤ b → Powers binary64 false low high (ln x)
+  ln-from-two h =
+      let e = field b - 1023 in
+      let m = digits b in
+      let range = cases.ln-range b h finite in
+      let few = digits-most e m range in
+      let long = answer-size e m range in
+      subst (Powers binary64 false low high) (cases.ln-from x b bits h finite)
+      (answer false (ln-answer (size e) e m) (63 - size e) (omega arith) (answer-fits e m range) (omega arith) (omega arith))
+
+  ln-above-one : logarithm.one < b → b < logarithm.two → Powers binary64 false low high (ln x)
+  ln-above-one h l =
+      let k = 2 * (digits b - 2 ^ 52) in
+      let j = 53 - size k in
+      let e : 2 * (b - logarithm.one) ≡ k = omega arith in
+      let some : 1 ≤ k = omega arith in
+      let most : k < 2 ^ 53 = omega arith in
+      let fits : k * 2 ^ j ≤ 2 ^ 53 = le-of-lt (full-high k some most) in
+      let sizes = above-one-size (digits b) j (omega arith) (omega arith) (full-low k some most) fits in
+      let long = sizes .0 in
+      let short = sizes .1 in
+      let case = cases.ln-above-one b (omega arith) (λ q. omega arith) ∙ cases.ln-under x b bits l in
+      subst (Powers binary64 false low high) (ap (λ (i : ℕ). logarithm.ln-close false i) (sym e) ∙ case)
+      (answer false (gain-answer j k) (61 + j) long (omega arith) (omega arith) (omega arith))
+
+  pub ln-between : 2 ^ 1074 < n → Powers binary64 false low high (ln x)
+  ln-between above = elim (lt-or-le logarithm.one b) [
+    | inl h ↦ elim (lt-or-le b logarithm.two) [ inl l ↦ ln-above-one h l | inr l ↦ ln-from-two l ]
+    | inr h ↦ absurd (not-le-of-lt above
+        (le-trans (le-of-eq (sym (value-back is))) (le-trans (value-le b logarithm.one h) (le-of-eq one-is))))
   ]
 
   -- ---- ln(1 + a) - ln(1 - a): both sizes, and their sum

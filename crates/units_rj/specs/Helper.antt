@@ -4,11 +4,11 @@ use mathlib.Core.Path.{_≡_, refl, sym, ap, _∙_, subst}
 use mathlib.Core.Logic.{_⊎_, inl, inr}
 use Prim.Native.Nat.{ℕ, _*_, _^_, _≤_, _<_}
 use lib.Pow.{pow-mono}
-use native.Mathlib.Nat.{not-le-of-lt, lt-of-le-of-lt, lt-of-lt-of-le, le-trans, le-of-lt}
+use native.Mathlib.Nat.{le-antisymm, not-le-of-lt, lt-of-le-of-lt, lt-of-lt-of-le, le-trans, le-of-lt}
 use native.Mathlib.Omega.{arith}
 use mathlib.Core.Bool.{Bool, true, false, not}
 use lib.Dec.{T, T-not, not-T, ltb, ltb→lt, lt→ltb, nltb→le, lit≤, lit<}
-use lib.Ieee.{Float, nan, binary64, neg, sub, div, lt, le, eq, below, ofBits}
+use lib.Ieee.{Float, nan, binary64, neg, add, sub, div, lt, le, eq, below, ofBits}
 use Rattle.binary64.specs.Leaves.{absolute}
 use Rattle.binary64.specs.Operators.{_⊕_, _⊗_, _⊘_, bits}
 use Rattle.root.specs.Root.{root}
@@ -19,8 +19,8 @@ use Rattle.elliprc.specs.Rc.{rcUnchecked}
 use Rattle.polynomial.specs.Polynomial.{horner}
 use Rattle.rj_positive.specs.Helper.{byAtan1p, byLogs1p, byRc1p, byLn1p, rc1p}
 use Rattle.scaling.specs.Kind.{Kind, last, floor-le, mulK, mulOk, divK, divOk, plusK, plusOk, nudgeK, nudgeOk, within}
-use Rattle.scaling.specs.Units.{Is, lt-units}
-use Rattle.scaling.specs.Two.{Two, mul-two, div-two, plus-two, nudge-two}
+use Rattle.scaling.specs.Units.{Is, unique, lt-units}
+use Rattle.scaling.specs.Two.{Two, mul-two, div-two, plus-two}
 use Rattle.scaling.specs.Tests.{zero-is}
 use Rattle.scaling.specs.One.{lit-two, litOk, lit-is, widen-two, clip-two, clipK, neg-two, abs-units}
 use Rattle.scaling.specs.Leaf.{leaf-two}
@@ -132,10 +132,8 @@ by-rc y N =
 abbrev halfK : Kind
 halfK = record { any = false; zer = false; lo = 2 ^ 1073; hi = 2 ^ 1073; g = last binary64 (2 ^ 1073); u = 0; d = 0 }
 
-abbrev restK : Kind
-restK = record { any = false; zer = false; lo = 2 ^ 1073; hi = 2 ^ 1075; g = last binary64 (2 ^ 1073); u = 0; d = 0 }
-
-by-ln : {k : ℕ} (y : Float) → Two binary64 k halfK (neg y) (neg y) → Two binary64 k restK (one ⊕ y) (one ⊕ y) → Fair k termK (byLn1p y) (byLn1p y)
+by-ln : {k : ℕ} (y : Float) → Two binary64 k halfK (neg y) (neg y) → Two binary64 k halfK (one ⊕ y) (one ⊕ y)
+    → Fair k termK (byLn1p y) (byLn1p y)
 unfolding byLn1p divK divOk plusK plusOk rootK rootOk within litOk ofBits
 by-ln y N O =
     let r = root-two N tt in
@@ -235,7 +233,7 @@ module _ {k : ℕ} {y : Float} (Y : Two binary64 k ratioOfK y y) where
 
       at-half : T (not (lt (neg half) y)) → T (not (lt y (neg one))) → (T (lt y (neg half)) → T (not (lt (neg (bits 0x3FF8_0000_0000_0000)) y)))
           → Fair k termK (byLn1p y) (byLn1p y)
-      unfolding litOk ofBits neg nudgeK nudgeOk within clipK flat-two
+      unfolding litOk ofBits neg within
       at-half t u h =
           let p : 2 ^ 1073 ≤ m = nltb→le m (2 ^ 1073) (subst (λ b. T (not b)) (lt-units minus-half Y-is) t) in
           let one-is : Is binary64 (neg one) true (2 ^ 1074) = lit-is binary64 (neg one) tt in
@@ -248,7 +246,13 @@ module _ {k : ℕ} {y : Float} (Y : Two binary64 k ratioOfK y y) where
                 absurd (not-le-of-lt (lit< tt) (le-trans w q))
             | inr l ↦ l
           ] in
-          by-ln y (sized (2 ^ 1073) (2 ^ 1073) p r) (widen-two (nudge-two (lit-two one tt) (clip-two (2 ^ 1073) (flat-two k Y) r r) tt) tt)
+          let y-is : y ≡ neg half = unique (subst (λ n. Is binary64 y true n) (le-antisymm r p) Y-is) minus-half in
+          let O : Two binary64 k halfK (one ⊕ y) (one ⊕ y) =
+          subst (λ v. Two binary64 k halfK v v) (sym (ap (λ v. one ⊕ v) y-is ∙ rest)) (widen-two (lit-two half tt) tt) in
+          by-ln y (sized (2 ^ 1073) (2 ^ 1073) p r) O
+        where
+          rest : one ⊕ neg half ≡ half
+          rest = unfold add ofBits neg in refl
 
   pub rc1p-fair : (T (lt y (neg half)) → T (not (lt (neg (bits 0x3FF8_0000_0000_0000)) y))) → Fair k termK (rc1p y) (rc1p y)
   unfolding rc1p within litOk ofBits
