@@ -1,12 +1,13 @@
--- ln below 1 is -(2(e+1) T(1/3) - 2 T(s)), and what is near 2e T(1/3) + 2 T(r) is near that, since T(1/3) - T(s) is T(r) (`Addition`).
--- Assumes nothing.
+-- ln below 1 is -(2(e+1) T(1/3) - 2 T(s)), and what is near 2e T(1/3) + 2 T(r) is near that, since T(1/3) - T(s) is T(r)
+-- (`Addition`). Assumes nothing.
 use Prim.Native.Nat.{ℕ, suc, _*_, _≤_}
 use mathlib.Core.List.{[], _∷_}
 use native.Mathlib.Omega.{arith}
 use Rattle.algebra.specs.Ring.{con, nxt, _:+_, _:*_, _≈_, _⊩_, _times_≼_, Order, by-below}
 use Rattle.enclosure.specs.Quotient.{Quotient, _≼_, whole, _⊞_, _⊠_}
 use Rattle.enclosure.specs.Order.{≼-refl, ≼-trans, ⊞-mono}
-use Rattle.enclosure.specs.Enclosure.{T-lower, T-upper, third, third-proper, ln-argument, ln-proper, ln-below-lower, ln-below-upper, Within}
+use Rattle.enclosure.specs.Enclosure.{T-lower, T-upper, third, third-proper, ln-argument, ln-proper, ln-below-lower}
+use Rattle.enclosure.specs.Enclosure.{ln-below-upper, Within}
 use Rattle.enclosure.specs.Nested.{T-nested}
 use Rattle.enclosure.specs.Addition.{across, across-proper, third-low, third-high}
 use Rattle.enclosure.specs.Steep.{⊟-below, ⊟-above}

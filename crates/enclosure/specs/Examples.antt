@@ -2,7 +2,8 @@
 use Prim.Native.Nat.{_^_}
 use mathlib.Core.Path.{_≡_, refl}
 use Rattle.enclosure.specs.Pieces.{row, numerators, value}
-use Rattle.enclosure.specs.Rules.{atan-answer, steep-answer, T-answer, gain-seed, loss-seed, ln-answer, ln-below-answer, gain-answer, loss-answer}
+use Rattle.enclosure.specs.Rules.{atan-answer, steep-answer, T-answer, gain-seed, loss-seed, ln-answer, ln-below-answer}
+use Rattle.enclosure.specs.Rules.{gain-answer, loss-answer}
 
 -- ---- atan at 1, 0.5, 0.1, 1e-5 and 3
 atan-1 : atan-answer 0 (2 ^ 62) ≡ 3622009729038561421

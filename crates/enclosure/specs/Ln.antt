@@ -9,20 +9,23 @@ use lib.Pow.{pow-pos, pow-add}
 use Rattle.algebra.specs.Ring.{con, nxt, _:+_, _:*_, _≈_, _⊩_, _times_≼_, Order, by-below}
 use Rattle.enclosure.specs.Quotient.{Quotient, _≼_, whole, units, _⊞_, _⊠_}
 use Rattle.enclosure.specs.Order.{≼-refl, ≼-trans, ⊞-mono, ⊠-mono, units-join, units-split, units-mono}
-use Rattle.enclosure.specs.Enclosure.{T-lower, T-upper, third, third-proper, ln-argument, ln-proper, ln-lower, ln-upper, Within}
+use Rattle.enclosure.specs.Enclosure.{T-lower, T-upper, third, third-proper, ln-argument, ln-proper, ln-lower, ln-upper}
+use Rattle.enclosure.specs.Enclosure.{Within}
 use Rattle.enclosure.specs.Rules.{T-answer, ln-seed, ln-two, multiple, ln-answer}
 use Rattle.enclosure.specs.Logarithm.{T-near}
 use Rattle.enclosure.specs.Seeds.{ln-seeds}
 use Rattle.enclosure.specs.Constants.{ln-two-low, ln-two-high}
 
 -- ---- a multiple of a bound in units
-multiplied-low : Order 5 (λ k v x x' q. (k times v :* (con 1 :* x') ≼ con 2 :* x :* q) ∷ [] ⊩ k :* v :* (con 1 :* x') ≈ con 2 :* k :* x :* q)
+multiplied-low : Order 5 (λ k v x x' q. (k times v :* (con 1 :* x') ≼ con 2 :* x :* q) ∷ []
+    ⊩ k :* v :* (con 1 :* x') ≈ con 2 :* k :* x :* q)
 multiplied-low = by-below tt
 
 times-low : (k : ℕ) (x : Quotient) (v : ℕ) → units 63 v ≼ whole 2 ⊠ x → units 63 (k * v) ≼ whole (2 * k) ⊠ x
 times-low k x v h = record { cross = multiplied-low .law k v (x .num) (x .den) (2 ^ 63) (h .cross) }
 
-multiplied-high : Order 5 (λ k v x x' q. (k times con 2 :* x :* q ≼ v :* (con 1 :* x')) ∷ [] ⊩ con 2 :* k :* x :* q ≈ k :* v :* (con 1 :* x'))
+multiplied-high : Order 5 (λ k v x x' q. (k times con 2 :* x :* q ≼ v :* (con 1 :* x')) ∷ []
+    ⊩ con 2 :* k :* x :* q ≈ k :* v :* (con 1 :* x'))
 multiplied-high = by-below tt
 
 times-high : (k : ℕ) (x : Quotient) (v : ℕ) → whole 2 ⊠ x ≼ units 63 v → whole (2 * k) ⊠ x ≼ units 63 (k * v)
@@ -41,7 +44,8 @@ join-two = by-below tt
 join-units : (v w : ℕ) → units 63 v ⊞ whole 2 ⊠ units 63 w ≼ units 63 (v + 2 * w)
 join-units v w = record { cross = join-two .law v w (2 ^ 63) }
 
-moved : Order 5 (λ x x' y y' q. (x :* (con 1 :* (y' :* q)) :+ con 2 :* (y :* q :+ con 12 :* y') :* x') :* (x' :* (con 1 :* y') :* q)
+moved : Order 5 (λ x x' y y' q. (x :* (con 1 :* (y' :* q)) :+ con 2 :* (y :* q :+ con 12 :* y') :* x') :*
+    (x' :* (con 1 :* y') :* q)
     ≈ ((x :* (con 1 :* y') :+ con 2 :* y :* x') :* q :+ con 24 :* (x' :* (con 1 :* y'))) :* (x' :* (con 1 :* (y' :* q))))
 moved = by-below tt
 
@@ -53,7 +57,8 @@ floors-low : Order 5 (λ a c M p q. (con 1 times p :* M ≼ a) ∷ (con 1 times 
 floors-low = by-below tt
 
 floors-high : Order 6 (λ a c M p q e.
-    (con 1 times nxt a ≼ p :* M :+ M) ∷ (con 1 times nxt c ≼ q :* M :+ M) ∷ (con 1 times nxt e ≼ M) ∷ (con 39 times con 2 ≼ M) ∷ []
+    (con 1 times nxt a ≼ p :* M :+ M) ∷ (con 1 times nxt c ≼ q :* M :+ M) ∷ (con 1 times nxt e ≼ M) ∷ (con 39 times con 2 ≼ M)
+    ∷ []
     ⊩ a :+ e :+ (c :+ con 78) ≈ (p :+ q :+ con 42) :* M)
 floors-high = by-below tt
 
@@ -84,7 +89,8 @@ module _ (b e B : ℕ) (some : 1 ≤ e) (fits : e < 2 ^ b) (few : b ≤ 63) {low
         low = λ n.
             let x = whole (2 * e) ⊠ T-upper third third-proper n in
             let y = upper n in
-            let rests : Y * M ≤ v + 2 * B = floors-low .law v (2 * B) M (v / M) (2 * B / M) (div-mul-le-self v M) (div-mul-le-self (2 * B) M) in
+            let rests : Y * M ≤ v + 2 * B = floors-low .law v (2 * B) M (v / M) (2 * B / M) (div-mul-le-self v M)
+            (div-mul-le-self (2 * B) M) in
             let less : 24 ≤ 12 * M = omega arith in
             let start : units (63 - b) Y ≼ units 63 v ⊞ whole 2 ⊠ units 63 B =
             ≼-trans (≼-trans (finer Y) (units-mono 63 (Y * M) (v + 2 * B) rests)) (split-units v B) in
@@ -98,10 +104,13 @@ module _ (b e B : ℕ) (some : 1 ≤ e) (fits : e < 2 ^ b) (few : b ≤ 63) {low
             let y = lower n in
             let w = B + 39 in
             let parts : x ⊞ whole 2 ⊠ y ≼ units 63 (e * (ln-two + 1)) ⊞ whole 2 ⊠ units 63 w =
-            ⊞-mono (times-high e (T-lower third n) (ln-two + 1) (ln-two-high n)) (⊠-mono ≼-refl (≼-trans (near .high n) (units-join 63 B 39))) in
-            let rests = floors-high .law v (2 * B) M (v / M) (2 * B / M) e (lt-div-mul-add (pow-pos b)) (lt-div-mul-add (pow-pos b)) fits two in
+            ⊞-mono (times-high e (T-lower third n) (ln-two + 1) (ln-two-high n))
+            (⊠-mono ≼-refl (≼-trans (near .high n) (units-join 63 B 39))) in
+            let rests = floors-high .law v (2 * B) M (v / M) (2 * B / M) e (lt-div-mul-add (pow-pos b))
+            (lt-div-mul-add (pow-pos b)) fits two in
             let most : e * (ln-two + 1) + 2 * w ≤ (Y + 42) * M = le-trans (omega arith) rests in
-            ≼-trans (≼-trans parts (≼-trans (join-units (e * (ln-two + 1)) w) (units-mono 63 (e * (ln-two + 1) + 2 * w) ((Y + 42) * M) most)))
+            ≼-trans (≼-trans parts (≼-trans (join-units (e * (ln-two + 1)) w)
+            (units-mono 63 (e * (ln-two + 1) + 2 * w) ((Y + 42) * M) most)))
             (≼-trans (coarser (Y + 42)) (units-split (63 - b) Y 42));
       }
 

@@ -2,7 +2,8 @@
 use Prim.Native.Nat.{ℕ, zero, suc, _+_, _-_, _*_, _^_, _≤_, _<_}
 use mathlib.Core.Path.{_≡_, sym, ap}
 use mathlib.Core.List.{[], _∷_}
-use native.Mathlib.Nat.{le-of-mul-le-mul-right, div-mul-le-self, lt-div-mul-add, div-le-of-le-mul, le-of-eq, le-trans, mul-le-mul-right}
+use native.Mathlib.Nat.{le-of-mul-le-mul-right, div-mul-le-self, lt-div-mul-add, div-le-of-le-mul, le-of-eq, le-trans}
+use native.Mathlib.Nat.{mul-le-mul-right}
 use native.Mathlib.Omega.{arith}
 use lib.Pow.{pow-pos, pow-add}
 use Rattle.algebra.specs.Ring.{con, nxt, _:+_, _:*_, _≈_, _⊩_, _times_≼_, Order, by-below}
@@ -16,7 +17,8 @@ use Rattle.enclosure.specs.Logarithm.{Seed}
 ln-low : Order 3 (λ g p q. (con 1 times g :* q ≼ con 2 :* p :* con (2 ^ 62)) ∷ [] ⊩ g :* q ≈ p :* con (2 ^ 63) :+ q)
 ln-low = by-below tt
 
-ln-high : Order 3 (λ g p q. (con 1 times nxt (con 2 :* p :* con (2 ^ 62)) ≼ g :* q :+ q) ∷ [] ⊩ p :* con (2 ^ 63) ≈ (g :+ con 3) :* q)
+ln-high : Order 3 (λ g p q. (con 1 times nxt (con 2 :* p :* con (2 ^ 62)) ≼ g :* q :+ q) ∷ []
+    ⊩ p :* con (2 ^ 63) ≈ (g :+ con 3) :* q)
 ln-high = by-below tt
 
 ln-fits : Order 2 (λ p q. (con (2 ^ 62) times con 3 :* p ≼ q) ∷ [] ⊩ con 2 :* p :* con (2 ^ 62) ≈ q :* con (2 ^ 62))
@@ -75,7 +77,8 @@ module _ (m : ℕ) (low : 2 ^ 52 ≤ m) (high : m < 2 ^ 53) where
 gain-low : Order 4 (λ m J c g.
     (g times nxt (m :* con (2 ^ 7)) ≼ c :* J :+ J) ∷ (J times g :* (con (2 ^ 61) :+ c) ≼ m :* con (2 ^ 7) :* con (2 ^ 62))
     ∷ (J times g ≼ con (2 ^ 61)) ∷ []
-    ⊩ g :* (con 2 :* (con (2 ^ 53) :* J) :+ m) :* con (2 ^ 7) ≈ (m :* (con (2 ^ 62) :* J) :+ (con 2 :* (con (2 ^ 53) :* J) :+ m)) :* con (2 ^ 7))
+    ⊩ g :* (con 2 :* (con (2 ^ 53) :* J) :+ m) :* con (2 ^ 7) ≈
+    (m :* (con (2 ^ 62) :* J) :+ (con 2 :* (con (2 ^ 53) :* J) :+ m)) :* con (2 ^ 7))
 gain-low = by-below tt
 
 gain-high : Order 4 (λ m J c g.
@@ -84,7 +87,8 @@ gain-high : Order 4 (λ m J c g.
     ⊩ m :* (con (2 ^ 62) :* J) :* con (2 ^ 7) ≈ (g :+ con 3) :* (con 2 :* (con (2 ^ 53) :* J) :+ m) :* con (2 ^ 7))
 gain-high = by-below tt
 
-gain-fits : Order 2 (λ m c. (con (2 ^ 69) times m ≼ con (2 ^ 53)) ∷ [] ⊩ m :* con (2 ^ 7) :* con (2 ^ 62) ≈ (con (2 ^ 61) :+ c) :* con (2 ^ 61))
+gain-fits : Order 2 (λ m c. (con (2 ^ 69) times m ≼ con (2 ^ 53)) ∷ []
+    ⊩ m :* con (2 ^ 7) :* con (2 ^ 62) ≈ (con (2 ^ 61) :+ c) :* con (2 ^ 61))
 gain-fits = by-below tt
 
 gain-small : (m J : ℕ) → m ≤ 2 ^ 53 → 1 ≤ J → 5 * m ≤ 3 * (2 * (2 ^ 53 * J) + m)
@@ -108,7 +112,8 @@ gain-seeds j m h =
 
 -- ---- ln_1p below 0: q = 2 ^ (54 + j) - m, d = 2 ^ 61 - c
 loss-low : Order 6 (λ m J c g q d.
-    (con (2 ^ 7) :* g times q :+ m ≼ con (2 ^ 54) :* J) ∷ (g times c :* J ≼ m :* con (2 ^ 7)) ∷ (g :* J times con (2 ^ 61) ≼ d :+ c)
+    (con (2 ^ 7) :* g times q :+ m ≼ con (2 ^ 54) :* J) ∷ (g times c :* J ≼ m :* con (2 ^ 7)) ∷
+    (g :* J times con (2 ^ 61) ≼ d :+ c)
     ∷ (J times g :* d ≼ m :* con (2 ^ 7) :* con (2 ^ 62)) ∷ []
     ⊩ g :* q :* con (2 ^ 7) ≈ (m :* (con (2 ^ 62) :* J) :+ q) :* con (2 ^ 7))
 loss-low = by-below tt
@@ -125,7 +130,8 @@ loss-small : (m J q : ℕ) → 4 * m ≤ 3 * (2 ^ 53 * J) → 2 ^ 54 * J ≤ q +
 loss-small m J q h e = omega arith
 
 -- j = 0
-fits-0 : Order 2 (λ m d. (con (2 ^ 68) times con 4 :* m ≼ con (3 * 2 ^ 53)) ∷ (con (2 ^ 62) times con (2 ^ 61) ≼ d :+ m :* con (2 ^ 7)) ∷ []
+fits-0 : Order 2 (λ m d. (con (2 ^ 68) times con 4 :* m ≼ con (3 * 2 ^ 53)) ∷
+    (con (2 ^ 62) times con (2 ^ 61) ≼ d :+ m :* con (2 ^ 7)) ∷ []
     ⊩ m :* con (2 ^ 7) :* con (2 ^ 62) ≈ d :* con (2 ^ 62))
 fits-0 = by-below tt
 

@@ -1,14 +1,17 @@
--- The answers have enough digits, so that the rules' units are small beside an f64's, and not too many for a word. Assumes nothing.
+-- The answers have enough digits, so that the rules' units are small beside an f64's, and not too many for a word. Assumes
+-- nothing.
 use Prim.Native.Nat.{ℕ, _+_, _-_, _*_, _/_, _^_, _≤_, _<_}
 use mathlib.Core.List.{[], _∷_}
-use native.Mathlib.Nat.{le-trans, le-div-iff-mul-le, div-lt-iff-lt-mul, div-le-of-le-mul, div-le-self, mul-le-mul, mul-le-mul-left, mul-le-mul-right}
+use native.Mathlib.Nat.{le-trans, le-div-iff-mul-le, div-lt-iff-lt-mul, div-le-of-le-mul, div-le-self, mul-le-mul}
+use native.Mathlib.Nat.{mul-le-mul-left, mul-le-mul-right}
 use native.Mathlib.Omega.{arith}
 use lib.Pow.{pow-pos}
 use Rattle.algebra.specs.Ring.{con, nxt, _:+_, _:*_, _≈_, _⊩_, _times_≼_, Order, by-below}
 use Rattle.enclosure.specs.Quotient.{Quotient, units}
 use Rattle.enclosure.specs.Enclosure.{ln-argument}
 use Rattle.enclosure.specs.Pieces.{euler, odd, pieces, piece, value}
-use Rattle.enclosure.specs.Rules.{square, share, front, atan-answer, steep-answer, seed-square, T-answer, part, gain-seed, loss-seed, ln-seed, ln-two, multiple, ln-answer}
+use Rattle.enclosure.specs.Rules.{square, share, front, atan-answer, steep-answer, seed-square, T-answer, part, gain-seed}
+use Rattle.enclosure.specs.Rules.{loss-seed, ln-seed, ln-two, multiple, ln-answer}
 use Rattle.enclosure.specs.Rules.{inverse-seed, ln-below-answer, gain-answer, loss-answer}
 use Rattle.enclosure.specs.Rows.{value-fits, value-least}
 use Rattle.enclosure.specs.Atan as atan
@@ -53,7 +56,8 @@ module _ (j tau : ℕ) (high : tau ≤ 2 ^ 62) where
   pub atan-fits : atan-answer j tau < 2 ^ 63
   unfolding atan-answer
   atan-fits =
-      div-lt-iff-lt-mul (pow-pos 63) .1 (product-fits .law (front tau f) (value euler (4 * f)) front-fits (value-fits euler (4 * f) share-inside))
+      div-lt-iff-lt-mul (pow-pos 63) .1 (product-fits .law (front tau f) (value euler (4 * f)) front-fits
+      (value-fits euler (4 * f) share-inside))
 
 pub steep-size : (t : Quotient) (h : t .den < t .num) → 2 ^ 61 ≤ steep-answer (t .den * 2 ^ 62 / t .num)
 unfolding steep-answer

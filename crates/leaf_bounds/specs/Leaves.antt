@@ -1,6 +1,6 @@
--- How large atan, ln and ln(1 + a) - ln(1 - a) are at an argument of 2 ^ -90 to 2 ^ 526, above 1 for ln: from 2 ^ -104 to 2 ^ 16,
--- or no number.
--- A rule's answer has 60 to 64 digits of a known unit (`Sizes`), so its size is known within a few powers of two. Assumes nothing.
+-- How large atan, ln and ln(1 + a) - ln(1 - a) are at an argument of 2 ^ -90 to 2 ^ 526, above 1 for ln: from 2 ^ -104 to
+-- 2 ^ 16, or no number. A rule's answer has 60 to 64 digits of a known unit (`Sizes`), so its size is known within a few
+-- powers of two. Assumes nothing.
 use Prim.Native.Nat.{ℕ, _+_, _-_, _*_, _/_, _^_, _≤_, _<_}
 use mathlib.Core.Path.{_≡_, sym, ap, _∙_, subst}
 use mathlib.Core.Bool.{Bool, true, false}
@@ -51,10 +51,14 @@ fits : 2 ^ high < overflow binary64
 fits = lit< tt
 
 value-le : (a b : ℕ) → a ≤ b → value a ≤ value b
-value-le a b h = elim (lt-or-le a b) [ inl l ↦ le-of-lt (value-lt a b l) | inr l ↦ le-of-eq (ap value (let e : a ≡ b = omega arith in e)) ]
+value-le a b h = elim (lt-or-le a b) [
+  | inl l ↦ le-of-lt (value-lt a b l)
+  | inr l ↦ le-of-eq (ap value (let e : a ≡ b = omega arith in e))
+]
 
 -- a rule's answer A of 60 to 64 digits, in units of 2 ^ -t
-answer : (s : Bool) (A t : ℕ) → 2 ^ 59 ≤ A → A < 2 ^ 64 → 52 ≤ t → t ≤ 150 → Powers binary64 s low high (round binary64 s A (2 ^ t))
+answer : (s : Bool) (A t : ℕ) → 2 ^ 59 ≤ A → A < 2 ^ 64 → 52 ≤ t → t ≤ 150
+    → Powers binary64 s low high (round binary64 s A (2 ^ t))
 answer s A t h l few many = rounded-between binary64 s A t low high 59 64 h (le-of-lt l) (omega arith) (omega arith) fits
 
 module _ {x : Float} {n : ℕ} (is : Is binary64 x false n) (from : 2 ^ least ≤ n) (to : n ≤ 2 ^ most) where
@@ -104,7 +108,8 @@ module _ {x : Float} {n : ℕ} (is : Is binary64 x false n) (from : 2 ^ least �
       let tau-high : tau ≤ 2 ^ 62 = omega arith in
       let long = atan-size j tau tau-high tau-low in
       let short = atan-fits j tau tau-high in
-      subst (Powers binary64 false low high) is (answer false (atan-answer j tau) (62 + j) (omega arith) (omega arith) (omega arith) (omega arith))
+      subst (Powers binary64 false low high) is (answer false (atan-answer j tau) (62 + j) (omega arith) (omega arith)
+      (omega arith) (omega arith))
 
   atan-one : b ≡ arc.one → Powers binary64 false low high (atan x)
   atan-one e =
@@ -112,7 +117,8 @@ module _ {x : Float} {n : ℕ} (is : Is binary64 x false n) (from : 2 ^ least �
       let is : arc.at-one false ≡ atan x = rw unsigned at case in
       let long = atan-size 0 (2 ^ 62) (lit≤ tt) (lit≤ tt) in
       let short = atan-fits 0 (2 ^ 62) (lit≤ tt) in
-      subst (Powers binary64 false low high) is (answer false (atan-answer 0 (2 ^ 62)) 62 (omega arith) (omega arith) (omega arith) (omega arith))
+      subst (Powers binary64 false low high) is (answer false (atan-answer 0 (2 ^ 62)) 62 (omega arith) (omega arith)
+      (omega arith) (omega arith))
 
   steep-word : (t : ℕ) → steep-answer t < 2 ^ 64
   unfolding steep-answer
@@ -123,9 +129,11 @@ module _ {x : Float} {n : ℕ} (is : Is binary64 x false n) (from : 2 ^ least �
       let case = cases.atan-above-one x b bits (rw same (omega arith)) (rw same (λ e. omega arith)) (rw same l) in
       let is : arc.above-one false b ≡ atan x = rw (same, unsigned) at case in
       let tau = 2 ^ 114 / digits b / 2 ^ (field b - 1023) in
-      let long : 2 ^ 61 ≤ steep-answer tau = subst (λ (t : ℕ). 2 ^ 61 ≤ steep-answer t) (inverse-is b h) (steep-size (number b) (above-one b h)) in
+      let long : 2 ^ 61 ≤ steep-answer tau = subst (λ (t : ℕ). 2 ^ 61 ≤ steep-answer t) (inverse-is b h)
+      (steep-size (number b) (above-one b h)) in
       let short = steep-word tau in
-      subst (Powers binary64 false low high) is (answer false (steep-answer tau) 62 (omega arith) short (omega arith) (omega arith))
+      subst (Powers binary64 false low high) is (answer false (steep-answer tau) 62 (omega arith) short (omega arith)
+      (omega arith))
 
   atan-far : arc.far ≤ b → Powers binary64 false low high (atan x)
   atan-far h =
@@ -210,7 +218,8 @@ module _ {x : Float} {n : ℕ} (is : Is binary64 x false n) (from : 2 ^ least �
       let some = gain-size j (digits b) (range .low) in
       let long = le-trans some (T-size (gain (number b)) j sg seed) in
       let short = T-fits (gain (number b)) j sg seed in
-      subst (Powers binary64 false low high) is (answer false (T-answer j sg) (61 + j) long (omega arith) (omega arith) (omega arith))
+      subst (Powers binary64 false low high) is (answer false (T-answer j sg) (61 + j) long (omega arith) (omega arith)
+      (omega arith))
 
   loss-between : one-plus.tiny ≤ b → b ≤ one-plus.last → Powers binary64 true low high (ln-1p (neg x))
   loss-between h l =
@@ -225,7 +234,8 @@ module _ {x : Float} {n : ℕ} (is : Is binary64 x false n) (from : 2 ^ least �
       let some = loss-size j (digits b) (range .low) digit in
       let long = le-trans some (T-size (loss (number b) proper) j sg seed) in
       let short = T-fits (loss (number b) proper) j sg seed in
-      subst (Powers binary64 true low high) is (answer true (T-answer j sg) (61 + j) long (omega arith) (omega arith) (omega arith))
+      subst (Powers binary64 true low high) is (answer true (T-answer j sg) (61 + j) long (omega arith) (omega arith)
+      (omega arith))
 
   -- the negative of a tiny argument
   opposite : Powers binary64 false low high x → Powers binary64 true low high (neg x)
@@ -238,7 +248,8 @@ module _ {x : Float} {n : ℕ} (is : Is binary64 x false n) (from : 2 ^ least �
   unfolding sub add
   no-spread e = ap (λ (y : Float). sub binary64 y (ln-1p (neg x))) (sym e)
 
-  both : Powers binary64 false low high (ln-1p x) → Powers binary64 true low high (ln-1p (neg x)) → Powers binary64 false low (high + 1) spread
+  both : Powers binary64 false low high (ln-1p x) → Powers binary64 true low high (ln-1p (neg x))
+      → Powers binary64 false low (high + 1) spread
   both v w = sum-between binary64 low high v w (lit< tt)
 
   pub spread-between : (spread ≡ nan) ⊎ Powers binary64 false low (high + 1) spread

@@ -52,7 +52,8 @@ halved m d n p e =
     same = ring 2 (λ m d. m :* con 256 :* con (2 ^ 62) :* d ≈ m :* con (2 ^ 7) :* con (2 ^ 62) :* (con 2 :* d)) tt
 
 pub seed-is : (t : Bool) (j m : ℕ) → m < 2 ^ 53 → m * 256 * 2 ^ 62 / divisor t (part j m) ≡ seed t j m
-seed-is true j m h = let small : part j m < 2 ^ 60 = part-small j m h in halved m (2 ^ 61 - part j m) _ (omega arith) (omega arith)
+seed-is true j m h = let small : part j m < 2 ^ 60 = part-small j m h in
+    halved m (2 ^ 61 - part j m) _ (omega arith) (omega arith)
 seed-is false j m h = halved m (2 ^ 61 + part j m) _ (omega arith) (omega arith)
 
 -- a quotient below 1

@@ -72,7 +72,8 @@ module _ (e : ℕ) (least : 1 ≤ e) (most : e < 2 ^ 11) where
   pub first-is : e * 2 ^ z % 2 ^ 64 * ln-two / 2 ^ 64 ≡ e * ln-two / 2 ^ b
   first-is =
       ap (λ (n : ℕ). n * ln-two / 2 ^ 64) (mod-eq-of-lt top-fits)
-      ∙ div-same (e * 2 ^ z * ln-two) (2 ^ 64) (e * ln-two) (2 ^ b) (pow-pos 64) (pow-pos b) (cross e (2 ^ z) (2 ^ b) ln-two (2 ^ 64) powers)
+      ∙ div-same (e * 2 ^ z * ln-two) (2 ^ 64) (e * ln-two) (2 ^ b) (pow-pos 64) (pow-pos b)
+      (cross e (2 ^ z) (2 ^ b) ln-two (2 ^ 64) powers)
 
   pub second-is : (t : ℕ) → t / 2 ^ (63 - z) ≡ 2 * t / 2 ^ b
   second-is t =

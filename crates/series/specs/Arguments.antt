@@ -2,7 +2,8 @@
 use Prim.Native.Nat.{ℕ, suc, _+_, _-_, _*_, _/_, _%_, _^_, _≤_, _<_}
 use mathlib.Core.Path.{_≡_, refl, sym, ap, ap₂, _∙_, subst}
 use mathlib.Core.Logic.{inl, inr}
-use native.Mathlib.Nat.{le-of-eq, le-of-lt, lt-of-lt-of-le, div-eq-of-lt, add-comm, mul-comm, mul-sub, mul-le-mul-right, mul-lt-mul-of-pos-right, mul-div-mul-right, div-div-eq-div-mul}
+use native.Mathlib.Nat.{le-of-eq, le-of-lt, lt-of-lt-of-le, div-eq-of-lt, add-comm, mul-comm, mul-sub, mul-le-mul-right}
+use native.Mathlib.Nat.{mul-lt-mul-of-pos-right, mul-div-mul-right, div-div-eq-div-mul}
 use native.Mathlib.Omega.{arith}
 use lib.Dec.{lit<}
 use lib.Pow.{pow-pos, pow-add, pow-mono}
@@ -29,9 +30,13 @@ use Rattle.series.specs.Cases.{ln-1p-range, subnormal, normal}
 pub size-is : (a : ℕ) → 2 ^ 52 ≤ a → value a ≡ digits a * 2 ^ (field a - 1)
 size-is a h = value-high a h ∙ ap (λ (m : ℕ). m * 2 ^ (field a - 1)) (add-comm (2 ^ 52) (a % 2 ^ 52))
 
--- the size's unit is that of document 01: 2 ^ 52 of them are the largest power of two not above it, and where it is less, the unit is 2 ^ -1074
+-- the size's unit is that of document 01: 2 ^ 52 of them are the largest power of two not above it, and where it is less, the
+-- unit is 2 ^ -1074
 pub unit-normal : (a : ℕ) → 2 ^ 52 ≤ a → (2 ^ 52 * 2 ^ (field a - 1) ≤ value a) × (value a < 2 ^ 53 * 2 ^ (field a - 1))
-unit-normal a h = rw (size-is a h) (mul-le-mul-right (2 ^ (field a - 1)) (omega arith), mul-lt-mul-of-pos-right (omega arith) (pow-pos (field a - 1)))
+unit-normal a h = rw (size-is a h) (
+  mul-le-mul-right (2 ^ (field a - 1)) (omega arith),
+  mul-lt-mul-of-pos-right (omega arith) (pow-pos (field a - 1)),
+)
 
 pub unit-subnormal : (a : ℕ) → a < 2 ^ 52 → (value a ≡ a) × (field a - 1 ≡ 0)
 unit-subnormal a h = (value-small a (omega arith), omega arith)
@@ -67,7 +72,8 @@ floor-below a h l =
     let i = field a - 1 in
     let q = 62 + (1022 - field a) in
     let e : i + q ≡ 9 + 1074 = omega arith in
-    whole-units (number a) (1022 - field a) (digits a * 2 ^ 9) (omega arith) (ap (λ (v : ℕ). v * 2 ^ q) (size-is a h) ∙ scale i q 9 e (digits a))
+    whole-units (number a) (1022 - field a) (digits a * 2 ^ 9) (omega arith)
+    (ap (λ (v : ℕ). v * 2 ^ q) (size-is a h) ∙ scale i q 9 e (digits a))
 
 -- ---- atan above 1: the inverse
 pub one-is : value one ≡ 2 ^ 1074

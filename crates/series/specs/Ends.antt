@@ -1,5 +1,5 @@
--- The answers where there is no enclosure (document 01, "What the leaves mean"): at the infinities, at NaN, and outside the ranges.
--- And atan at the infinities is the f64 nearest π/2. Assumes nothing.
+-- The answers where there is no enclosure (document 01, "What the leaves mean"): at the infinities, at NaN, and outside the
+-- ranges. And atan at the infinities is the f64 nearest π/2. Assumes nothing.
 use Prim.Native.Nat.{ℕ, _+_, _-_, _<_}
 use mathlib.Core.Path.{_≡_, refl, sym}
 use mathlib.Core.Bool.{true, false}
@@ -78,7 +78,8 @@ ln-1p-none x h = sym (cases.ln-1p-none x (toBits binary64 x) refl (omega arith) 
 pub ln-negative : (x : Float) → minus-zero < toBits binary64 x → ln x ≡ nan
 ln-negative x h = sym (cases.ln-past x (toBits binary64 x) refl (omega arith) (λ e. omega arith) (λ e. omega arith))
 
--- ---- nearest to π/2 = 8 atan(1/5) - 2 atan(1/239): it lies past the middle to the pattern below, and before the middle to the one above
+-- ---- nearest to π/2 = 8 atan(1/5) - 2 atan(1/239): it lies past the middle to the pattern below, and before the middle to the
+-- one above
 abbrev pub past-lower : Quotient
 past-lower = units 1075 (middle (half-pi-bits - 1) half-pi-bits + 1)
 

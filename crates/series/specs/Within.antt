@@ -1,5 +1,5 @@
--- THE THEOREMS (document 01, "What the leaves mean"): at every f64 of the ranges the answer lies within one unit of every enclosure,
--- whatever n. `Near` says what that is. And the answers where there is no enclosure. Assumes nothing.
+-- THE THEOREMS (document 01, "What the leaves mean"): at every f64 of the ranges the answer lies within one unit of every
+-- enclosure, whatever n. `Near` says what that is. And the answers where there is no enclosure. Assumes nothing.
 use Prim.Native.Nat.{ℕ, suc, _+_, _-_, _*_, _/_, _^_, _≤_, _<_}
 use mathlib.Core.Path.{_≡_, refl, sym, ap, _∙_, subst}
 use mathlib.Core.Bool.{true, false}
@@ -14,15 +14,18 @@ use Rattle.rounding.specs.Cut.{infinity, value}
 use Rattle.rounding.specs.Value.{value-lt}
 use Rattle.enclosure.specs.Quotient.{Quotient, units}
 use Rattle.enclosure.specs.Order.{≼-refl}
-use Rattle.enclosure.specs.Enclosure.{atan-lower, atan-upper, steep-lower, steep-upper, gain, gain-proper, loss, loss-proper, double-lower, double-upper}
+use Rattle.enclosure.specs.Enclosure.{atan-lower, atan-upper, steep-lower, steep-upper, gain, gain-proper, loss, loss-proper}
+use Rattle.enclosure.specs.Enclosure.{double-lower, double-upper}
 use Rattle.enclosure.specs.Enclosure.{ln-lower, ln-upper, ln-below-lower, ln-below-upper}
 use Rattle.enclosure.specs.Pieces as pieces
-use Rattle.enclosure.specs.Rules.{atan-answer, half-pi, steep-answer, T-answer, gain-seed, loss-seed, ln-answer, ln-below-answer, gain-answer, loss-answer}
+use Rattle.enclosure.specs.Rules.{atan-answer, half-pi, steep-answer, T-answer, gain-seed, loss-seed, ln-answer, ln-below-answer}
+use Rattle.enclosure.specs.Rules.{gain-answer, loss-answer}
 use Rattle.enclosure.specs.Atan.{Floor, atan-near}
 use Rattle.enclosure.specs.Answers.{steep-within, double-near, within-same}
 use Rattle.enclosure.specs.Answers as answers
 use Rattle.enclosure.specs.Logarithm.{Seed}
-use Rattle.enclosure.specs.Sizes.{atan-size, atan-fits, steep-size, T-size, T-fits, gain-size, loss-size, above-one-size, below-one-size}
+use Rattle.enclosure.specs.Sizes.{atan-size, atan-fits, steep-size, T-size, T-fits, gain-size, loss-size, above-one-size}
+use Rattle.enclosure.specs.Sizes.{below-one-size}
 use Rattle.enclosure.specs.Tiny as tiny
 use Rattle.series.specs.Pattern.{size-bits, field, digits}
 use Rattle.series.specs.Near.{signed, number, Near}
@@ -36,7 +39,8 @@ use Rattle.series.specs.Cases as cases
 use Rattle.series.specs.Exponents.{full-low, full-high, digits-most, answer-fits, answer-size, below-fits, below-size}
 use Rattle.series.specs.Rounded.{rounded-near}
 use Rattle.series.specs.Names.{signed-bits}
-use Rattle.series.specs.Arguments.{floor-below, whole-units, one-is, above-one, inverse-is, inverse-none, seed-above, seed-below}
+use Rattle.series.specs.Arguments.{floor-below, whole-units, one-is, above-one, inverse-is, inverse-none, seed-above}
+use Rattle.series.specs.Arguments.{seed-below}
 use Rattle.series.specs.Small.{nothing, cube-small, square-small, quarter}
 
 -- ---- another name for the same answer
@@ -76,7 +80,8 @@ module _ (s a : ℕ) (sign : s ≤ 1) (small : a < infinity) where
   atan-rounded : (j tau : ℕ) → j ≤ 100 → tau ≤ 2 ^ 62 → 2 ^ 61 ≤ tau → Floor t j tau
       → Near s (round binary64 (eqb s 1) (atan-answer j tau) (2 ^ (62 + j))) (atan-lower t) (atan-upper t)
   atan-rounded j tau few high low floor =
-      rounded-near (atan-answer j tau) (62 + j) (omega (arith, atan-size j tau high low)) (omega (arith, atan-fits j tau high)) (omega arith)
+      rounded-near (atan-answer j tau) (62 + j) (omega (arith, atan-size j tau high low)) (omega (arith, atan-fits j tau high))
+      (omega arith)
       s 10 30 sign (omega arith) (omega arith) (atan-near t j tau floor)
 
   pub atan-within-tiny : a < arc.tiny → Near s (atan x) (atan-lower t) (atan-upper t)
@@ -92,7 +97,8 @@ module _ (s a : ℕ) (sign : s ≤ 1) (small : a < infinity) where
       let j = 1022 - field a in
       let case = cases.atan-below-one x b is (rw size-same h) (rw size-same l) in
       let named : arc.below-one (eqb s 1) a ≡ atan x = rw (size-same, sign-same) at case in
-      near-is (sym named) (atan-rounded j (digits a * 2 ^ 9) (omega arith) (omega arith) (omega arith) (floor-below a (omega arith) l))
+      near-is (sym named) (atan-rounded j (digits a * 2 ^ 9) (omega arith) (omega arith) (omega arith)
+      (floor-below a (omega arith) l))
 
   atan-within-one : a ≡ one → Near s (atan x) (atan-lower t) (atan-upper t)
   atan-within-one e =
@@ -117,9 +123,11 @@ module _ (s a : ℕ) (sign : s ≤ 1) (small : a < infinity) where
     abbrev tau : ℕ
     tau = 2 ^ 114 / digits a / 2 ^ (field a - 1023)
 
-    steep-rounded : Near s (round binary64 (eqb s 1) (steep-answer (t .den * 2 ^ 62 / t .num)) (2 ^ 62)) (steep-lower t proper) (steep-upper t proper)
+    steep-rounded : Near s (round binary64 (eqb s 1) (steep-answer (t .den * 2 ^ 62 / t .num)) (2 ^ 62)) (steep-lower t proper)
+        (steep-upper t proper)
     steep-rounded =
-        rounded-near (steep-answer (t .den * 2 ^ 62 / t .num)) 62 (le-trans few (steep-size t proper)) (steep-word (t .den * 2 ^ 62 / t .num))
+        rounded-near (steep-answer (t .den * 2 ^ 62 / t .num)) 62 (le-trans few (steep-size t proper))
+        (steep-word (t .den * 2 ^ 62 / t .num))
         (omega arith)
         s 30 11 sign (omega arith) (omega arith) (steep-within t proper)
       where
@@ -130,7 +138,8 @@ module _ (s a : ℕ) (sign : s ≤ 1) (small : a < infinity) where
     steep-is : round binary64 (eqb s 1) (steep-answer (t .den * 2 ^ 62 / t .num)) (2 ^ 62) ≡ atan x
     steep-is = elim (lt-or-le a far) [
       | inl l ↦
-          let case = cases.atan-above-one x b is (rw size-same (omega arith)) (rw size-same (λ e. omega arith)) (rw size-same l) in
+          let case =
+          cases.atan-above-one x b is (rw size-same (omega arith)) (rw size-same (λ e. omega arith)) (rw size-same l) in
           let named : arc.above-one (eqb s 1) a ≡ atan x = rw (size-same, sign-same) at case in
           ap (λ (n : ℕ). round binary64 (eqb s 1) (steep-answer n) (2 ^ 62)) (inverse-is a above) ∙ named
       | inr l ↦
@@ -172,7 +181,8 @@ module _ (a : ℕ) (small : a ≤ last) where
       sym (cases.ln-1p-tiny (signed s a) c (signed-bits s a sign number-below) (rw e h))
 
   -- THEOREM
-  pub ln-1p-within-above : Near 0 (ln-1p (signed 0 a)) (double-lower (gain (number a))) (double-upper (gain (number a)) (gain-proper (number a)))
+  pub ln-1p-within-above : Near 0 (ln-1p (signed 0 a)) (double-lower (gain (number a)))
+      (double-upper (gain (number a)) (gain-proper (number a)))
   ln-1p-within-above = elim (lt-or-le a one-plus.tiny) [
     | inl l ↦ record {
       bits = a;
@@ -185,7 +195,8 @@ module _ (a : ℕ) (small : a ≤ last) where
         let some = gain-size (1022 - field a) (digits a) (range .low) in
         let j = 1022 - field a in
         near-is (sym (ln-1p-is 0 (omega arith) l))
-        (double-rounded 0 (omega arith) (gain (number a)) (gain-proper (number a)) j (gain-seed j (digits a)) (seed-above a l small)
+        (double-rounded 0 (omega arith) (gain (number a)) (gain-proper (number a)) j (gain-seed j (digits a))
+        (seed-above a l small)
         (omega arith) some)
   ]
 
@@ -206,7 +217,8 @@ module _ (a : ℕ) (small : a ≤ last) where
         let j = 1022 - field a in
         let r = loss (number a) below-one in
         near-is (sym (ln-1p-is 1 (omega arith) l))
-        (double-rounded 1 (omega arith) r (loss-proper (number a) below-one) j (loss-seed j (digits a)) (seed-below a l small below-one)
+        (double-rounded 1 (omega arith) r (loss-proper (number a) below-one) j (loss-seed j (digits a))
+        (seed-below a l small below-one)
         (omega arith) some)
   ]
 

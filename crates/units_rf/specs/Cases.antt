@@ -1,6 +1,5 @@
--- RC's closed forms in two runs, for a prefix of any kind: RC with y above zero has the prefix one, RC with y below zero a root that the two runs
--- share.
--- Of atan and the logarithms only bounds are used.
+-- RC's closed forms in two runs, for a prefix of any kind: RC with y above zero has the prefix one, RC with y below zero a root
+-- that the two runs share. Of atan and the logarithms only bounds are used.
 use mathlib.Core.Path.{_≡_, refl, sym, ap, ap₂, _∙_, subst}
 use mathlib.Core.Logic.{_⊎_, inl, inr}
 use Prim.Native.Nat.{ℕ, _+_, _-_, _*_, _^_, _≤_}
@@ -67,14 +66,18 @@ unfolding div
 div-nan w = refl
 
 -- of two numbers above zero that are neither equal nor in order, the second is below
-flip : {k : ℕ} {x y x' y' : Float} → Two binary64 k wideK x x' → Two binary64 k wideK y y' → T (not (eq x y)) → T (not (lt x y)) → T (lt y x)
+flip : {k : ℕ} {x y x' y' : Float} → Two binary64 k wideK x x' → Two binary64 k wideK y y' → T (not (eq x y)) → T (not (lt x y))
+    → T (lt y x)
 flip {x = x} {y} a b e l =
     let S : a .s ≡ false = a .in-first .sign tt in
     let S' : b .s ≡ false = b .in-first .sign tt in
-    let h = nltb→le (a .m) (b .m) (subst (λ z. T (not z)) (lt-units (a .first) (b .first) ∙ ap₂ (λ s t. below s (a .m) t (b .m)) S S') l) in
+    let h = nltb→le (a .m) (b .m) (subst (λ z. T (not z))
+    (lt-units (a .first) (b .first) ∙ ap₂ (λ s t. below s (a .m) t (b .m)) S S') l) in
     let g = subst (λ z. T (not z)) (eq-units (a .first) (b .first) ∙ ap₂ (λ s t. level s (a .m) t (b .m)) S S') e in
-    let n : b .m ≡ a .m → ⊥ = λ p. T-not (level false (a .m) false (b .m)) g (and-i (eqb (a .m) (b .m)) true (eq→eqb (sym p)) tt) in
-    subst T (sym (lt-units (b .first) (a .first) ∙ ap₂ (λ s t. below s (b .m) t (a .m)) S' S)) (lt→ltb (b .m) (a .m) (lt-of-le-ne h n))
+    let n : b .m ≡ a .m → ⊥ = λ p. T-not (level false (a .m) false (b .m)) g
+    (and-i (eqb (a .m) (b .m)) true (eq→eqb (sym p)) tt) in
+    subst T (sym (lt-units (b .first) (a .first) ∙ ap₂ (λ s t. below s (b .m) t (a .m)) S' S))
+    (lt→ltb (b .m) (a .m) (lt-of-le-ne h n))
 
 -- ---- floats of no sign, and a sum of two
 half-is : Is binary64 half false (2 ^ 1073)
@@ -109,14 +112,16 @@ module _ {k : ℕ} where
   divides x = widen-two x tt
 
   -- the root of (y - x) / z, the same in both runs: floats that differ do so by a part in 2 ^ 55
-  ratio-root : {x y z x' y' z' : Float} (X : Two binary64 k wideK x x') (Y : Two binary64 k wideK y y') (Z : Two binary64 k wideK z z') → T (lt x y)
+  ratio-root : {x y z x' y' z' : Float} (X : Two binary64 k wideK x x') (Y : Two binary64 k wideK y y')
+      (Z : Two binary64 k wideK z z') → T (lt x y)
       → Z .m ≤ Y .m → Z .n ≤ Y .n → Two binary64 k ratioK (root ((y ⊖ x) ⊘ z)) (root ((y' ⊖ x') ⊘ z'))
   unfolding gapK gapOk divK divOk rootK rootOk raiseK within div-two
   ratio-root X Y Z t p q =
       let G = gap-two X Y t tt tt in
       let g = gap-units X Y t tt tt in
       let D = div-two G Z tt in
-      let at : (d d' w : ℕ) → d ≡ d' → 2 ^ 1019 ≤ near binary64 (d' * 2 ^ low binary64) w → 2 ^ 1019 ≤ near binary64 (d * 2 ^ low binary64) w =
+      let at : (d d' w : ℕ) → d ≡ d' → 2 ^ 1019 ≤ near binary64 (d' * 2 ^ low binary64) w
+      → 2 ^ 1019 ≤ near binary64 (d * 2 ^ low binary64) w =
       λ d d' w e. subst (λ z. 2 ^ 1019 ≤ near binary64 (z * 2 ^ low binary64) w) (sym e) in
       widen-two
       (root-two
@@ -182,7 +187,8 @@ module _ {k : ℕ} where
     unfolding atEqual
     at-equal X = inr (C .alone pre (root-wide X))
 
-    by-atan : {x y x' y' : Float} → Two binary64 k wideK x x' → Two binary64 k wideK y y' → T (lt x y) → Fair k R (byAtan p x y) (byAtan p' x' y')
+    by-atan : {x y x' y' : Float} → Two binary64 k wideK x x' → Two binary64 k wideK y y' → T (lt x y)
+        → Fair k R (byAtan p x y) (byAtan p' x' y')
     unfolding byAtan gapOk
     by-atan X Y t =
         let g = gap-units X Y t tt tt in
@@ -204,7 +210,8 @@ module _ {k : ℕ} where
         (leaf-two ln ln-leaf refl refl refl (ln-argument X Y t h h'))
         (divides (gap-root Y X t))
 
-    pub cases-fair : {x y x' y' : Float} → eq x zero ≡ eq x' zero → (T (not (eq x zero)) → Two binary64 k wideK x x') → Two binary64 k wideK y y'
+    pub cases-fair : {x y x' y' : Float} → eq x zero ≡ eq x' zero → (T (not (eq x zero)) → Two binary64 k wideK x x')
+        → Two binary64 k wideK y y'
         → Fair k R (rcCases p x y) (rcCases p' x' y')
     unfolding rcCases
     cases-fair {x} {y} {x'} {y'} e X Y =

@@ -1,6 +1,6 @@
 -- atan, ln and the spread ln(1 + a) - ln(1 - a) as RC's two runs take them: at a number from 2 ^ -90 to 2 ^ 71, ln from 9/8 on,
--- the value is a NaN or lies from 2 ^ -104 to 2 ^ 16. Such a bound is a leaf's whole rule, since its argument is the same float in
--- both runs.
+-- the value is a NaN or lies from 2 ^ -104 to 2 ^ 16. Such a bound is a leaf's whole rule, since its argument is the same float
+-- in both runs.
 use mathlib.Core.Path.{refl, subst}
 use mathlib.Core.Logic.{inl, inr}
 use Prim.Native.Nat.{ℕ, _*_, _^_, _≤_}
@@ -67,4 +67,5 @@ ln-leaf x v =
     (lt-of-lt-of-le (lit< tt) from)))
 
 pub spread-leaf : Leaf binary64 spread ratioK leafK
-spread-leaf x v = elim (spread-between (plain v) (floor-le (v .within)) (far v)) [ inl e ↦ inl e | inr w ↦ inr (leaf-value (lit≤ tt) w) ]
+spread-leaf x v = elim (spread-between (plain v) (floor-le (v .within)) (far v))
+    [ inl e ↦ inl e | inr w ↦ inr (leaf-value (lit≤ tt) w) ]

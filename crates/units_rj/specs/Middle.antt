@@ -1,4 +1,5 @@
--- RC(1, b) for a b above zero up to 2 ^ 12 that is the same in both runs: no number, or of a bounded size. Only bounds are at stake. Assumes nothing.
+-- RC(1, b) for a b above zero up to 2 ^ 12 that is the same in both runs: no number, or of a bounded size. Only bounds are at
+-- stake. Assumes nothing.
 use mathlib.Core.Path.{_≡_, refl, sym, ap, _∙_, subst}
 use mathlib.Core.Logic.{_⊎_, inl, inr}
 use Prim.Native.Nat.{ℕ, _*_, _^_, _≤_, _<_, max}
@@ -61,7 +62,8 @@ divisorK = record { any = false; zer = false; lo = 2 ^ 1047; hi = 2 ^ 1083; g = 
 over : {k : ℕ} {v w : Float} → ((v ≡ nan) × (v ≡ nan)) ⊎ Two binary64 k leafK v v → Two binary64 k divisorK w w
     → Fair k termK (one ⊗ v ⊘ w) (one ⊗ v ⊘ w)
 unfolding mulK mulOk divK divOk within litOk ofBits
-over {w = w} (inl z) D = let g = ap (λ a. one ⊗ a ⊘ w) (z .0) ∙ ap (λ a. a ⊘ w) (mul-nan binary64 one) ∙ nan-div binary64 w in inl (g, g)
+over {w = w} (inl z) D = let g = ap (λ a. one ⊗ a ⊘ w) (z .0) ∙ ap (λ a. a ⊘ w) (mul-nan binary64 one) ∙ nan-div binary64 w in
+    inl (g, g)
 over (inr F) D = inr (widen-two (div-two (mul-two (lit-two one tt) F tt) D tt) tt)
 
 module _ {k : ℕ} {d : Float} (D : Two binary64 k differenceK d d) where
@@ -89,7 +91,8 @@ module _ {k : ℕ} {b : Float} (B : Two binary64 k middleK b b) where
   one-is = lit-is binary64 one tt
 
   recast : (lo hi : ℕ) → lo ≤ m → m ≤ hi → Two binary64 k (betweenK lo hi) b b
-  recast lo hi p q = recast-two (betweenK lo hi) B refl refl refl (record { sign = λ t. B .in-first .sign tt; from = inr p; to = q })
+  recast lo hi p q = recast-two (betweenK lo hi) B refl refl refl
+      (record { sign = λ t. B .in-first .sign tt; from = inr p; to = q })
 
   -- b above 1
   above-one : T (lt one b) → Two binary64 k differenceK (b ⊖ one) (b ⊖ one)
@@ -104,7 +107,8 @@ module _ {k : ℕ} {b : Float} (B : Two binary64 k middleK b b) where
   below-one t =
       let l : m < 2 ^ 1074 = ltb→lt m (2 ^ 1074) (subst T (lt-units B-is one-is) t) in
       elim (lt-or-le m (2 ^ 1073)) [
-        | inl h ↦ widen-two (nudge-two (lit-two one tt) (neg-two (recast (2 ^ 870) (2 ^ 1073) (floor-le (B .in-first)) (le-of-lt h))) tt) tt
+        | inl h ↦ widen-two (nudge-two (lit-two one tt)
+            (neg-two (recast (2 ^ 870) (2 ^ 1073) (floor-le (B .in-first)) (le-of-lt h))) tt) tt
         | inr h ↦ widen-two (gap-two (recast (2 ^ 1073) (2 ^ 1074) h (le-of-lt l)) (lit-two one tt) t tt tt) tt
       ]
 
@@ -122,7 +126,8 @@ module _ {k : ℕ} {b : Float} (B : Two binary64 k middleK b b) where
 
   by-ln1p : T (lt b one) → Fair k termK (byLn1p one one b) (byLn1p one one b)
   unfolding byLn1p mulK mulOk within litOk ofBits
-  by-ln1p t = let D = below-one t in over (leaf-two spread spread-leaf refl refl refl (ratio D)) (widen-two (mul-two (lit-two two tt) (side D) tt) tt)
+  by-ln1p t = let D = below-one t in over (leaf-two spread spread-leaf refl refl refl (ratio D))
+      (widen-two (mul-two (lit-two two tt) (side D) tt) tt)
 
   -- b, over 1 not above 1/2, is not 3/4
   quarters : T (not (lt half (b ⊘ one))) → m ≤ 3 * 2 ^ 1072
@@ -170,7 +175,8 @@ module _ {k : ℕ} {b : Float} (B : Two binary64 k middleK b b) where
   unfolding rcSteps
   steps =
       choose (Fair k termK) (lt b zero) (lt b zero) refl
-      (λ t. absurd (let h = ltb→lt m 0 (subst T (lt-units B-is (zero-is binary64)) t) in let r : ⊥ = omega arith in r)) (λ t. cases)
+      (λ t. absurd (let h = ltb→lt m 0 (subst T (lt-units B-is (zero-is binary64)) t) in let r : ⊥ = omega arith in r))
+      (λ t. cases)
 
   size : Size (scaleOf2 one b)
   size = record {

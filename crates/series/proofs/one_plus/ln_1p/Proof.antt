@@ -20,7 +20,8 @@ returns-2 c =
 
 returns-3 : tie.Need-returns-3
 unfolding ofBits div
-returns-3 c = let a = c .before .before in ln-1p-none (a .before .args .x) (a .split .result) (a .split .ensures) (omega arith) (omega arith)
+returns-3 c = let a = c .before .before in ln-1p-none (a .before .args .x) (a .split .result) (a .split .ensures) (omega arith)
+    (omega arith)
 
 pub ln-1p-spec : {M : Type 1} → statement M
 ln-1p-spec =

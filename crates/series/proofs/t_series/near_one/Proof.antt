@@ -34,7 +34,8 @@ t-sum-requires c κs =
     subst (λ (g : ℕ). Seeded (a .args .j) g) (sym (the-seed c))
     (seeded (eqb (a .args .s) 1) (a .args .s) (a .args .j) (a .args .m) (eqb-true (a .args .s) 1) (a .pre .1))
 
-the-sum : (c : tie.After-t-sum) → let a = c .before .before .before .args in c .t-sum .result ≡ T-answer (a .j) (seed (eqb (a .s) 1) (a .j) (a .m))
+the-sum : (c : tie.After-t-sum) → let a = c .before .before .before .args in
+    c .t-sum .result ≡ T-answer (a .j) (seed (eqb (a .s) 1) (a .j) (a .m))
 the-sum c = c .t-sum .ensures ∙ ap (λ (g : ℕ). T-answer (c .before .before .before .args .j) g) (the-seed (c .before))
 
 scaled-requires : tie.Need-scaled-requires
