@@ -71,7 +71,8 @@ module _ (log log1p : Float → Float) (A : Agrees log) (B : Agrees1p log1p) whe
 pub rc-stays : (x y : Float) → T (fits binary64 x) → T (fits binary64 y) → rcStepsWith ln-before ln-1p x y ≡ rcSteps x y
 rc-stays = rc-asks ln-before ln-1p before-agrees (λ a h. refl)
 
-pub unchecked-stays : (x y : Float) → T (fits binary64 x) → T (fits binary64 y) → rcUncheckedWith ln-before ln-1p x y ≡ rcUnchecked x y
+pub unchecked-stays : (x y : Float) → T (fits binary64 x) → T (fits binary64 y)
+    → rcUncheckedWith ln-before ln-1p x y ≡ rcUnchecked x y
 unchecked-stays = unchecked-asks ln-before ln-1p before-agrees (λ a h. refl)
 
 pub rc1p-stays : (y : Float) → T (fits binary64 y) → rc1pWith ln-before ln-1p y ≡ rc1p y
