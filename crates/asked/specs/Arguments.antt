@@ -13,7 +13,7 @@ use lib.Pow.{pow-add, pow-pos}
 use lib.Ieee.{Float, binary64, low, round, neg, sub, le, ofBits}
 use lib.Ieee.Order.{round-mono}
 use lib.Ieee.Scale.{overflow}
-use Rattle.rounding.specs.Cut.{value, infinity}
+use Rattle.rounding.specs.Cut.{value}
 use Rattle.binary64.specs.Operators.{_⊕_, _⊖_, _⊘_}
 use Rattle.root.specs.Root.{root, rootOf}
 use Rattle.root.specs.Laws.{root-number}

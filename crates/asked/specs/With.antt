@@ -75,6 +75,6 @@ module _ (log log1p : Float → Float) where
       (cond (lt (neg half) y) (byLogs1pWith y)
       (cond (lt y (neg one)) (byRc1pWith y) (byLnOf1pWith y)))))
 
--- document 01's ln: no answer below 2
+-- document 01's ln: "from 2 up .. ln(+infinity) is +infinity; all else gives NaN"
 unfoldable pub ln-before : Float → Float
 ln-before a = cond (lt a two) nan (ln a)
