@@ -2,25 +2,23 @@
 -- keeps the order, and each bound is an f64, so that no error is estimated. Assumes nothing.
 use mathlib.Core.Path.{_≡_, refl, sym, subst}
 use mathlib.Core.Logic.{inl, inr}
-use mathlib.Core.List.{[], _∷_}
-use mathlib.Core.Bool.{true, false, cond}
+use mathlib.Core.Bool.{Bool, true, false, cond}
 use Prim.Native.Nat.{ℕ, _+_, _-_, _*_, _^_, _≤_, _<_}
-use native.Mathlib.Nat.{le-trans, le-of-eq, le-of-lt, lt-of-lt-of-le, lt-of-le-of-lt, add-le-add, mul-le-mul-right, eq-zero-or-pos, zero-lt-suc}
+use native.Mathlib.Nat.{le-trans, le-of-eq, le-of-lt, lt-of-lt-of-le, lt-of-le-of-lt, eq-zero-or-pos, zero-lt-suc}
+use native.Mathlib.Nat.{add-le-add, mul-le-mul-right}
 use native.Mathlib.Omega.{arith}
 use borrow.Author.Tests.{le-ltb}
 use lib.Dec.{T, lit<, lit≤}
 use lib.Pow.{pow-add, pow-pos}
 use lib.Ieee.{Float, binary64, low, round, neg, sub, le, ofBits}
 use lib.Ieee.Order.{round-mono}
-use lib.Ieee.Scale.{finite, overflow}
-use Rattle.algebra.specs.Ring.{con, _:*_, _≈_, _⊩_, _times_≼_, below}
-use Rattle.rounding.specs.Cut.{value, infinity}
-use Rattle.binary64.specs.Leaves.{absolute}
+use lib.Ieee.Scale.{overflow}
+use Rattle.rounding.specs.Cut.{value}
 use Rattle.binary64.specs.Operators.{_⊕_, _⊖_, _⊘_}
 use Rattle.root.specs.Root.{root, rootOf}
 use Rattle.root.specs.Laws.{root-number}
 use Rattle.between.specs.Between.{form-of, div-is}
-use Rattle.scaling.specs.Near.{near, near-mono, near-exact, near-whole}
+use Rattle.scaling.specs.Near.{near, near-exact, near-whole}
 use Rattle.scaling.specs.Units.{Is, add-units, div-units, neg-units}
 use Rattle.scaling.specs.Kind.{near-le}
 use Rattle.scaling.specs.Last.{digits-of, is-under}
@@ -30,8 +28,9 @@ use Rattle.scaling.specs.Plain.{units-le}
 use Rattle.scaling.specs.Rounded.{units-exact}
 use Rattle.scaling.specs.Root.{rootUnits, root-mono, root-at, root-value}
 use Rattle.carlson.specs.Constants.{one, two, half}
-use Rattle.asked.specs.With.{three-quarters}
-use Rattle.asked.specs.Lost.{no-more, over-nothing}
+use Rattle.asked.specs.Twice.{half-most}
+use Rattle.asked.specs.With.{three-quarters, FromTwo, Within}
+use Rattle.asked.specs.Lost.{over-nothing, lost-two}
 
 -- ---- roots
 root-some : (n : ℕ) → 0 < n → 0 < rootUnits n
@@ -47,12 +46,12 @@ root-exact =
     units-exact (rootOf (9 * 2 ^ 1070) (2 ^ 1074)) (root-number (9 * 2 ^ 1070) (2 ^ 1074) (pow-pos 1074)) 0x3FE8_0000_0000_0000
     (lit< tt) refl
 
-pub root-half : (n : ℕ) → n ≤ 2 ^ 1073 → rootUnits n ≤ 3 * 2 ^ 1072
+root-half : (n : ℕ) → n ≤ 2 ^ 1073 → rootUnits n ≤ 3 * 2 ^ 1072
 root-half n h = le-trans (root-mono n (9 * 2 ^ 1070) (le-trans h (lit≤ tt))) (le-of-eq root-exact)
 
 -- ---- sums and differences
 -- of a number above zero and one below
-pub fall-units : {x y : Float} {X Y : ℕ} → Is binary64 x false X → Is binary64 y true Y → Y ≤ X
+fall-units : {x y : Float} {X Y : ℕ} → Is binary64 x false X → Is binary64 y true Y → Y ≤ X
     → Is binary64 (x ⊕ y) false (near binary64 (X - Y) 1)
 fall-units {x} {y} {X} {Y} Ix Iy h =
     let e = le-ltb X Y h in
@@ -62,12 +61,12 @@ fall-units {x} {y} {X} {Y} Ix Iy h =
     subst (λ b. Is binary64 (x ⊕ y) (cond b true false) (near binary64 (cond b (Y - X) (X - Y)) 1)) e
     (add-units Ix Iy (subst (λ b. near binary64 (cond b (Y - X) (X - Y)) 1 < overflow binary64) (sym e) o))
 
-pub less-units : {x y : Float} {X Y : ℕ} → Is binary64 x false X → Is binary64 y false Y → Y ≤ X
+less-units : {x y : Float} {X Y : ℕ} → Is binary64 x false X → Is binary64 y false Y → Y ≤ X
     → Is binary64 (x ⊖ y) false (near binary64 (X - Y) 1)
 unfolding sub
 less-units Ix Iy h = fall-units Ix (neg-units Iy) h
 
-pub sum-units : {x y : Float} {X Y : ℕ} → Is binary64 x false X → Is binary64 y false Y → X ≤ 2 ^ 1586 → Y ≤ 2 ^ 1586
+sum-units : {x y : Float} {X Y : ℕ} → Is binary64 x false X → Is binary64 y false Y → X ≤ 2 ^ 1586 → Y ≤ 2 ^ 1586
     → Is binary64 (x ⊕ y) false (near binary64 (X + Y) 1)
 sum-units {X = X} {Y} Ix Iy h k =
     add-units Ix Iy
@@ -82,16 +81,21 @@ two-is : round binary64 false 2 1 ≡ two
 unfolding round ofBits
 two-is = refl
 
-pub twice-over : {x y : Float} {X Y : ℕ} → Is binary64 x false X → Is binary64 y false Y → 0 < Y → Y * 2 ≤ X → T (le two (x ⊘ y))
+is-true : (b : Bool) → T b → b ≡ true
+is-true true t = refl
+is-true false t = absurd t
+
+twice-over : {x y : Float} {X Y : ℕ} → Is binary64 x false X → Is binary64 y false Y → 0 < Y → Y * 2 ≤ X → FromTwo (x ⊘ y)
 twice-over {x} {y} {X} {Y} Ix Iy pos h =
     let pos' : 0 < X = omega arith in
     let h' : 2 * Y ≤ X * 1 = omega arith in
-    subst (λ z. T (le two z)) (sym (div-is (form-of x X pos' (Ix .val)) (form-of y Y pos (Iy .val)) pos))
-    (subst (λ z. T (le z (round binary64 false X Y))) two-is (round-mono binary64 2 1 X Y (zero-lt-suc 0) pos h'))
+    λ f. is-true (le two (x ⊘ y))
+    (subst (λ z. T (le two z)) (sym (div-is (form-of x X pos' (Ix .val)) (form-of y Y pos (Iy .val)) pos))
+    (subst (λ z. T (le z (round binary64 false X Y))) two-is (round-mono binary64 2 1 X Y (zero-lt-suc 0) pos h')))
 
 -- ---- RC's ln: (√x + √(x - y)) / √y, where x is 2 y or more
 module _ {x y : Float} {X Y : ℕ} (Ix : Is binary64 x false X) (Iy : Is binary64 y false Y) where
-  pub ln-least : 0 < Y → Y * 2 ≤ X → T (le two ((root x ⊕ root (x ⊖ y)) ⊘ root y))
+  pub ln-least : 0 < Y → Y * 2 ≤ X → FromTwo ((root x ⊕ root (x ⊖ y)) ⊘ root y)
   ln-least pos h =
       let l : Y ≤ X = omega arith in
       let d : Y ≤ X - Y = omega arith in
@@ -114,13 +118,8 @@ module _ {x y : Float} {X Y : ℕ} (Ix : Is binary64 x false X) (Iy : Is binary6
       let d : (X - Y) * 2 ^ 1 ≤ X = omega arith in
       let g : G * 2 ≤ X = le-trans (le-of-eq (sym (near-whole binary64 (X - Y) 1)))
       (le-trans (near-le binary64 1 (zero-lt-suc 0) d) (le-of-eq (on-grid (digits-of Ix)))) in
-      let most : near binary64 (G * 2 ^ low binary64) X ≤ 2 ^ 1073 =
-      le-trans (near-mono binary64 (G * 2 ^ low binary64) X (1 * 2 ^ 1073 * 1) 1 pos (zero-lt-suc 0) (cross X G g))
-      (le-of-eq (near-exact binary64 1 1073 1 (zero-lt-suc 0) (lit< tt))) in
+      let most = half-most X G pos g in
       (near binary64 (G * 2 ^ low binary64) X, div-units D Ix pos (lt-of-le-of-lt most (lit< tt)), most)
-    where
-      cross : (X G : ℕ) → G * 2 ≤ X → G * 2 ^ 1074 * 1 ≤ 2 ^ 1073 * X
-      cross = below 2 (λ X G. (con (2 ^ 1073) times G :* con 2 ≼ X) ∷ [] ⊩ G :* con (2 ^ 1074) :* con 1 ≈ con (2 ^ 1073) :* X) tt
 
 -- ---- constants
 pub half-is : Is binary64 half false (2 ^ 1073)
@@ -141,11 +140,13 @@ most = lit≤ tt
 
 -- the root of a half or less, and its negative
 pub root-within : {x : Float} {X : ℕ} → Is binary64 x false X → X ≤ 2 ^ 1073
-    → T (le (absolute (root x)) three-quarters) × T (le (absolute (neg (root x))) three-quarters)
+    → Within (root x) × Within (neg (root x))
 root-within {X = X} Ix h =
     let R = root-value Ix in
-    let l : rootUnits X ≤ litN binary64 three-quarters = le-trans (root-half X h) most in
-    (units-le (abs-units R) three-quarters-is l, units-le (abs-units (neg-units R)) three-quarters-is l)
+    let l : rootUnits X ≤ litN binary64 three-quarters = le-trans (root-half X h) most in (
+      λ f. is-true _ (units-le (abs-units R) three-quarters-is l),
+      λ f. is-true _ (units-le (abs-units (neg-units R)) three-quarters-is l),
+    )
 
 -- ---- the helper's ln: (1 + √-y) / √(1 + y) for y from -1 to -1/2, at least 3/2 over 3/4. At -1 it is the infinity.
 module _ {y : Float} {Y : ℕ} (Iy : Is binary64 y true Y) (l : 2 ^ 1073 ≤ Y) (h : Y ≤ 2 ^ 1074) where
@@ -163,8 +164,8 @@ module _ {y : Float} {Y : ℕ} (Iy : Is binary64 y true Y) (l : 2 ^ 1073 ≤ Y) 
       rest : (a b y : ℕ) → b ≡ 2 * a → a ≤ y → b - y ≤ 1 * a * 1
       rest a b y e h = omega arith
 
-  pub helper-least : finite ((one ⊕ root (neg y)) ⊘ root (one ⊕ y)) ≡ true → T (le two ((one ⊕ root (neg y)) ⊘ root (one ⊕ y)))
-  helper-least f =
+  pub helper-least : FromTwo ((one ⊕ root (neg y)) ⊘ root (one ⊕ y))
+  helper-least =
       let N = root-value (neg-units Iy) in
       let S = sum-units one-is N (lit≤ tt) (root-most Y (is-under Iy)) in
       let r : 2 ^ 1073 ≤ rootUnits Y =
@@ -173,9 +174,10 @@ module _ {y : Float} {Y : ℕ} (Iy : Is binary64 y true Y) (l : 2 ^ 1073 ≤ Y) 
       le-trans (le-of-eq (sym (near-exact binary64 3 1073 1 (zero-lt-suc 0) (lit< tt))))
       (near-le binary64 1 (zero-lt-suc 0) (sum (2 ^ 1073) (2 ^ 1074) (rootUnits Y) (pow-add 2 1 1073) r)) in
       elim (eq-zero-or-pos (rootUnits W)) [
-        | inl z ↦ absurd (no-more ((one ⊕ root (neg y)) ⊘ root (one ⊕ y)) (over-nothing (one ⊕ root (neg y)) (subst (Is binary64 (root (one ⊕ y)) false) z under-is)) f)
+        | inl z ↦ lost-two _ (over-nothing (one ⊕ root (neg y)) (subst (Is binary64 (root (one ⊕ y)) false) z under-is))
         | inr p ↦
-            twice-over S under-is p (le-trans (mul-le-mul-right 2 under-most) (le-trans (lit≤ {m = 3 * 2 ^ 1072 * 2} {n = 3 * 2 ^ 1073} tt) least))
+            twice-over S under-is p
+            (le-trans (mul-le-mul-right 2 under-most) (le-trans (lit≤ {m = 3 * 2 ^ 1072 * 2} {n = 3 * 2 ^ 1073} tt) least))
       ]
     where
       sum : (a b r : ℕ) → b ≡ 2 * a → a ≤ r → 3 * a * 1 ≤ b + r

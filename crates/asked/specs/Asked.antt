@@ -1,5 +1,6 @@
--- RC and RJ's helper ask ln at no finite number below 2, and ln_1p at none outside -3/4 to 3/4: any other functions that agree
--- with these there give the same answers. So a wider ln changes none (document 02, 2026-02). Assumes nothing.
+-- "RC and RJ reach no other finite argument" (document 01): RC and RJ's helper ask ln at no finite number below 2, and ln_1p at
+-- none outside -3/4 to 3/4. Any other functions that agree with these there give the same answers, so that with a wider ln
+-- "their answers stay, as they never asked there" (document 02, 2026-02). Assumes nothing.
 use mathlib.Core.Path.{_≡_, refl, ap, ap₂}
 use lib.Dec.{T}
 use lib.Ieee.{Float, binary64, neg, lt, le, eq, fits}
@@ -71,7 +72,8 @@ module _ (log log1p : Float → Float) (A : Agrees log) (B : Agrees1p log1p) whe
 pub rc-stays : (x y : Float) → T (fits binary64 x) → T (fits binary64 y) → rcStepsWith ln-before ln-1p x y ≡ rcSteps x y
 rc-stays = rc-asks ln-before ln-1p before-agrees (λ a h. refl)
 
-pub unchecked-stays : (x y : Float) → T (fits binary64 x) → T (fits binary64 y) → rcUncheckedWith ln-before ln-1p x y ≡ rcUnchecked x y
+pub unchecked-stays : (x y : Float) → T (fits binary64 x) → T (fits binary64 y)
+    → rcUncheckedWith ln-before ln-1p x y ≡ rcUnchecked x y
 unchecked-stays = unchecked-asks ln-before ln-1p before-agrees (λ a h. refl)
 
 pub rc1p-stays : (y : Float) → T (fits binary64 y) → rc1pWith ln-before ln-1p y ≡ rc1p y

@@ -6,18 +6,18 @@ use Prim.Native.Nat.{ℕ, _^_, _<_}
 use native.Mathlib.Nat.{le-of-lt}
 use native.Mathlib.Omega.{arith}
 use lib.Dec.{T, ltb→lt, nltb→le}
-use lib.Ieee.{Float, nan, inf, fin, binary64, neg, lt, le, eq, below, fits}
+use lib.Ieee.{Float, nan, inf, fin, binary64, neg, lt, eq, below, fits}
 use lib.Ieee.Scale.{finite}
 use Rattle.binary64.specs.Operators.{_⊕_, _⊘_}
 use Rattle.root.specs.Root.{root}
 use Rattle.scaling.specs.Units.{Is, lt-units, eq-units, neg-units}
 use Rattle.scaling.specs.Plain.{units-of}
 use Rattle.scaling.specs.Tests.{zero-is}
-use Rattle.carlson.specs.Constants.{zero, one, two, half}
-use Rattle.asked.specs.Lost.{neg-lost, root-lost, sum-lost-last, over-lost, no-more}
+use Rattle.carlson.specs.Constants.{zero, one, half}
+use Rattle.asked.specs.With.{FromTwo, Within}
+use Rattle.asked.specs.Lost.{split, neg-lost, root-lost, sum-lost-last, over-lost, lost-two, lost-within}
 use Rattle.asked.specs.Arguments.{half-is, one-is, root-within, helper-least}
 use Rattle.asked.specs.Reached.{some}
-use Rattle.asked.specs.Rc.{is-true, split, Within, lost-within}
 
 -- neither above zero nor a zero
 negative : (y : Float) → T (fits binary64 y) → T (not (lt zero y)) → T (not (eq y zero)) → finite y ≡ true
@@ -46,16 +46,14 @@ module _ (y : Float) (F : T (fits binary64 y)) (p : T (not (lt zero y))) (z : T 
       split y (λ l. lost-within (neg y) (neg-lost y l))
       (λ f.
       let r = negative y F p z f in
-      let w = root-within (neg-units (r .1)) (le-of-lt (ltb→lt (r .0) (2 ^ 1073) (subst T (lt-units (neg-units half-is) (r .1)) k))) in
-      (λ g. is-true _ (w .0), λ g. is-true _ (w .1)))
+      let l = ltb→lt (r .0) (2 ^ 1073) (subst T (lt-units (neg-units half-is) (r .1)) k) in
+      root-within (neg-units (r .1)) (le-of-lt l))
 
-  pub ln-asked : T (not (lt (neg half) y)) → T (not (lt y (neg one))) → finite (lnOf y) ≡ true → le two (lnOf y) ≡ true
-  ln-asked k j g =
+  pub ln-asked : T (not (lt (neg half) y)) → T (not (lt y (neg one))) → FromTwo (lnOf y)
+  ln-asked k j =
       split y
-      (λ l. absurd (no-more (lnOf y)
-      (over-lost (one ⊕ root (neg y)) (root (one ⊕ y)) (sum-lost-last one (root (neg y)) (root-lost (neg y) (neg-lost y l)))) g))
+      (λ l. lost-two (lnOf y) (over-lost _ (root (one ⊕ y)) (sum-lost-last one _ (root-lost (neg y) (neg-lost y l)))))
       (λ f.
       let r = negative y F p z f in
-      is-true (le two (lnOf y))
-      (helper-least (r .1) (nltb→le (r .0) (2 ^ 1073) (subst (λ b. T (not b)) (lt-units (neg-units half-is) (r .1)) k))
-      (nltb→le (2 ^ 1074) (r .0) (subst (λ b. T (not b)) (lt-units (r .1) (neg-units one-is)) j)) g))
+      helper-least (r .1) (nltb→le (r .0) (2 ^ 1073) (subst (λ b. T (not b)) (lt-units (neg-units half-is) (r .1)) k))
+      (nltb→le (2 ^ 1074) (r .0) (subst (λ b. T (not b)) (lt-units (r .1) (neg-units one-is)) j)))

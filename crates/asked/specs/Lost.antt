@@ -1,4 +1,5 @@
--- What is no finite number stays none through the steps that lead to a logarithm's argument. Assumes nothing.
+-- What is no finite number stays none through the steps that lead to a logarithm's argument, and there both logarithms may be
+-- asked. Assumes nothing.
 use mathlib.Core.Path.{_≡_, refl, sym, ap, _∙_, subst}
 use mathlib.Core.Bool.{Bool, true, false, cond, Bool·beq, true≢false}
 use Prim.Native.Nat.{ℕ, zero, suc, _*_, _^_, _<_}
@@ -12,11 +13,18 @@ use lib.Ieee.Scale.{finite}
 use Rattle.binary64.specs.Operators.{_⊕_, _⊖_, _⊘_}
 use Rattle.root.specs.Root.{root}
 use Rattle.scaling.specs.Units.{Is, form}
+use Rattle.asked.specs.With.{FromTwo, Within}
 
 abbrev pub Lost : Float → Type 0
 Lost x = finite x ≡ false
 
-pub no-more : (x : Float) → Lost x → finite x ≡ true → ⊥
+-- a float is finite or not
+pub split : (x : Float) {A : Type 0} → (Lost x → A) → (finite x ≡ true → A) → A
+split nan f g = f refl
+split (inf s) f g = f refl
+split (fin s m e) f g = g refl
+
+no-more : (x : Float) → Lost x → finite x ≡ true → ⊥
 no-more x l h = true≢false (sym h ∙ l)
 
 neither : (b s : Bool) → Lost (cond b nan (inf s))
@@ -94,3 +102,14 @@ over-nothing x {y} {t} Y = let r = form Y in go (r .m) (r .e) (r .is) (r .units)
     go (suc m) e i u =
         absurd (lt-irrefl 0 (subst (λ (n : ℕ). 0 < n) (u ∙ zero-mul (down e))
         (mul-pos (mul-pos (zero-lt-suc m) (up-pos e)) (pow-pos (low binary64)))))
+
+-- ---- asked there
+pub lost-two : (a : Float) → Lost a → FromTwo a
+lost-two a l f = absurd (no-more a l f)
+
+-- ln_1p is asked at a root and at its negative
+pub lost-within : (v : Float) → Lost v → Within (root v) × Within (neg (root v))
+lost-within v l = (
+  λ f. absurd (no-more (root v) (root-lost v l) f),
+  λ f. absurd (no-more (neg (root v)) (neg-lost (root v) (root-lost v l)) f),
+)

@@ -6,9 +6,8 @@ use Prim.Native.Nat.{ℕ, _*_}
 use native.Mathlib.Nat.{zero-mul}
 use native.Mathlib.Omega.{arith}
 use lib.Dec.{T, T-not, not-T, ltb, ltb→lt}
-use lib.Ieee.{Float, nan, inf, fin, binary64, up, down, neg, lt, le, eq, fits, ofBits}
+use lib.Ieee.{Float, nan, inf, fin, binary64, up, down, neg, lt, eq, fits, ofBits}
 use lib.Ieee.Scale.{finite}
-use Rattle.binary64.specs.Leaves.{absolute}
 use Rattle.binary64.specs.Operators.{_⊕_, _⊖_, _⊗_, _⊘_}
 use Rattle.root.specs.Root.{root}
 use Rattle.scaling.specs.Units.{Is}
@@ -16,20 +15,11 @@ use Rattle.scaling.specs.Nothing.{root-itself}
 use Rattle.scaling.specs.Pick.{choose}
 use Rattle.carlson.specs.Constants.{zero, two, half}
 use Rattle.elliprc.specs.Rc.{byLn1p, byLn, rcCases}
-use Rattle.asked.specs.With.{three-quarters, Agrees, Agrees1p, byLn1pWith, byLnWith, rcCasesWith}
-use Rattle.asked.specs.Lost.{Lost, no-more, neg-lost, root-lost, sum-lost, less-lost, less-lost-last, over-lost, over-nan, over-nothing}
+use Rattle.asked.specs.With.{FromTwo, Within, Agrees, Agrees1p, byLn1pWith, byLnWith, rcCasesWith}
+use Rattle.asked.specs.Lost.{Lost, split, root-lost, sum-lost, less-lost, less-lost-last, over-lost, over-nan, over-nothing}
+use Rattle.asked.specs.Lost.{lost-two, lost-within}
 use Rattle.asked.specs.Arguments.{ln-least, ratio-most, root-within}
 use Rattle.asked.specs.Reached.{Tested, ordered, not-above, over-half}
-
-pub is-true : (b : Bool) → T b → b ≡ true
-is-true true t = refl
-is-true false t = absurd t
-
--- a float is finite or not
-pub split : (x : Float) {A : Type 0} → (Lost x → A) → (finite x ≡ true → A) → A
-split nan f g = f refl
-split (inf s) f g = f refl
-split (fin s m e) f g = g refl
 
 abbrev lnOf : Float → Float → Float
 lnOf x y = (root x ⊕ root (x ⊖ y)) ⊘ root y
@@ -37,11 +27,7 @@ lnOf x y = (root x ⊕ root (x ⊖ y)) ⊘ root y
 abbrev ln1pOf : Float → Float → Float
 ln1pOf x y = root ((x ⊖ y) ⊘ x)
 
--- not finite: nothing is asked of the argument
-lost-two : (a : Float) → Lost a → finite a ≡ true → le two a ≡ true
-lost-two a l f = absurd (no-more a l f)
-
-ln-asked : (x y : Float) → Tested x y → T (not (lt half (y ⊘ x))) → finite (lnOf x y) ≡ true → le two (lnOf x y) ≡ true
+ln-asked : (x y : Float) → Tested x y → T (not (lt half (y ⊘ x))) → FromTwo (lnOf x y)
 ln-asked x y h k =
     let sum = root x ⊕ root (x ⊖ y) in
     split x (λ l. lost-two (lnOf x y) (over-lost sum (root y) (sum-lost (root x) _ (root-lost x l))))
@@ -49,9 +35,7 @@ ln-asked x y h k =
       | inl e ↦ lost-two (lnOf x y) (ap (λ z. finite (sum ⊘ root z)) e ∙ by-nan sum)
       | inr o ↦ elim (not-above o k) [
         | inl z ↦ lost-two (lnOf x y) (over-nothing sum (zero-root (subst (Is binary64 y (o .t)) z (o .y-is))))
-        | inr r ↦
-            λ f. is-true (le two (lnOf x y))
-            (ln-least (o .x-is) (subst (λ b. Is binary64 y b (o .Y)) (r .0) (o .y-is)) (r .1) (r .2))
+        | inr r ↦ ln-least (o .x-is) (subst (λ b. Is binary64 y b (o .Y)) (r .0) (o .y-is)) (r .1) (r .2)
       ]
     ])
   where
@@ -61,15 +45,6 @@ ln-asked x y h k =
     zero-root : {y : Float} {t : Bool} → Is binary64 y t 0 → Is binary64 (root y) t 0
     zero-root {y} {t} Z = subst (λ v. Is binary64 v t 0) (sym (root-itself Z)) Z
 
-abbrev pub Within : Float → Type 0
-Within a = finite a ≡ true → le (absolute a) three-quarters ≡ true
-
-pub lost-within : (v : Float) → Lost v → Within (root v) × Within (neg (root v))
-lost-within v l = (
-  λ f. absurd (no-more (root v) (root-lost v l) f),
-  λ f. absurd (no-more (neg (root v)) (neg-lost (root v) (root-lost v l)) f),
-)
-
 ln1p-asked : (x y : Float) → Tested x y → T (lt half (y ⊘ x)) → Within (ln1pOf x y) × Within (neg (ln1pOf x y))
 ln1p-asked x y h k =
     split x (λ l. lost-within ((x ⊖ y) ⊘ x) (over-lost (x ⊖ y) x (less-lost x y l)))
@@ -78,8 +53,7 @@ ln1p-asked x y h k =
       | inr o ↦
           let r = over-half o k in
           let q = ratio-most (o .x-is) (subst (λ b. Is binary64 y b (o .Y)) (r .0) (o .y-is)) (o .pos) (o .most) (r .1) in
-          let w = root-within (q .1) (q .2) in
-          (λ f. is-true _ (w .0), λ f. is-true _ (w .1))
+          root-within (q .1) (q .2)
     ])
 
 -- the negative of what is below zero is not

@@ -62,7 +62,7 @@ pub record Ordered (x y : Float) : Type 0 where
   pub most : Y ≤ X
   pub sign : (t ≡ false) ⊎ (Y ≡ 0)
 
--- both are finite, or x is not, or y is NaN
+-- with x finite, y is NaN or both are ordered: an infinite y did not pass the tests
 pub ordered : (x y : Float) → Tested x y → finite x ≡ true → (y ≡ nan) ⊎ Ordered x y
 unfolding lt ofBits
 ordered nan y h f = absurd (true≢false (sym f))
@@ -110,7 +110,9 @@ module _ {x y : Float} (o : Ordered x y) where
   pub not-above : T (not (lt half (y ⊘ x))) → (o .Y ≡ 0) ⊎ ((o .t ≡ false) × (0 < o .Y) × (o .Y * 2 ≤ o .X))
   not-above h = elim (eq-zero-or-pos (o .Y)) [
     | inl z ↦ inl z
-    | inr p ↦ inr (let t = plus p in (t, p, at-most-half (o .X) (o .Y) (digits-of (o .x-is)) (digits-of (o .y-is)) (o .pos) (low-ratio t)))
+    | inr p ↦
+        let most = at-most-half (o .X) (o .Y) (digits-of (o .x-is)) (digits-of (o .y-is)) (o .pos) (low-ratio (plus p)) in
+        inr (plus p, p, most)
   ]
     where
       plus : 0 < o .Y → o .t ≡ false

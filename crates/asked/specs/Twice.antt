@@ -49,28 +49,32 @@ past-middle : 2 ^ 1073 < near binary64 (2 ^ 1126) (2 ^ 53 - 1)
 unfolding near
 past-middle = lit< tt
 
--- THE TWO LAWS
+-- THE LAW
 pub at-most-half : (X Y : ℕ) → Digits binary64 X → Digits binary64 Y → 0 < X → near binary64 (Y * 2 ^ low binary64) X ≤ 2 ^ 1073
     → Y * 2 ≤ X
 at-most-half X Y D E pos h = elim (either (Y * 2) X) [
   | inl l ↦ l
   | inr l ↦
-      absurd (not-le-of-lt past-middle
-      (le-trans (near-mono binary64 (2 ^ 1126) (2 ^ 53 - 1) (Y * 2 ^ low binary64) X (lit< tt) pos (cross X Y (apart X Y D E l))) h))
+      let c = cross X Y (apart X Y D E l) in
+      let up = near-mono binary64 (2 ^ 1126) (2 ^ 53 - 1) (Y * 2 ^ low binary64) X (lit< tt) pos c in
+      absurd (not-le-of-lt past-middle (le-trans up h))
 ]
   where
     cross : (X Y : ℕ) → 2 ^ 53 * X ≤ Y * 2 * (2 ^ 53 - 1) → 2 ^ 1126 * X ≤ Y * 2 ^ 1074 * (2 ^ 53 - 1)
     cross = below 2 (λ X Y. (con (2 ^ 1073) times con (2 ^ 53) :* X ≼ Y :* con 2 :* con (2 ^ 53 - 1)) ∷ []
         ⊩ con (2 ^ 1126) :* X ≈ Y :* con (2 ^ 1074) :* con (2 ^ 53 - 1)) tt
 
-pub more-than-half : (X Y : ℕ) → 0 < X → 2 ^ 1073 < near binary64 (Y * 2 ^ low binary64) X → X ≤ Y * 2
-more-than-half X Y pos h = elim (either X (Y * 2)) [
-  | inl l ↦ l
-  | inr l ↦
-      absurd (not-le-of-lt h
-      (le-trans (near-mono binary64 (Y * 2 ^ low binary64) X (1 * 2 ^ 1073 * 1) 1 pos (zero-lt-suc 0) (cross X Y (le-of-lt l)))
-      (le-of-eq (near-exact binary64 1 1073 1 (zero-lt-suc 0) (lit< tt)))))
-]
+-- and the other way round
+pub half-most : (X Y : ℕ) → 0 < X → Y * 2 ≤ X → near binary64 (Y * 2 ^ low binary64) X ≤ 2 ^ 1073
+half-most X Y pos h =
+    le-trans (near-mono binary64 (Y * 2 ^ low binary64) X (1 * 2 ^ 1073 * 1) 1 pos (zero-lt-suc 0) (cross X Y h))
+    (le-of-eq (near-exact binary64 1 1073 1 (zero-lt-suc 0) (lit< tt)))
   where
     cross : (X Y : ℕ) → Y * 2 ≤ X → Y * 2 ^ 1074 * 1 ≤ 2 ^ 1073 * X
     cross = below 2 (λ X Y. (con (2 ^ 1073) times Y :* con 2 ≼ X) ∷ [] ⊩ Y :* con (2 ^ 1074) :* con 1 ≈ con (2 ^ 1073) :* X) tt
+
+pub more-than-half : (X Y : ℕ) → 0 < X → 2 ^ 1073 < near binary64 (Y * 2 ^ low binary64) X → X ≤ Y * 2
+more-than-half X Y pos h = elim (either X (Y * 2)) [
+  | inl l ↦ l
+  | inr l ↦ absurd (not-le-of-lt h (half-most X Y pos (le-of-lt l)))
+]

@@ -20,13 +20,19 @@ use Rattle.rj_positive.specs.Helper.{byAtan1p}
 abbrev pub three-quarters : Float
 three-quarters = bits 0x3FE8_0000_0000_0000
 
--- ln from 2 up, and at what is no finite number
-abbrev pub Agrees : (Float → Float) → Type 0
-Agrees log = (a : Float) → (finite a ≡ true → le two a ≡ true) → log a ≡ ln a
+-- ---- where each is asked: ln from 2 up, ln_1p from -3/4 to 3/4, and both at what is no finite number
+abbrev pub FromTwo : Float → Type 0
+FromTwo a = finite a ≡ true → le two a ≡ true
 
--- ln_1p from -3/4 to 3/4, and at what is no finite number
+abbrev pub Within : Float → Type 0
+Within a = finite a ≡ true → le (absolute a) three-quarters ≡ true
+
+-- another function that is ln there, and one that is ln_1p there
+abbrev pub Agrees : (Float → Float) → Type 0
+Agrees log = (a : Float) → FromTwo a → log a ≡ ln a
+
 abbrev pub Agrees1p : (Float → Float) → Type 0
-Agrees1p log1p = (a : Float) → (finite a ≡ true → le (absolute a) three-quarters ≡ true) → log1p a ≡ ln-1p a
+Agrees1p log1p = (a : Float) → Within a → log1p a ≡ ln-1p a
 
 module _ (log log1p : Float → Float) where
   -- ---- RC: the text of crates/elliprc/specs/Rc.antt
@@ -69,6 +75,6 @@ module _ (log log1p : Float → Float) where
       (cond (lt (neg half) y) (byLogs1pWith y)
       (cond (lt y (neg one)) (byRc1pWith y) (byLnOf1pWith y)))))
 
--- document 01's ln: no answer below 2
+-- document 01's ln: "from 2 up .. ln(+infinity) is +infinity; all else gives NaN"
 unfoldable pub ln-before : Float → Float
 ln-before a = cond (lt a two) nan (ln a)
