@@ -90,7 +90,8 @@ double gatewren_pow_neg_3_2(double a);
 /* The arc tangent, by one whole-number rule within one unit of the exact one: every finite number, and both infinities. */
 double gatewren_atan(double x);
 
-/* The natural logarithm, likewise, from 2 up; +infinity gives +infinity, all else NaN. */
+/* The natural logarithm, likewise: every finite number above zero; 1 gives +0. A zero of either sign gives -infinity, +infinity
+ * itself, a number below zero NaN. */
 double gatewren_ln(double x);
 
 /* The natural logarithm of 1 + x, likewise, for x from -3/4 to 3/4; all else gives NaN. */

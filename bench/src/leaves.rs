@@ -44,7 +44,7 @@ fn series() -> Vec<Row> {
         let inputs = many(|r| [log_between(r, low, high)]);
         rows.push(Row::new(&format!("atan [{low:?}, {high:?}]"), inputs, atan, |[a]| a.atan()));
     }
-    for (low, high) in [(2.0, 4.0), (2.0, 1e3), (1e3, 1e300)] {
+    for (low, high) in [(1e-300, 0.5), (0.5, 1.0), (1.0, 1.02), (1.0, 2.0), (2.0, 4.0), (2.0, 1e3), (1e3, 1e300)] {
         let inputs = many(|r| [log_between(r, low, high)]);
         rows.push(Row::new(&format!("ln [{low:?}, {high:?}]"), inputs, ln, |[a]| a.ln()));
     }

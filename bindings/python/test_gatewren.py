@@ -74,9 +74,20 @@ class Examples(unittest.TestCase):
         self.assertEqual(gatewren.mul_add(0.1, 10, -1), 2.0**-54)
         self.assertEqual(gatewren.pow_neg_3_2(4), 0.125)
         self.assertEqual(gatewren.atan(INF), math.pi / 2)
-        self.assertLess(abs(gatewren.ln(2) - math.log(2)), 1e-15)
-        self.assertTrue(math.isnan(gatewren.ln(1.5)))
         self.assertLess(abs(gatewren.ln_1p(-0.5) + math.log(2)), 1e-15)
+
+    def test_logarithms(self):
+        """Request 2026-02: at every number above zero, near the C library's."""
+        for x in (2, 1.5, 1.01, 0.5, 0.25, 2.0**-1022, of_bits(1), of_bits(0x7FEFFFFFFFFFFFFF)):
+            self.assertLessEqual(abs(gatewren.ln(x) - math.log(x)), 1e-15 * abs(math.log(x)))
+        self.assertEqual(math.copysign(1, gatewren.ln(1)), 1)
+        self.assertEqual(gatewren.ln(1), 0)
+        self.assertEqual(gatewren.ln(1 + 2.0**-52), 2.0**-52 - 2.0**-105)
+        for zero in (0.0, -0.0):
+            self.assertEqual(gatewren.ln(zero), -INF)
+        self.assertEqual(gatewren.ln(INF), INF)
+        for none in (-1, -of_bits(1), -INF, NAN):
+            self.assertTrue(math.isnan(gatewren.ln(none)))
 
     def test_the_swing_time(self):
         self.assertEqual(float(gatewren.swing(250_000, 50_000, 9_806_650)), of_bits(0x3FF07A114C26A24A))

@@ -143,8 +143,8 @@ const NOTES: &str = "differ: answers of libgatewren.a that are not the oracle's,
 untouched: how many values of the untouched crate (for a leaf, of the standard library, which it calls) are other bits, and how
 many units apart they are at most, in the unit of document 01's value. Near RJ's zero parts of about equal size are taken from
 one another, so that the unit is small and the error is not: those calls are left out of the column and stand below.
-kinds: one of the two is finite and the other infinite, NaN or refused, or the numbers differ. For ln and ln_1p these are the
-arguments outside of document 01's ranges, where the leaf is NaN.";
+kinds: one of the two is finite and the other infinite, NaN or refused, or the numbers differ. For ln_1p these are the
+arguments outside of document 01's range, where the leaf is NaN.";
 
 fn print(rows: &[Row], tallies: &[Tally]) {
     println!("{:<10}{:>12}{:>8}   {:^30}   refused, by number", "", "", "", "untouched");

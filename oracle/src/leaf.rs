@@ -9,6 +9,7 @@ use crate::call::bits;
 use crate::random::Random;
 use crate::shapes::CORNERS;
 use crate::tally::{Bits, Tally};
+use std::io::{BufWriter, Write};
 
 /// A leaf's arguments; those beyond its number are not looked at.
 pub type Args = [f64; 3];
@@ -38,11 +39,16 @@ impl Leaf {
     }
 }
 
-pub fn run(name: &str, n: u64, seed: u64) -> bool {
-    let Some(leaf) = ALL.into_iter().find(|leaf| leaf.name == name) else {
+fn named(name: &str) -> Option<&'static Leaf> {
+    let found = ALL.into_iter().find(|leaf| leaf.name == name);
+    if found.is_none() {
         eprintln!("no leaf {name}: sqrt, mul_add, pow, atan, ln, ln_1p");
-        return false;
-    };
+    }
+    found
+}
+
+pub fn run(name: &str, n: u64, seed: u64) -> bool {
+    let Some(leaf) = named(name) else { return false };
     let mut random = Random::new(seed);
     let mut tally = Tally::default();
     (leaf.fixed)().into_iter().for_each(|args| tally.leaf(leaf, args));
@@ -63,6 +69,19 @@ pub fn run(name: &str, n: u64, seed: u64) -> bool {
 /// The arguments as the listing has them.
 pub fn text(args: &Bits, arity: usize) -> String {
     args[..arity].iter().map(|arg| format!("{arg:016X}")).collect::<Vec<String>>().join(" ")
+}
+
+/// `cases`: the arguments that `leaf` would try and what the answer must be, a line each, for a library that cannot be linked here.
+pub fn cases(name: &str, n: u64, seed: u64) -> bool {
+    let Some(leaf) = named(name) else { return false };
+    let mut random = Random::new(seed);
+    let drawn = (0..n).map(|_| (leaf.case)(&mut random));
+    let mut out = BufWriter::new(std::io::stdout().lock());
+    let written = (leaf.fixed)().into_iter().chain(drawn).try_for_each(|args| {
+        let wanted = (leaf.wanted)(args);
+        writeln!(out, "{} {:016X}", text(&leaf.bits(args), leaf.arity), bits(wanted))
+    });
+    written.and_then(|()| out.flush()).is_ok()
 }
 
 /// `answers`: what a series leaf of the proved library says to the patterns on standard input, a line each.

@@ -316,11 +316,15 @@ def atan(x: SupportsFloat) -> float:
 
 
 def ln(x: SupportsFloat) -> float:
-    """The natural logarithm, within one unit; from 2 up, else NaN.
+    """The natural logarithm, within one unit; at every finite number above zero, and 1 gives +0.
 
-    >>> ln(2)
-    0.6931471805599453
-    >>> ln(1.5)
+    A zero of either sign gives -infinity, +infinity itself, a number below zero NaN.
+
+    >>> ln(1.01)
+    0.009950330853168092
+    >>> ln(0)
+    -inf
+    >>> ln(-1)
     nan
     """
     return _LN(_DOUBLE(x))

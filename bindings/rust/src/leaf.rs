@@ -24,7 +24,8 @@ pub fn atan(x: f64) -> f64 {
     unsafe { symbols::gatewren_atan(x) }
 }
 
-/// The natural logarithm, within one unit; from 2 up, else NaN.
+/// The natural logarithm, within one unit; at every finite number above zero, and 1 gives +0. A zero of either sign gives
+/// -infinity, +infinity itself, a number below zero NaN.
 pub fn ln(x: f64) -> f64 {
     unsafe { symbols::gatewren_ln(x) }
 }

@@ -86,10 +86,25 @@ fn leaves() {
     assert_eq!(leaf::pow_neg_3_2(-0.0), INF);
     assert_eq!(leaf::atan(INF).to_bits(), 0x3FF9_21FB_5444_2D18);
     assert!((leaf::atan(1.0) - std::f64::consts::FRAC_PI_4).abs() < 1e-15);
-    assert!((leaf::ln(2.0) - std::f64::consts::LN_2).abs() < 1e-15);
-    assert!(leaf::ln(1.5).is_nan());
     assert!((leaf::ln_1p(-0.5) + std::f64::consts::LN_2).abs() < 1e-15);
     assert!(leaf::ln_1p(0.8).is_nan());
+}
+
+/// Request 2026-02: at every number above zero, near the standard library's.
+#[test]
+fn logarithms() {
+    for x in [2.0, 1.5, 1.01, 0.5, 0.25, f64::MIN_POSITIVE, f64::from_bits(1), f64::MAX] {
+        assert!((leaf::ln(x) - x.ln()).abs() <= 1e-15 * x.ln().abs(), "{x}");
+    }
+    assert_eq!(leaf::ln(1.0).to_bits(), 0);
+    assert_eq!(leaf::ln(1.0 + f64::EPSILON), f64::EPSILON - f64::EPSILON * f64::EPSILON / 2.0);
+    for zero in [0.0, -0.0] {
+        assert_eq!(leaf::ln(zero), -INF);
+    }
+    assert_eq!(leaf::ln(INF), INF);
+    for none in [-1.0, -f64::from_bits(1), -INF, NAN] {
+        assert!(leaf::ln(none).is_nan(), "{none}");
+    }
 }
 
 #[test]

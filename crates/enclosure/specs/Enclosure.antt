@@ -100,6 +100,14 @@ ln-lower m e n = whole (2 * e) ⊠ T-lower third n ⊞ whole 2 ⊠ T-lower (ln-a
 unfoldable pub ln-upper : Quotient → ℕ → ℕ → Quotient
 ln-upper m e n = whole (2 * e) ⊠ T-upper third third-proper n ⊞ whole 2 ⊠ T-upper (ln-argument m) (ln-proper m) n
 
+-- ---- ln of m * 2 ^ -e, e ≥ 1: the same with the exponent below zero (document 02, 2026-02). The answer is below zero, its size
+-- 2e T(1/3) - 2 T((m-1) / (m+1)); what is taken away is greatest at the lower end. (No upper end is below zero.)
+unfoldable pub ln-below-lower : Quotient → ℕ → ℕ → Quotient
+ln-below-lower m e n = whole (2 * e) ⊠ T-lower third n ⊟ whole 2 ⊠ T-upper (ln-argument m) (ln-proper m) n
+
+unfoldable pub ln-below-upper : Quotient → ℕ → ℕ → Quotient
+ln-below-upper m e n = whole (2 * e) ⊠ T-upper third third-proper n ⊟ whole 2 ⊠ T-lower (ln-argument m) n
+
 -- ---- ln_1p(a): "2 T(a / (2+a))". Where a is below zero, -2 T(|a| / (2-|a|)), for |a| < 1.
 abbrev pub gain : Quotient → Quotient
 gain a = record { num = a .num; den = 2 * a .den + a .num; pos = omega (arith, a .pos) }

@@ -2,7 +2,8 @@
 use Prim.Native.Nat.{_^_}
 use mathlib.Core.Path.{_≡_, refl}
 use Rattle.enclosure.specs.Pieces.{row, numerators, value}
-use Rattle.enclosure.specs.Rules.{atan-answer, steep-answer, T-answer, gain-seed, loss-seed, ln-answer}
+use Rattle.enclosure.specs.Rules.{atan-answer, steep-answer, T-answer, gain-seed, loss-seed, ln-answer, ln-below-answer}
+use Rattle.enclosure.specs.Rules.{gain-answer, loss-answer}
 
 -- ---- atan at 1, 0.5, 0.1, 1e-5 and 3
 atan-1 : atan-answer 0 (2 ^ 62) ≡ 3622009729038561421
@@ -46,3 +47,16 @@ ln-2-5 = refl
 ln-700 : ln-answer 4 9 6157265115545600 ≡ 3776440698339284654
 unfolding ln-answer T-answer value row numerators
 ln-700 = refl
+
+-- ---- ln at 1.5 and 0.75, where x - 1 is 2 ^ 52 and -2 ^ 51 units of 2 ^ -53, and at 0.1
+ln-1-5 : gain-answer 0 4503599627370496 ≡ 934938885011285496
+unfolding gain-answer T-answer value row numerators
+ln-1-5 = refl
+
+ln-0-75 : loss-answer 1 2251799813685248 ≡ 1326699391278092919
+unfolding loss-answer T-answer value row numerators
+ln-0-75 = refl
+
+ln-0-1 : ln-below-answer 2 3 7205759403792794 ≡ 5309399739799983497
+unfolding ln-below-answer T-answer value row numerators
+ln-0-1 = refl

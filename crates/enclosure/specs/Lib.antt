@@ -11,10 +11,13 @@ pub mod Slope
 pub mod Values
 pub mod Atan
 pub mod Logarithm
-pub mod Seeds
 pub mod Constants
 pub mod Tiny
+pub mod Rise
+pub mod Addition
+pub mod Seeds
 pub mod Steep
+pub mod Below
 pub mod Ln
 pub mod Sizes
 pub mod Answers

@@ -1,5 +1,5 @@
--- ln of m * 2 ^ (e - 52), e ≥ 1, is 2e T(1/3) + 2 T(s): the rule is near every enclosure, in units of 2 ^ (b - 63), where e has at
--- most b binary digits. The constant's own error is e < 2 ^ b units of 2 ^ -63, which is 1 here. Assumes nothing.
+-- 2e T(1/3) + 2t, e ≥ 1: the rule is near it, in units of 2 ^ (b - 63), where e has at most b binary digits. The constant's own
+-- error is e < 2 ^ b units of 2 ^ -63, which is 1 here. With t = T(s) this is ln of m * 2 ^ (e - 52). Assumes nothing.
 use Prim.Native.Nat.{ℕ, _+_, _-_, _*_, _/_, _^_, _≤_, _<_}
 use mathlib.Core.Path.{_≡_, sym, _∙_, ap}
 use mathlib.Core.List.{[], _∷_}
@@ -9,20 +9,23 @@ use lib.Pow.{pow-pos, pow-add}
 use Rattle.algebra.specs.Ring.{con, nxt, _:+_, _:*_, _≈_, _⊩_, _times_≼_, Order, by-below}
 use Rattle.enclosure.specs.Quotient.{Quotient, _≼_, whole, units, _⊞_, _⊠_}
 use Rattle.enclosure.specs.Order.{≼-refl, ≼-trans, ⊞-mono, ⊠-mono, units-join, units-split, units-mono}
-use Rattle.enclosure.specs.Enclosure.{T-lower, T-upper, third, third-proper, ln-argument, ln-proper, ln-lower, ln-upper, Within}
-use Rattle.enclosure.specs.Rules.{T-answer, ln-seed, ln-two, ln-answer}
+use Rattle.enclosure.specs.Enclosure.{T-lower, T-upper, third, third-proper, ln-argument, ln-proper, ln-lower, ln-upper}
+use Rattle.enclosure.specs.Enclosure.{Within}
+use Rattle.enclosure.specs.Rules.{T-answer, ln-seed, ln-two, multiple, ln-answer}
 use Rattle.enclosure.specs.Logarithm.{T-near}
 use Rattle.enclosure.specs.Seeds.{ln-seeds}
 use Rattle.enclosure.specs.Constants.{ln-two-low, ln-two-high}
 
 -- ---- a multiple of a bound in units
-multiplied-low : Order 5 (λ k v x x' q. (k times v :* (con 1 :* x') ≼ con 2 :* x :* q) ∷ [] ⊩ k :* v :* (con 1 :* x') ≈ con 2 :* k :* x :* q)
+multiplied-low : Order 5 (λ k v x x' q. (k times v :* (con 1 :* x') ≼ con 2 :* x :* q) ∷ []
+    ⊩ k :* v :* (con 1 :* x') ≈ con 2 :* k :* x :* q)
 multiplied-low = by-below tt
 
 times-low : (k : ℕ) (x : Quotient) (v : ℕ) → units 63 v ≼ whole 2 ⊠ x → units 63 (k * v) ≼ whole (2 * k) ⊠ x
 times-low k x v h = record { cross = multiplied-low .law k v (x .num) (x .den) (2 ^ 63) (h .cross) }
 
-multiplied-high : Order 5 (λ k v x x' q. (k times con 2 :* x :* q ≼ v :* (con 1 :* x')) ∷ [] ⊩ con 2 :* k :* x :* q ≈ k :* v :* (con 1 :* x'))
+multiplied-high : Order 5 (λ k v x x' q. (k times con 2 :* x :* q ≼ v :* (con 1 :* x')) ∷ []
+    ⊩ con 2 :* k :* x :* q ≈ k :* v :* (con 1 :* x'))
 multiplied-high = by-below tt
 
 times-high : (k : ℕ) (x : Quotient) (v : ℕ) → whole 2 ⊠ x ≼ units 63 v → whole (2 * k) ⊠ x ≼ units 63 (k * v)
@@ -41,7 +44,8 @@ join-two = by-below tt
 join-units : (v w : ℕ) → units 63 v ⊞ whole 2 ⊠ units 63 w ≼ units 63 (v + 2 * w)
 join-units v w = record { cross = join-two .law v w (2 ^ 63) }
 
-moved : Order 5 (λ x x' y y' q. (x :* (con 1 :* (y' :* q)) :+ con 2 :* (y :* q :+ con 12 :* y') :* x') :* (x' :* (con 1 :* y') :* q)
+moved : Order 5 (λ x x' y y' q. (x :* (con 1 :* (y' :* q)) :+ con 2 :* (y :* q :+ con 12 :* y') :* x') :*
+    (x' :* (con 1 :* y') :* q)
     ≈ ((x :* (con 1 :* y') :+ con 2 :* y :* x') :* q :+ con 24 :* (x' :* (con 1 :* y'))) :* (x' :* (con 1 :* (y' :* q))))
 moved = by-below tt
 
@@ -53,22 +57,16 @@ floors-low : Order 5 (λ a c M p q. (con 1 times p :* M ≼ a) ∷ (con 1 times 
 floors-low = by-below tt
 
 floors-high : Order 6 (λ a c M p q e.
-    (con 1 times nxt a ≼ p :* M :+ M) ∷ (con 1 times nxt c ≼ q :* M :+ M) ∷ (con 1 times nxt e ≼ M) ∷ (con 39 times con 2 ≼ M) ∷ []
+    (con 1 times nxt a ≼ p :* M :+ M) ∷ (con 1 times nxt c ≼ q :* M :+ M) ∷ (con 1 times nxt e ≼ M) ∷ (con 39 times con 2 ≼ M)
+    ∷ []
     ⊩ a :+ e :+ (c :+ con 78) ≈ (p :+ q :+ con 42) :* M)
 floors-high = by-below tt
 
-module _ (m b e : ℕ) (low : 2 ^ 52 ≤ m) (high : m < 2 ^ 53) (some : 1 ≤ e) (fits : e < 2 ^ b) (few : b ≤ 63) where
-  abbrev s : Quotient
-  s = ln-argument (units 52 m)
-
-  abbrev B : ℕ
-  B = T-answer 1 (ln-seed m)
-
+-- ---- B is near t, whatever its enclosures
+module _ (b e B : ℕ) (some : 1 ≤ e) (fits : e < 2 ^ b) (few : b ≤ 63) {lower upper : ℕ → Quotient}
+    (near : Within lower upper (units 63 B) (units 63 12) (units 63 39)) where
   abbrev Y : ℕ
-  Y = e * ln-two / 2 ^ b + 2 * B / 2 ^ b
-
-  near : Within (T-lower s) (T-upper s (ln-proper (units 52 m))) (units 63 B) (units 63 12) (units 63 39)
-  near = T-near s (ln-proper (units 52 m)) 1 (ln-seed m) (ln-seeds m low high)
+  Y = multiple b e B
 
   scale : 2 ^ (63 - b) * 2 ^ b ≡ 2 ^ 63
   scale = let k : 63 - b + b ≡ 63 = omega arith in sym (pow-add 2 (63 - b) b) ∙ ap (λ (n : ℕ). 2 ^ n) k
@@ -80,17 +78,19 @@ module _ (m b e : ℕ) (low : 2 ^ 52 ≤ m) (high : m < 2 ^ 53) (some : 1 ≤ e)
   coarser n = record { cross = omega (arith, ap (λ (q : ℕ). n * q) scale) }
 
   -- THE LAW
-  pub ln-near : Within (ln-lower (units 52 m) e) (ln-upper (units 52 m) e) (units (63 - b) (ln-answer b e m)) (units (63 - b) 12) (units (63 - b) 42)
-  unfolding ln-answer ln-lower ln-upper
-  ln-near =
+  pub multiple-near : Within (λ n. whole (2 * e) ⊠ T-lower third n ⊞ whole 2 ⊠ lower n)
+      (λ n. whole (2 * e) ⊠ T-upper third third-proper n ⊞ whole 2 ⊠ upper n) (units (63 - b) Y) (units (63 - b) 12)
+      (units (63 - b) 42)
+  multiple-near =
       let M = 2 ^ b in
       let two : 2 ≤ M = omega arith in
       let v = e * ln-two in
       record {
         low = λ n.
             let x = whole (2 * e) ⊠ T-upper third third-proper n in
-            let y = T-upper s (ln-proper (units 52 m)) n in
-            let rests : Y * M ≤ v + 2 * B = floors-low .law v (2 * B) M (v / M) (2 * B / M) (div-mul-le-self v M) (div-mul-le-self (2 * B) M) in
+            let y = upper n in
+            let rests : Y * M ≤ v + 2 * B = floors-low .law v (2 * B) M (v / M) (2 * B / M) (div-mul-le-self v M)
+            (div-mul-le-self (2 * B) M) in
             let less : 24 ≤ 12 * M = omega arith in
             let start : units (63 - b) Y ≼ units 63 v ⊞ whole 2 ⊠ units 63 B =
             ≼-trans (≼-trans (finer Y) (units-mono 63 (Y * M) (v + 2 * B) rests)) (split-units v B) in
@@ -101,12 +101,25 @@ module _ (m b e : ℕ) (low : 2 ^ 52 ≤ m) (high : m < 2 ^ 53) (some : 1 ≤ e)
             ≼-trans (≼-trans start parts) (≼-trans (move x y) end);
         high = λ n.
             let x = whole (2 * e) ⊠ T-lower third n in
-            let y = T-lower s n in
+            let y = lower n in
             let w = B + 39 in
             let parts : x ⊞ whole 2 ⊠ y ≼ units 63 (e * (ln-two + 1)) ⊞ whole 2 ⊠ units 63 w =
-            ⊞-mono (times-high e (T-lower third n) (ln-two + 1) (ln-two-high n)) (⊠-mono ≼-refl (≼-trans (near .high n) (units-join 63 B 39))) in
-            let rests = floors-high .law v (2 * B) M (v / M) (2 * B / M) e (lt-div-mul-add (pow-pos b)) (lt-div-mul-add (pow-pos b)) fits two in
+            ⊞-mono (times-high e (T-lower third n) (ln-two + 1) (ln-two-high n))
+            (⊠-mono ≼-refl (≼-trans (near .high n) (units-join 63 B 39))) in
+            let rests = floors-high .law v (2 * B) M (v / M) (2 * B / M) e (lt-div-mul-add (pow-pos b))
+            (lt-div-mul-add (pow-pos b)) fits two in
             let most : e * (ln-two + 1) + 2 * w ≤ (Y + 42) * M = le-trans (omega arith) rests in
-            ≼-trans (≼-trans parts (≼-trans (join-units (e * (ln-two + 1)) w) (units-mono 63 (e * (ln-two + 1) + 2 * w) ((Y + 42) * M) most)))
+            ≼-trans (≼-trans parts (≼-trans (join-units (e * (ln-two + 1)) w)
+            (units-mono 63 (e * (ln-two + 1) + 2 * w) ((Y + 42) * M) most)))
             (≼-trans (coarser (Y + 42)) (units-split (63 - b) Y 42));
       }
+
+-- THE LAW from 2 up
+pub ln-near : (m b e : ℕ) → 2 ^ 52 ≤ m → m < 2 ^ 53 → 1 ≤ e → e < 2 ^ b → b ≤ 63
+    → Within (ln-lower (units 52 m) e) (ln-upper (units 52 m) e) (units (63 - b) (ln-answer b e m)) (units (63 - b) 12)
+    (units (63 - b) 42)
+unfolding ln-answer ln-lower ln-upper
+ln-near m b e low high some fits few =
+    let s = ln-argument (units 52 m) in
+    multiple-near b e (T-answer 1 (ln-seed m)) some fits few
+    (T-near s (ln-proper (units 52 m)) 1 (ln-seed m) (ln-seeds m low high))

@@ -1,6 +1,6 @@
--- The rule for T(s) is near every enclosure, from a seed: s in units of 2 ^ -(62 + j), 3 too low or 1 too high at most. In these units:
--- the square is 26 units of 2 ^ -64 too low or 9 too high at most, so the sum loses 6 + 2 * 26 units of 2 ^ -63 and gains 2 * 9;
--- what the series leaves out after 44 terms is 2 at most. Assumes nothing.
+-- The rule for T(s) is near every enclosure, from a seed: s in units of 2 ^ -(62 + j), 3 too low or 1 too high at most. In
+-- these units: the square is 26 units of 2 ^ -64 too low or 9 too high at most, so the sum loses 6 + 2 * 26 units of 2 ^ -63
+-- and gains 2 * 9; what the series leaves out after 44 terms is 2 at most. Assumes nothing.
 use Prim.Native.Nat.{ℕ, _+_, _-_, _*_, _/_, _^_, _≤_, _<_}
 use mathlib.Core.Path.{_≡_, sym, _∙_, ap}
 use mathlib.Core.List.{[], _∷_}
@@ -28,8 +28,10 @@ pub record Seed (s : Quotient) (j sg : ℕ) : Type 0 where
 
 -- ---- the square w. s = p / q, g is sg, Q = 2 ^ (62 + j), G = 2 ^ (60 + 2j)
 square-low : Order 6 (λ p q Q G g w.
-    (q :* q times w :* G ≼ g :* g) ∷ (g :* q :+ p :* Q :+ q times g :* q ≼ p :* Q :+ q) ∷ (con 2 :* q times p :* Q ≼ (g :+ con 3) :* q)
-    ∷ (con 2 :* q :* q times g ≼ con (2 ^ 62)) ∷ (con 9 :* q :* q times con (2 ^ 60) ≼ G) ∷ (p :* p times Q :* Q ≼ con (2 ^ 64) :* G) ∷ []
+    (q :* q times w :* G ≼ g :* g) ∷ (g :* q :+ p :* Q :+ q times g :* q ≼ p :* Q :+ q) ∷
+    (con 2 :* q times p :* Q ≼ (g :+ con 3) :* q)
+    ∷ (con 2 :* q :* q times g ≼ con (2 ^ 62)) ∷ (con 9 :* q :* q times con (2 ^ 60) ≼ G) ∷
+    (p :* p times Q :* Q ≼ con (2 ^ 64) :* G) ∷ []
     ⊩ w :* (q :* q) :* G ≈ (p :* p :* con (2 ^ 64) :+ con 9 :* (q :* q)) :* G)
 square-low = by-below tt
 
@@ -46,7 +48,8 @@ squared = by-below tt
 pub small-square : (s : Quotient) → 5 * s .num ≤ 3 * s .den → 25 * (s .num * s .num) ≤ 9 * (s .den * s .den)
 small-square s = squared .law (s .num) (s .den)
 
-square-fits : Order 3 (λ w n d. (con 25 times w :* d ≼ n :* con (2 ^ 64) :+ con 9 :* d) ∷ (con (2 ^ 64) times con 25 :* n ≼ con 9 :* d) ∷ []
+square-fits : Order 3 (λ w n d. (con 25 times w :* d ≼ n :* con (2 ^ 64) :+ con 9 :* d) ∷
+    (con (2 ^ 64) times con 25 :* n ≼ con 9 :* d) ∷ []
     ⊩ con 25 :* w :* d ≈ con (9 * 2 ^ 64 + 225) :* d)
 square-fits = by-below tt
 
@@ -68,7 +71,8 @@ answer-high = by-below tt
 
 -- ---- what the series leaves out: w / x is the power of s^2, D = q^2 - p^2
 tail-fits : Order 7 (λ w x p q Q g D.
-    (con (2 ^ 66) :* q :* q :* w times p :* Q ≼ (g :+ con 3) :* q) ∷ (con 16 :* q :* q :* q :* (g :+ con 3) times w :* con (2 ^ 62) ≼ x)
+    (con (2 ^ 66) :* q :* q :* w times p :* Q ≼ (g :+ con 3) :* q) ∷
+    (con 16 :* q :* q :* q :* (g :+ con 3) times w :* con (2 ^ 62) ≼ x)
     ∷ (q :* x :* (g :+ con 3) times con 16 :* (q :* q) ≼ con 25 :* D) ∷ (con 25 :* D :* q :* x times g ≼ con (2 ^ 62)) ∷ []
     ⊩ q :* q :* (w :* (p :* con 1)) :* Q :* con (2 ^ 66) ≈ con 2 :* (D :* (x :* (q :* con 1))) :* con (2 ^ 66))
 tail-fits = by-below tt
@@ -107,14 +111,17 @@ module _ (s : Quotient) (proper : s .num < s .den) (j sg : ℕ) (seed : Seed s j
       let k = 60 + 2 * j in
       let l : w * (q * q) ≤ p * p * 2 ^ 64 + 9 * (q * q) =
       le-of-mul-le-mul-right
-      (square-low .law p q Q (2 ^ k) sg w (div-mul-le-self (sg * sg) (2 ^ k)) (seed .low) (seed .high) (seed .fits) (room j) (le-of-eq (scale j)))
+      (square-low .law p q Q (2 ^ k) sg w (div-mul-le-self (sg * sg) (2 ^ k)) (seed .low) (seed .high) (seed .fits) (room j)
+      (le-of-eq (scale j)))
       (pow-pos k) in
       let u : p * p * 2 ^ 64 ≤ (w + 26) * (q * q) =
       le-of-mul-le-mul-right
-      (square-high .law p q Q (2 ^ k) sg w (lt-div-mul-add (pow-pos k)) (seed .high) (seed .fits) (room j) (le-of-eq (sym (scale j))))
+      (square-high .law p q Q (2 ^ k) sg w (lt-div-mul-add (pow-pos k)) (seed .high) (seed .fits) (room j)
+      (le-of-eq (sym (scale j))))
       (pow-pos k) in
       let c = small-square s (seed .small) in
-      let f : 25 * w ≤ 9 * 2 ^ 64 + 225 = le-of-mul-le-mul-right (square-fits .law w (p * p) (q * q) l c) (mul-pos (s .pos) (s .pos)) in
+      let f : 25 * w ≤ 9 * 2 ^ 64 + 225 = le-of-mul-le-mul-right (square-fits .law w (p * p) (q * q) l c)
+      (mul-pos (s .pos) (s .pos)) in
       record {
         low = l;
         high = u;
@@ -148,15 +155,19 @@ module _ (s : Quotient) (proper : s .num < s .den) (j sg : ℕ) (seed : Seed s j
       let D = s .den * s .den - s .num * s .num in
       let d : 16 * (s .den * s .den) ≤ 25 * D = omega (arith, small-square s (seed .small)) in
       let k = tail-fits .law (x .num) (x .den) (s .num) (s .den) Q sg D (seed .high) enough d (seed .fits) in
-      let fits : T-factor s proper ⊠ (x ⊠ (s ⊠ over 1 0)) ≼ units (62 + j) 2 = record { cross = le-of-mul-le-mul-right k (pow-pos 66) } in
+      let fits : T-factor s proper ⊠ (x ⊠ (s ⊠ over 1 0)) ≼ units (62 + j) 2 =
+      record { cross = le-of-mul-le-mul-right k (pow-pos 66) } in
       ≼-trans (⊠-mono ≼-refl (late (T-term s) z (T-factor s proper) (T-falls s proper) (terms odd))) fits
 
-  -- THE LAW
-  pub T-near : Within (T-lower s) (T-upper s proper) (units (62 + j) (T-answer j sg)) (units (62 + j) 12) (units (62 + j) 39)
+  -- THE LAW, of one enclosure: the answer is no higher above its lower end, nor lower below its upper end
+  pub T-tight : Within (λ n. T-upper s proper (terms odd)) (λ n. T-lower s (terms odd))
+      (units (62 + j) (T-answer j sg)) (units (62 + j) 12) (units (62 + j) 39)
   unfolding T-answer T-lower T-upper
-  T-near =
-      let at-low : units (62 + j) B ≼ T-lower s (terms odd) ⊞ units (62 + j) 12 = ≼-trans partial-low
-      (⊞-mono (T-expansion s (terms odd) .0) ≼-refl) in
-      let at-high : T-upper s proper (terms odd) ≼ units (62 + j) B ⊞ units (62 + j) 39 =
-      gathered (62 + j) B 37 2 (≼-trans (T-expansion s (terms odd) .1) partial-high) tail-high in
-      near-all (T-nested s proper) (terms odd) at-low at-high
+  T-tight = record {
+    low = λ n. ≼-trans partial-low (⊞-mono (T-expansion s (terms odd) .0) ≼-refl);
+    high = λ n. gathered (62 + j) B 37 2 (≼-trans (T-expansion s (terms odd) .1) partial-high) tail-high;
+  }
+
+  -- and so of all
+  pub T-near : Within (T-lower s) (T-upper s proper) (units (62 + j) (T-answer j sg)) (units (62 + j) 12) (units (62 + j) 39)
+  T-near = near-all (T-nested s proper) (terms odd) (T-tight .low 0) (T-tight .high 0)

@@ -64,6 +64,27 @@ ln-seed m = 2 * (m - 2 ^ 52) * 2 ^ 62 / (m + 2 ^ 52)
 abbrev pub ln-two : ℕ
 ln-two = 6393154322601327829
 
--- in units of 2 ^ (b - 63), where e has b binary digits: e ln 2 + 2 T(s)
+-- in units of 2 ^ (b - 63), where e has b binary digits: e ln 2 + 2t, from t in units of 2 ^ -63
+abbrev pub multiple : ℕ → ℕ → ℕ → ℕ
+multiple b e t = e * ln-two / 2 ^ b + 2 * t / 2 ^ b
+
+-- e ln 2 + 2 T(s)
 unfoldable pub ln-answer : ℕ → ℕ → ℕ → ℕ
-ln-answer b e m = e * ln-two / 2 ^ b + 2 * T-answer 1 (ln-seed m) / 2 ^ b
+ln-answer b e m = multiple b e (T-answer 1 (ln-seed m))
+
+-- ---- ln of m * 2 ^ -(e + 53), 2 ^ 52 ≤ m < 2 ^ 53, e ≥ 1: the size, by the inverse of m / 2 ^ 53, so that nothing is taken away
+-- r = (2 ^ 53 - m) / (2 ^ 53 + m) in units of 2 ^ -63
+abbrev pub inverse-seed : ℕ → ℕ
+inverse-seed m = 2 * (2 ^ 53 - m) * 2 ^ 62 / (2 ^ 53 + m)
+
+-- e ln 2 + 2 T(r)
+unfoldable pub ln-below-answer : ℕ → ℕ → ℕ → ℕ
+ln-below-answer b e m = multiple b e (T-answer 1 (inverse-seed m))
+
+-- ---- ln between 1/2 and 2: ln_1p of the distance from 1, which is n units of 2 ^ -53. Where n has 53 - j binary digits, these
+-- are n * 2 ^ j units of 2 ^ -(53 + j); the answer's size is in units of 2 ^ -(61 + j).
+unfoldable pub gain-answer : ℕ → ℕ → ℕ
+gain-answer j n = T-answer j (gain-seed j (n * 2 ^ j))
+
+unfoldable pub loss-answer : ℕ → ℕ → ℕ
+loss-answer j n = T-answer j (loss-seed j (n * 2 ^ j))

@@ -1,18 +1,22 @@
--- The answers have enough digits, so that the rules' units are small beside an f64's, and not too many for a word. Assumes nothing.
+-- The answers have enough digits, so that the rules' units are small beside an f64's, and not too many for a word. Assumes
+-- nothing.
 use Prim.Native.Nat.{ℕ, _+_, _-_, _*_, _/_, _^_, _≤_, _<_}
 use mathlib.Core.List.{[], _∷_}
-use native.Mathlib.Nat.{le-div-iff-mul-le, div-lt-iff-lt-mul, div-le-of-le-mul, div-le-self, mul-le-mul, mul-le-mul-left, mul-le-mul-right}
+use native.Mathlib.Nat.{le-trans, le-div-iff-mul-le, div-lt-iff-lt-mul, div-le-of-le-mul, div-le-self, mul-le-mul}
+use native.Mathlib.Nat.{mul-le-mul-left, mul-le-mul-right}
 use native.Mathlib.Omega.{arith}
 use lib.Pow.{pow-pos}
 use Rattle.algebra.specs.Ring.{con, nxt, _:+_, _:*_, _≈_, _⊩_, _times_≼_, Order, by-below}
 use Rattle.enclosure.specs.Quotient.{Quotient, units}
 use Rattle.enclosure.specs.Enclosure.{ln-argument}
 use Rattle.enclosure.specs.Pieces.{euler, odd, pieces, piece, value}
-use Rattle.enclosure.specs.Rules.{square, share, front, atan-answer, steep-answer, seed-square, T-answer, part, gain-seed, loss-seed, ln-seed, ln-two, ln-answer}
+use Rattle.enclosure.specs.Rules.{square, share, front, atan-answer, steep-answer, seed-square, T-answer, part, gain-seed}
+use Rattle.enclosure.specs.Rules.{loss-seed, ln-seed, ln-two, multiple, ln-answer}
+use Rattle.enclosure.specs.Rules.{inverse-seed, ln-below-answer, gain-answer, loss-answer}
 use Rattle.enclosure.specs.Rows.{value-fits, value-least}
 use Rattle.enclosure.specs.Atan as atan
 use Rattle.enclosure.specs.Logarithm as logarithm
-use Rattle.enclosure.specs.Seeds.{ln-seeds}
+use Rattle.enclosure.specs.Seeds.{ln-seeds, beyond, inverse-seeds, above-seeds, below-seeds}
 use Rattle.enclosure.specs.Steep.{inverse-most}
 
 -- t is a whole number of units
@@ -52,7 +56,8 @@ module _ (j tau : ℕ) (high : tau ≤ 2 ^ 62) where
   pub atan-fits : atan-answer j tau < 2 ^ 63
   unfolding atan-answer
   atan-fits =
-      div-lt-iff-lt-mul (pow-pos 63) .1 (product-fits .law (front tau f) (value euler (4 * f)) front-fits (value-fits euler (4 * f) share-inside))
+      div-lt-iff-lt-mul (pow-pos 63) .1 (product-fits .law (front tau f) (value euler (4 * f)) front-fits
+      (value-fits euler (4 * f) share-inside))
 
 pub steep-size : (t : Quotient) (h : t .den < t .num) → 2 ^ 61 ≤ steep-answer (t .den * 2 ^ 62 / t .num)
 unfolding steep-answer
@@ -98,16 +103,50 @@ loss-size j m low high =
 enough-digits : Order 2 (λ e M. (con (2 ^ 61) times M ≼ con 2 :* e) ∷ [] ⊩ con (2 ^ 61) :* M ≈ e :* con ln-two)
 enough-digits = by-below tt
 
+pub multiple-size : (b e t : ℕ) → 2 ^ b ≤ 2 * e → 2 ^ 61 ≤ multiple b e t
+multiple-size b e t h = let k : 2 ^ 61 ≤ e * ln-two / 2 ^ b =
+    le-div-iff-mul-le (pow-pos b) .1 (enough-digits .law e (2 ^ b) h) in omega arith
+
+pub multiple-fits : (b e t : ℕ) → t < 2 ^ 63 → 1 ≤ e → e < 2 ^ b → multiple b e t < 2 ^ 64
+multiple-fits b e t word some fits =
+    let two : 2 ≤ 2 ^ b = omega arith in
+    let first : e * ln-two / 2 ^ b ≤ ln-two = div-le-of-le-mul (2 ^ b) (omega arith) in
+    let second : 2 * t / 2 ^ b ≤ t = div-le-of-le-mul (2 ^ b) (mul-le-mul-right t two) in
+    omega arith
+
 pub ln-size : (b e m : ℕ) → 2 ^ b ≤ 2 * e → 2 ^ 61 ≤ ln-answer b e m
 unfolding ln-answer
-ln-size b e m h = let k : 2 ^ 61 ≤ e * ln-two / 2 ^ b = le-div-iff-mul-le (pow-pos b) .1 (enough-digits .law e (2 ^ b) h) in omega arith
+ln-size b e m = multiple-size b e (T-answer 1 (ln-seed m))
 
 pub ln-fits : (m b e : ℕ) → 2 ^ 52 ≤ m → m < 2 ^ 53 → 1 ≤ e → e < 2 ^ b → ln-answer b e m < 2 ^ 64
 unfolding ln-answer
-ln-fits m b e low high some fits =
+ln-fits m b e low high =
+    multiple-fits b e (T-answer 1 (ln-seed m)) (T-fits (ln-argument (units 52 m)) 1 (ln-seed m) (ln-seeds m low high))
+
+pub ln-below-size : (b e m : ℕ) → 2 ^ b ≤ 2 * e → 2 ^ 61 ≤ ln-below-answer b e m
+unfolding ln-below-answer
+ln-below-size b e m = multiple-size b e (T-answer 1 (inverse-seed m))
+
+pub ln-below-fits : (m b e : ℕ) → 2 ^ 52 ≤ m → m < 2 ^ 53 → 1 ≤ e → e < 2 ^ b → ln-below-answer b e m < 2 ^ 64
+unfolding ln-below-answer
+ln-below-fits m b e low high =
+    multiple-fits b e (T-answer 1 (inverse-seed m)) (T-fits (beyond m low high) 1 (inverse-seed m) (inverse-seeds m low high))
+
+-- ---- ln between 1/2 and 2, where the distance from 1 is n units of 2 ^ -53, n of 53 - j digits
+pub above-one-size : (m j : ℕ) → 2 ^ 52 ≤ m → m < 2 ^ 53 → let n = 2 * (m - 2 ^ 52) in 2 ^ 52 ≤ n * 2 ^ j → n * 2 ^ j ≤ 2 ^ 53
+    → (2 ^ 59 ≤ gain-answer j n) × (gain-answer j n < 2 ^ 63)
+unfolding gain-answer
+above-one-size m j low high some fits =
+    let k = 2 * (m - 2 ^ 52) * 2 ^ j in
     let s = ln-argument (units 52 m) in
-    let B = T-answer 1 (ln-seed m) in
-    let two : 2 ≤ 2 ^ b = omega arith in
-    let first : e * ln-two / 2 ^ b ≤ ln-two = div-le-of-le-mul (2 ^ b) (omega arith) in
-    let second : 2 * B / 2 ^ b ≤ B = div-le-of-le-mul (2 ^ b) (mul-le-mul-right B two) in
-    omega (arith, T-fits s 1 (ln-seed m) (ln-seeds m low high))
+    let seed = above-seeds m j low high fits in
+    (le-trans (gain-size j k some) (T-size s j (gain-seed j k) seed), T-fits s j (gain-seed j k) seed)
+
+pub below-one-size : (m j : ℕ) → 2 ^ 52 ≤ m → m < 2 ^ 53 → let n = 2 ^ 53 - m in 2 ^ 52 ≤ n * 2 ^ j → n * 2 ^ j ≤ 2 ^ 53
+    → (2 ^ 59 ≤ loss-answer j n) × (loss-answer j n < 2 ^ 63)
+unfolding loss-answer
+below-one-size m j low high some fits =
+    let k = (2 ^ 53 - m) * 2 ^ j in
+    let s = beyond m low high in
+    let seed = below-seeds m j low high fits in
+    (le-trans (loss-size j k some fits) (T-size s j (loss-seed j k) seed), T-fits s j (loss-seed j k) seed)

@@ -1,4 +1,5 @@
--- atan above 1 is 8 atan(1/5) - 2 atan(1/239) - atan(1/t): the constant less the rule's answer at 1/t is near every enclosure. Assumes nothing.
+-- atan above 1 is 8 atan(1/5) - 2 atan(1/239) - atan(1/t): the constant less the rule's answer at 1/t is near every enclosure.
+-- Assumes nothing.
 use Prim.Native.Nat.{ℕ, _+_, _-_, _*_, _/_, _^_, _≤_, _<_}
 use mathlib.Core.Path.{_≡_}
 use mathlib.Core.Logic.{inl, inr}
@@ -18,21 +19,23 @@ use Rattle.enclosure.specs.Tiny.{atan-first-high}
 
 -- ---- differences (w is the numerator of x ⊟ z)
 put-over : Order 9 (λ a a' z z' x x' b b' w.
-    (con 1 times (a :* z' :+ z :* a') :* (x' :* b') ≼ (x :* b' :+ b :* x') :* (a' :* z')) ∷ (b' :* a' times x :* z' ≼ w :+ z :* x') ∷ []
+    (con 1 times (a :* z' :+ z :* a') :* (x' :* b') ≼ (x :* b' :+ b :* x') :* (a' :* z')) ∷
+    (b' :* a' times x :* z' ≼ w :+ z :* x') ∷ []
     ⊩ a :* (x' :* z' :* b') ≈ (w :* b' :+ b :* (x' :* z')) :* a')
 put-over = by-below tt
 
-⊟-below : (a z x b : Quotient) → a ⊞ z ≼ x ⊞ b → a ≼ x ⊟ z ⊞ b
+pub ⊟-below : (a z x b : Quotient) → a ⊞ z ≼ x ⊞ b → a ≼ x ⊟ z ⊞ b
 ⊟-below a z x b h =
     let w = x .num * z .den - z .num * x .den in
     let e : x .num * z .den ≤ w + z .num * x .den = omega arith in
     record { cross = put-over .law (a .num) (a .den) (z .num) (z .den) (x .num) (x .den) (b .num) (b .den) w (h .cross) e }
 
-taken-off : Order 7 (λ a a' z z' x x' w. (con 1 times x :* (a' :* z') ≼ (a :* z' :+ z :* a') :* x') ∷ (a' times w :+ z :* x' ≼ x :* z') ∷ []
+taken-off : Order 7 (λ a a' z z' x x' w. (con 1 times x :* (a' :* z') ≼ (a :* z' :+ z :* a') :* x') ∷
+    (a' times w :+ z :* x' ≼ x :* z') ∷ []
     ⊩ w :* a' ≈ a :* (x' :* z'))
 taken-off = by-below tt
 
-⊟-above : {a x : Quotient} (z : Quotient) → x ≼ a ⊞ z → x ⊟ z ≼ a
+pub ⊟-above : {a x : Quotient} (z : Quotient) → x ≼ a ⊞ z → x ⊟ z ≼ a
 ⊟-above {a} {x} z h =
     let w = x .num * z .den - z .num * x .den in
     elim (lt-or-le (x .num * z .den) (z .num * x .den)) [
@@ -49,7 +52,8 @@ cancelled = by-below tt
 
 ⊞-cancel : {x y : Quotient} (z : Quotient) → x ⊞ z ≼ y ⊞ z → x ≼ y
 ⊞-cancel {x} {y} z h = record {
-  cross = le-of-mul-le-mul-right (cancelled .law (x .num) (x .den) (y .num) (y .den) (z .num) (z .den) (h .cross)) (mul-pos (z .pos) (z .pos));
+  cross = le-of-mul-le-mul-right (cancelled .law (x .num) (x .den) (y .num) (y .den) (z .num) (z .den) (h .cross))
+      (mul-pos (z .pos) (z .pos));
 }
 
 swapped : Order 6 (λ x x' v v' b b'. (x :* (v' :* b') :+ (v :* b' :+ b :* v') :* x') :* (x' :* b' :* v')
@@ -80,7 +84,8 @@ at-most-one : Order 2 (λ n d. (con (2 ^ 124) times n ≼ d) ∷ []
     ⊩ (n :* con (2 ^ 62) :+ con 10 :* d) :* con (2 ^ 62) ≈ con (2 ^ 62 + 10) :* (d :* con (2 ^ 62)))
 at-most-one = by-below tt
 
-pub within-one : (r : Quotient) (v : ℕ) (up : Quotient) → r .num ≤ r .den → Within (atan-lower r) (atan-upper r) (units 62 v) (units 62 10) up
+pub within-one : (r : Quotient) (v : ℕ) (up : Quotient) → r .num ≤ r .den
+    → Within (atan-lower r) (atan-upper r) (units 62 v) (units 62 10) up
     → v ≤ 2 ^ 62 + 10
 within-one r v up one w =
     let most : r ⊞ units 62 10 ≼ units 62 (2 ^ 62 + 10) = record { cross = at-most-one .law (r .num) (r .den) one } in
@@ -130,6 +135,7 @@ module _ (t : Quotient) (steep : t .den < t .num) where
             let g = whole 2 ⊠ atan-upper part-of-239 n in
             let u = atan-upper r n in
             let h : x ⊞ units 62 v ≼ units 62 (half-pi + 1) ⊞ g ⊞ (u ⊞ units 62 10) = ⊞-mono (half-pi-high n) (near .low n) in
-            let k : x ⊞ units 62 v ≼ units 62 (y + 11) ⊞ (g ⊞ u) ⊞ units 62 v = ≼-trans h (gather g u (half-pi + 1) 10 (y + 11) v (omega arith)) in
+            let k : x ⊞ units 62 v ≼ units 62 (y + 11) ⊞ (g ⊞ u) ⊞ units 62 v =
+            ≼-trans h (gather g u (half-pi + 1) 10 (y + 11) v (omega arith)) in
             ≼-trans (⊟-above (g ⊞ u) (⊞-cancel (units 62 v) k)) (units-split 62 y 11);
       }

@@ -1,4 +1,5 @@
--- Small arguments, where the answer is the argument: atan(t) is at most t^3 away from t, ln_1p(a) at most a^2 from a. Assumes nothing.
+-- Small arguments, where the answer is the argument: atan(t) is at most t^3 away from t, ln_1p(a) at most a^2 from a. Assumes
+-- nothing.
 use Prim.Native.Nat.{ℕ, _+_, _-_, _*_, _≤_, _<_}
 use mathlib.Core.List.{[], _∷_}
 use native.Mathlib.Nat.{le-of-mul-le-mul-right}
@@ -6,7 +7,8 @@ use native.Mathlib.Omega.{arith}
 use Rattle.algebra.specs.Ring.{con, _:+_, _:*_, _≈_, _⊩_, _times_≼_, Order, by-below}
 use Rattle.enclosure.specs.Quotient.{Quotient, _≼_, whole, _⊞_, _⊠_}
 use Rattle.enclosure.specs.Order.{≼-refl, ≼-trans, ⊞-mono, ⊠-mono, ≼-more}
-use Rattle.enclosure.specs.Enclosure.{sum, odd-power, euler-term, T-lower, T-upper, atan-lower, atan-upper, gain, gain-proper, loss, loss-proper, double-lower, double-upper, Within}
+use Rattle.enclosure.specs.Enclosure.{sum, odd-power, euler-term, T-lower, T-upper, atan-lower, atan-upper, gain}
+use Rattle.enclosure.specs.Enclosure.{gain-proper, loss, loss-proper, double-lower, double-upper, Within}
 use Rattle.enclosure.specs.Nested.{T-nested, atan-nested}
 use Rattle.enclosure.specs.Logarithm.{small-square}
 
@@ -17,7 +19,8 @@ first-low : Order 2 (λ n d. n :* (con 1 :* (d :* (d :* d :+ n :* n)) :* (d :* (
 first-low = by-below tt
 
 first-high : Order 2 (λ n d.
-    ((con 0 :* (d :* (d :* d :+ n :* n)) :+ n :* (d :* d) :* con 1) :* (d :* d :* (d :* (d :* d :+ n :* n) :* con 3 :* (d :* d :+ n :* n)))
+    ((con 0 :* (d :* (d :* d :+ n :* n)) :+ n :* (d :* d) :* con 1) :*
+    (d :* d :* (d :* (d :* d :+ n :* n) :* con 3 :* (d :* d :+ n :* n)))
     :+ (d :* d :+ n :* n) :* (n :* (d :* d) :* con 2 :* (n :* n)) :* (con 1 :* (d :* (d :* d :+ n :* n)))) :* d
     ≈ n :* (con 1 :* (d :* (d :* d :+ n :* n)) :* (d :* d :* (d :* (d :* d :+ n :* n) :* con 3 :* (d :* d :+ n :* n)))))
 first-high = by-below tt
@@ -48,9 +51,10 @@ T-first-upper = by-below tt
 
 T-tiny-low : (s : Quotient) (h : s .num < s .den) (n : ℕ) → s ≼ T-upper s h n
 unfolding T-lower sum odd-power
-T-tiny-low s h n = let first : s ≼ T-lower s 1 = record { cross = T-first-lower .law (s .num) (s .den) } in ≼-trans first (T-nested s h 1 n)
+T-tiny-low s h n = let first : s ≼ T-lower s 1 = record { cross = T-first-lower .law (s .num) (s .den) } in
+    ≼-trans first (T-nested s h 1 n)
 
-T-tiny-high : (s : Quotient) (h : s .num < s .den) → 5 * s .num ≤ 3 * s .den → (n : ℕ) → T-lower s n ≼ s ⊞ s ⊠ (s ⊠ s)
+pub T-tiny-high : (s : Quotient) (h : s .num < s .den) → 5 * s .num ≤ 3 * s .den → (n : ℕ) → T-lower s n ≼ s ⊞ s ⊠ (s ⊠ s)
 unfolding T-upper sum odd-power
 T-tiny-high s h small n =
     let w = s .den * s .den - s .num * s .num in
@@ -59,7 +63,8 @@ T-tiny-high s h small n =
     ≼-trans (T-nested s h n 1) first
 
 -- ---- ln_1p above 0: a - a^2 ≤ 2s, and 2s + 2s^3 ≤ a, where s = a / (2+a)
-gain-least : Order 2 (λ n d. n :* (con 1 :* (con 2 :* d :+ n) :* (d :* d)) ≈ (con 2 :* n :* (d :* d) :+ n :* n :* (con 1 :* (con 2 :* d :+ n))) :* d)
+gain-least : Order 2 (λ n d. n :* (con 1 :* (con 2 :* d :+ n) :* (d :* d)) ≈
+    (con 2 :* n :* (d :* d) :+ n :* n :* (con 1 :* (con 2 :* d :+ n))) :* d)
 gain-least = by-below tt
 
 gain-most : Order 2 (λ n d.
@@ -67,7 +72,8 @@ gain-most : Order 2 (λ n d.
     ≈ n :* (con 1 :* ((con 2 :* d :+ n) :* ((con 2 :* d :+ n) :* ((con 2 :* d :+ n) :* (con 2 :* d :+ n))))))
 gain-most = by-below tt
 
-pub gain-tiny : (a : Quotient) → 4 * a .num ≤ a .den → Within (double-lower (gain a)) (double-upper (gain a) (gain-proper a)) a (a ⊠ a) (whole 0)
+pub gain-tiny : (a : Quotient) → 4 * a .num ≤ a .den → Within (double-lower (gain a)) (double-upper (gain a) (gain-proper a)) a
+    (a ⊠ a) (whole 0)
 unfolding double-lower double-upper
 gain-tiny a h =
     let s = gain a in

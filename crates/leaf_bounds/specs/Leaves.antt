@@ -1,5 +1,6 @@
--- How large atan, ln and ln(1 + a) - ln(1 - a) are at an argument above zero of 2 ^ -90 to 2 ^ 526: from 2 ^ -104 to 2 ^ 16, or no number.
--- A rule's answer has 60 to 64 digits of a known unit (`Sizes`), so its size is known within a few powers of two. Assumes nothing.
+-- How large atan, ln and ln(1 + a) - ln(1 - a) are at an argument of 2 ^ -90 to 2 ^ 526, above 1 for ln: from 2 ^ -104 to
+-- 2 ^ 16, or no number. A rule's answer has 60 to 64 digits of a known unit (`Sizes`), so its size is known within a few
+-- powers of two. Assumes nothing.
 use Prim.Native.Nat.{ℕ, _+_, _-_, _*_, _/_, _^_, _≤_, _<_}
 use mathlib.Core.Path.{_≡_, sym, ap, _∙_, subst}
 use mathlib.Core.Bool.{Bool, true, false}
@@ -14,8 +15,8 @@ use Rattle.algebra.specs.Order.{lt-or-le}
 use Rattle.rounding.specs.Cut.{infinity, value}
 use Rattle.rounding.specs.Value.{value-lt}
 use Rattle.rounding.specs.Sign.{bits-neg}
-use Rattle.enclosure.specs.Rules.{atan-answer, half-pi, steep-answer, T-answer, gain-seed, loss-seed, ln-answer}
-use Rattle.enclosure.specs.Sizes.{atan-size, atan-fits, steep-size, T-size, T-fits, gain-size, loss-size}
+use Rattle.enclosure.specs.Rules.{atan-answer, half-pi, steep-answer, T-answer, gain-seed, loss-seed, ln-answer, gain-answer}
+use Rattle.enclosure.specs.Sizes.{atan-size, atan-fits, steep-size, T-size, T-fits, gain-size, loss-size, above-one-size}
 use Rattle.enclosure.specs.Enclosure.{gain, loss}
 use Rattle.series.specs.Pattern.{size-bits, field, digits}
 use Rattle.series.specs.Near.{number}
@@ -26,7 +27,7 @@ use Rattle.series.specs.Ln as logarithm
 use Rattle.series.specs.Ln1p.{ln-1p}
 use Rattle.series.specs.Ln1p as one-plus
 use Rattle.series.specs.Cases as cases
-use Rattle.series.specs.Exponents.{digits-most, answer-fits, answer-size}
+use Rattle.series.specs.Exponents.{full-low, full-high, digits-most, answer-fits, answer-size}
 use Rattle.series.specs.Arguments.{one-is, above-one, inverse-is, seed-above, seed-below}
 use Rattle.series.specs.Names.{signed-bits}
 use Rattle.scaling.specs.Units.{Is, neg-units}
@@ -50,10 +51,14 @@ fits : 2 ^ high < overflow binary64
 fits = lit< tt
 
 value-le : (a b : ℕ) → a ≤ b → value a ≤ value b
-value-le a b h = elim (lt-or-le a b) [ inl l ↦ le-of-lt (value-lt a b l) | inr l ↦ le-of-eq (ap value (let e : a ≡ b = omega arith in e)) ]
+value-le a b h = elim (lt-or-le a b) [
+  | inl l ↦ le-of-lt (value-lt a b l)
+  | inr l ↦ le-of-eq (ap value (let e : a ≡ b = omega arith in e))
+]
 
 -- a rule's answer A of 60 to 64 digits, in units of 2 ^ -t
-answer : (s : Bool) (A t : ℕ) → 2 ^ 59 ≤ A → A < 2 ^ 64 → 52 ≤ t → t ≤ 150 → Powers binary64 s low high (round binary64 s A (2 ^ t))
+answer : (s : Bool) (A t : ℕ) → 2 ^ 59 ≤ A → A < 2 ^ 64 → 52 ≤ t → t ≤ 150
+    → Powers binary64 s low high (round binary64 s A (2 ^ t))
 answer s A t h l few many = rounded-between binary64 s A t low high 59 64 h (le-of-lt l) (omega arith) (omega arith) fits
 
 module _ {x : Float} {n : ℕ} (is : Is binary64 x false n) (from : 2 ^ least ≤ n) (to : n ≤ 2 ^ most) where
@@ -103,7 +108,8 @@ module _ {x : Float} {n : ℕ} (is : Is binary64 x false n) (from : 2 ^ least �
       let tau-high : tau ≤ 2 ^ 62 = omega arith in
       let long = atan-size j tau tau-high tau-low in
       let short = atan-fits j tau tau-high in
-      subst (Powers binary64 false low high) is (answer false (atan-answer j tau) (62 + j) (omega arith) (omega arith) (omega arith) (omega arith))
+      subst (Powers binary64 false low high) is (answer false (atan-answer j tau) (62 + j) (omega arith) (omega arith)
+      (omega arith) (omega arith))
 
   atan-one : b ≡ arc.one → Powers binary64 false low high (atan x)
   atan-one e =
@@ -111,7 +117,8 @@ module _ {x : Float} {n : ℕ} (is : Is binary64 x false n) (from : 2 ^ least �
       let is : arc.at-one false ≡ atan x = rw unsigned at case in
       let long = atan-size 0 (2 ^ 62) (lit≤ tt) (lit≤ tt) in
       let short = atan-fits 0 (2 ^ 62) (lit≤ tt) in
-      subst (Powers binary64 false low high) is (answer false (atan-answer 0 (2 ^ 62)) 62 (omega arith) (omega arith) (omega arith) (omega arith))
+      subst (Powers binary64 false low high) is (answer false (atan-answer 0 (2 ^ 62)) 62 (omega arith) (omega arith)
+      (omega arith) (omega arith))
 
   steep-word : (t : ℕ) → steep-answer t < 2 ^ 64
   unfolding steep-answer
@@ -122,9 +129,11 @@ module _ {x : Float} {n : ℕ} (is : Is binary64 x false n) (from : 2 ^ least �
       let case = cases.atan-above-one x b bits (rw same (omega arith)) (rw same (λ e. omega arith)) (rw same l) in
       let is : arc.above-one false b ≡ atan x = rw (same, unsigned) at case in
       let tau = 2 ^ 114 / digits b / 2 ^ (field b - 1023) in
-      let long : 2 ^ 61 ≤ steep-answer tau = subst (λ (t : ℕ). 2 ^ 61 ≤ steep-answer t) (inverse-is b h) (steep-size (number b) (above-one b h)) in
+      let long : 2 ^ 61 ≤ steep-answer tau = subst (λ (t : ℕ). 2 ^ 61 ≤ steep-answer t) (inverse-is b h)
+      (steep-size (number b) (above-one b h)) in
       let short = steep-word tau in
-      subst (Powers binary64 false low high) is (answer false (steep-answer tau) 62 (omega arith) short (omega arith) (omega arith))
+      subst (Powers binary64 false low high) is (answer false (steep-answer tau) 62 (omega arith) short (omega arith)
+      (omega arith))
 
   atan-far : arc.far ≤ b → Powers binary64 false low high (atan x)
   atan-far h =
@@ -146,18 +155,37 @@ module _ {x : Float} {n : ℕ} (is : Is binary64 x false n) (from : 2 ^ least �
         ]
   ]
 
-  -- ---- ln
-  pub ln-between : (ln x ≡ nan) ⊎ Powers binary64 false low high (ln x)
-  ln-between = elim (lt-or-le b logarithm.two) [
-    | inl h ↦ inl (sym (cases.ln-below x b bits h))
-    | inr h ↦
-        let e = field b - 1023 in
-        let m = digits b in
-        let range = cases.ln-range b h finite in
-        let few = digits-most e m range in
-        let long = answer-size e m range in
-        inr (subst (Powers binary64 false low high) (cases.ln-from x b bits h finite)
-        (answer false (ln-answer (size e) e m) (63 - size e) (omega arith) (answer-fits e m range) (omega arith) (omega arith)))
+  -- ---- ln, where the argument is above 1
+  ln-from-two : logarithm.two ≤ b → Powers binary64 false low high (ln x)
+  ln-from-two h =
+      let e = field b - 1023 in
+      let m = digits b in
+      let range = cases.ln-range b h finite in
+      let few = digits-most e m range in
+      let long = answer-size e m range in
+      subst (Powers binary64 false low high) (cases.ln-from x b bits h finite)
+      (answer false (ln-answer (size e) e m) (63 - size e) (omega arith) (answer-fits e m range) (omega arith) (omega arith))
+
+  ln-above-one : logarithm.one < b → b < logarithm.two → Powers binary64 false low high (ln x)
+  ln-above-one h l =
+      let k = 2 * (digits b - 2 ^ 52) in
+      let j = 53 - size k in
+      let e : 2 * (b - logarithm.one) ≡ k = omega arith in
+      let some : 1 ≤ k = omega arith in
+      let most : k < 2 ^ 53 = omega arith in
+      let fits : k * 2 ^ j ≤ 2 ^ 53 = le-of-lt (full-high k some most) in
+      let sizes = above-one-size (digits b) j (omega arith) (omega arith) (full-low k some most) fits in
+      let long = sizes .0 in
+      let short = sizes .1 in
+      let case = cases.ln-above-one b (omega arith) (λ q. omega arith) ∙ cases.ln-under x b bits l in
+      subst (Powers binary64 false low high) (ap (λ (i : ℕ). logarithm.ln-close false i) (sym e) ∙ case)
+      (answer false (gain-answer j k) (61 + j) long (omega arith) (omega arith) (omega arith))
+
+  pub ln-between : 2 ^ 1074 < n → Powers binary64 false low high (ln x)
+  ln-between above = elim (lt-or-le logarithm.one b) [
+    | inl h ↦ elim (lt-or-le b logarithm.two) [ inl l ↦ ln-above-one h l | inr l ↦ ln-from-two l ]
+    | inr h ↦ absurd (not-le-of-lt above
+        (le-trans (le-of-eq (sym (value-back is))) (le-trans (value-le b logarithm.one h) (le-of-eq one-is))))
   ]
 
   -- ---- ln(1 + a) - ln(1 - a): both sizes, and their sum
@@ -190,7 +218,8 @@ module _ {x : Float} {n : ℕ} (is : Is binary64 x false n) (from : 2 ^ least �
       let some = gain-size j (digits b) (range .low) in
       let long = le-trans some (T-size (gain (number b)) j sg seed) in
       let short = T-fits (gain (number b)) j sg seed in
-      subst (Powers binary64 false low high) is (answer false (T-answer j sg) (61 + j) long (omega arith) (omega arith) (omega arith))
+      subst (Powers binary64 false low high) is (answer false (T-answer j sg) (61 + j) long (omega arith) (omega arith)
+      (omega arith))
 
   loss-between : one-plus.tiny ≤ b → b ≤ one-plus.last → Powers binary64 true low high (ln-1p (neg x))
   loss-between h l =
@@ -205,7 +234,8 @@ module _ {x : Float} {n : ℕ} (is : Is binary64 x false n) (from : 2 ^ least �
       let some = loss-size j (digits b) (range .low) digit in
       let long = le-trans some (T-size (loss (number b) proper) j sg seed) in
       let short = T-fits (loss (number b) proper) j sg seed in
-      subst (Powers binary64 true low high) is (answer true (T-answer j sg) (61 + j) long (omega arith) (omega arith) (omega arith))
+      subst (Powers binary64 true low high) is (answer true (T-answer j sg) (61 + j) long (omega arith) (omega arith)
+      (omega arith))
 
   -- the negative of a tiny argument
   opposite : Powers binary64 false low high x → Powers binary64 true low high (neg x)
@@ -218,7 +248,8 @@ module _ {x : Float} {n : ℕ} (is : Is binary64 x false n) (from : 2 ^ least �
   unfolding sub add
   no-spread e = ap (λ (y : Float). sub binary64 y (ln-1p (neg x))) (sym e)
 
-  both : Powers binary64 false low high (ln-1p x) → Powers binary64 true low high (ln-1p (neg x)) → Powers binary64 false low (high + 1) spread
+  both : Powers binary64 false low high (ln-1p x) → Powers binary64 true low high (ln-1p (neg x))
+      → Powers binary64 false low (high + 1) spread
   both v w = sum-between binary64 low high v w (lit< tt)
 
   pub spread-between : (spread ≡ nan) ⊎ Powers binary64 false low (high + 1) spread

@@ -1,5 +1,5 @@
 -- `Digits`: a digit of a quotient, by one more than the divisor's upper part. `Products`: upper words of products.
--- `Seeds`: the divisors and seeds of ln_1p and ln. `Zeros`: ln's exponent, its leading zeros, and the sum.
+-- `Seeds`: the divisors and seeds of ln_1p and ln. `Zeros`: leading zeros, of ln's exponent and of digits.
 mod Digits
 mod Products
 mod Seeds

@@ -1,37 +1,42 @@
 -- An argument taken apart by its pattern is the number that the rules and the enclosures speak of. Assumes nothing.
-use Prim.Native.Nat.{ℕ, _+_, _-_, _*_, _/_, _%_, _^_, _≤_, _<_}
+use Prim.Native.Nat.{ℕ, suc, _+_, _-_, _*_, _/_, _%_, _^_, _≤_, _<_}
 use mathlib.Core.Path.{_≡_, refl, sym, ap, ap₂, _∙_, subst}
 use mathlib.Core.Logic.{inl, inr}
-use mathlib.Core.List.{[], _∷_}
-use native.Mathlib.Nat.{le-of-eq, le-of-lt, lt-of-lt-of-le, div-eq-of-lt, add-comm, mul-comm, mul-sub, mul-le-mul-right, mul-lt-mul-of-pos-right, mul-div-mul-right, div-div-eq-div-mul}
+use native.Mathlib.Nat.{le-of-eq, le-of-lt, lt-of-lt-of-le, div-eq-of-lt, add-comm, mul-comm, mul-sub, mul-le-mul-right}
+use native.Mathlib.Nat.{mul-lt-mul-of-pos-right, mul-div-mul-right, div-div-eq-div-mul}
 use native.Mathlib.Omega.{arith}
 use lib.Dec.{lit<}
 use lib.Pow.{pow-pos, pow-add, pow-mono}
-use lib.Ieee.{fits}
-use Rattle.algebra.specs.Ring.{con, _:+_, _:*_, _≈_, _⊩_, _times_≼_, Order, by-below}
+use lib.Ieee.{fits, size}
+use lib.Ieee.Digits.{size-le}
 use Rattle.algebra.specs.Order.{lt-or-le}
 use Rattle.rounding.specs.Cut.{value}
 use Rattle.rounding.specs.Value.{value-high, value-small, value-lt}
 use Rattle.enclosure.specs.Quotient.{Quotient, units}
 use Rattle.enclosure.specs.Enclosure.{gain, loss}
 use Rattle.enclosure.specs.Rules.{gain-seed, loss-seed}
-use Rattle.enclosure.specs.Seeds.{gain-seeds, loss-seeds}
+use Rattle.enclosure.specs.Seeds.{gain-seeds, loss-seeds, seed-same}
 use Rattle.enclosure.specs.Atan.{Floor}
 use Rattle.enclosure.specs.Logarithm.{Seed}
 use Rattle.series.specs.Pattern.{field, digits}
 use Rattle.series.specs.Near.{number}
 use Rattle.series.specs.Atan.{one, far}
+use Rattle.series.specs.Ln.{below-exponent, full-digits}
 use Rattle.series.specs.Ln1p.{tiny, last}
 use Rattle.series.specs.Ranges.{Small}
-use Rattle.series.specs.Cases.{ln-1p-range}
+use Rattle.series.specs.Cases.{ln-1p-range, subnormal, normal}
 
 -- ---- the size by digits and field
 pub size-is : (a : ℕ) → 2 ^ 52 ≤ a → value a ≡ digits a * 2 ^ (field a - 1)
 size-is a h = value-high a h ∙ ap (λ (m : ℕ). m * 2 ^ (field a - 1)) (add-comm (2 ^ 52) (a % 2 ^ 52))
 
--- the size's unit is that of document 01: 2 ^ 52 of them are the largest power of two not above it, and where it is less, the unit is 2 ^ -1074
+-- the size's unit is that of document 01: 2 ^ 52 of them are the largest power of two not above it, and where it is less, the
+-- unit is 2 ^ -1074
 pub unit-normal : (a : ℕ) → 2 ^ 52 ≤ a → (2 ^ 52 * 2 ^ (field a - 1) ≤ value a) × (value a < 2 ^ 53 * 2 ^ (field a - 1))
-unit-normal a h = rw (size-is a h) (mul-le-mul-right (2 ^ (field a - 1)) (omega arith), mul-lt-mul-of-pos-right (omega arith) (pow-pos (field a - 1)))
+unit-normal a h = rw (size-is a h) (
+  mul-le-mul-right (2 ^ (field a - 1)) (omega arith),
+  mul-lt-mul-of-pos-right (omega arith) (pow-pos (field a - 1)),
+)
 
 pub unit-subnormal : (a : ℕ) → a < 2 ^ 52 → (value a ≡ a) × (field a - 1 ≡ 0)
 unit-subnormal a h = (value-small a (omega arith), omega arith)
@@ -67,7 +72,8 @@ floor-below a h l =
     let i = field a - 1 in
     let q = 62 + (1022 - field a) in
     let e : i + q ≡ 9 + 1074 = omega arith in
-    whole-units (number a) (1022 - field a) (digits a * 2 ^ 9) (omega arith) (ap (λ (v : ℕ). v * 2 ^ q) (size-is a h) ∙ scale i q 9 e (digits a))
+    whole-units (number a) (1022 - field a) (digits a * 2 ^ 9) (omega arith)
+    (ap (λ (v : ℕ). v * 2 ^ q) (size-is a h) ∙ scale i q 9 e (digits a))
 
 -- ---- atan above 1: the inverse
 pub one-is : value one ≡ 2 ^ 1074
@@ -110,23 +116,29 @@ ln-parts b h =
     let e : i + 52 ≡ field b - 1023 + 1074 = omega arith in
     ap (λ (v : ℕ). v * 2 ^ 52) (size-is b (omega arith)) ∙ scale i 52 (field b - 1023) e (digits b)
 
--- ---- ln_1p: a seed is that of the quotient, however it is written
-seed-low : Order 5 (λ g d n P K. (K times g :* d ≼ n :* P :+ d) ∷ [] ⊩ g :* (d :* K) ≈ n :* K :* P :+ d :* K)
-seed-low = by-below tt
+-- below 1, full-digits / 2 ^ 52 times 2 ^ -e (for readers of `ln-below-within`)
+pub ln-below-parts : (b : ℕ) → 1 ≤ b → b < one → value b * 2 ^ (52 + suc (below-exponent b)) ≡ full-digits b * 2 ^ 1074
+ln-below-parts b h l = elim (lt-or-le b (2 ^ 52)) [
+  | inl k ↦
+      let s = size b in
+      let few : s ≤ 52 = size-le b 52 k in
+      let e : 52 + suc (1074 - s) ≡ 53 - s + 1074 = omega arith in
+      rw (subnormal b k .0, subnormal b k .1, unit-subnormal b k .0)
+      (ap (λ (n : ℕ). b * 2 ^ n) e ∙ ap (λ (n : ℕ). b * n) (pow-add 2 (53 - s) 1074) ∙ sym (grouped b (2 ^ (53 - s)) (2 ^ 1074)))
+  | inr k ↦
+      let i = field b - 1 in
+      let e : i + (52 + suc (1022 - field b)) ≡ 1074 = omega arith in
+      rw (normal b k .0, normal b k .1, size-is b k)
+      (grouped (digits b) (2 ^ i) (2 ^ (52 + suc (1022 - field b)))
+      ∙ ap (λ (n : ℕ). digits b * n) (sym (pow-add 2 i (52 + suc (1022 - field b))) ∙ ap (λ (n : ℕ). 2 ^ n) e))
+]
+  where
+    grouped : (a b c : ℕ) → a * b * c ≡ a * (b * c)
+    grouped a b c = omega arith
 
-seed-high : Order 5 (λ g d n P K. (K times n :* P ≼ (g :+ con 3) :* d) ∷ [] ⊩ n :* K :* P ≈ (g :+ con 3) :* (d :* K))
-seed-high = by-below tt
-
-seed-small : Order 3 (λ d n K. (K times con 5 :* n ≼ con 3 :* d) ∷ [] ⊩ con 5 :* (n :* K) ≈ con 3 :* (d :* K))
-seed-small = by-below tt
-
-seed-scaled : (r r' : Quotient) (j sg K : ℕ) → r' .num ≡ r .num * K → r' .den ≡ r .den * K → Seed r j sg → Seed r' j sg
-seed-scaled r r' j sg K e f h = record {
-  low = rw (e, f) (seed-low .law sg (r .den) (r .num) (2 ^ (62 + j)) K (h .low));
-  high = rw (e, f) (seed-high .law sg (r .den) (r .num) (2 ^ (62 + j)) K (h .high));
-  fits = h .fits;
-  small = rw (e, f) (seed-small .law (r .den) (r .num) K (h .small));
-}
+-- ---- ln_1p: the quotient times K / K
+same-quotient : (n d n' d' K : ℕ) → n' ≡ n * K → d' ≡ d * K → n * d' ≡ n' * d
+same-quotient n d n' d' K e f = rw (e, f) (omega arith)
 
 -- the size is digits * 2 ^ -(53 + j), both times 2 ^ (field - 1)
 one-parts : (a : ℕ) → 2 ^ 52 ≤ a → a < one → 2 ^ 1074 ≡ 2 ^ (53 + (1022 - field a)) * 2 ^ (field a - 1)
@@ -170,11 +182,14 @@ module _ (a : ℕ) (low : tiny ≤ a) (high : a ≤ last) where
 
   pub seed-above : Seed (gain (number a)) j (gain-seed j m)
   seed-above =
-      seed-scaled (gain (units (53 + j) m)) (gain (number a)) j (gain-seed j m) K num-is
-      (more-parts (2 ^ 1074) (value a) (2 ^ (53 + j)) m K parts num-is) (gain-seeds j m digits-fit (range .small))
+      let q = 2 * 2 ^ (53 + j) + m in
+      let same = same-quotient m q (value a) _ K num-is (more-parts (2 ^ 1074) (value a) (2 ^ (53 + j)) m K parts num-is) in
+      seed-same (gain (units (53 + j) m)) (gain (number a)) j (gain-seed j m) same (gain-seeds j m digits-fit)
 
   pub seed-below : (proper : value a < 2 ^ 1074) → Seed (loss (number a) proper) j (loss-seed j m)
   seed-below proper =
       let strict : m < 2 ^ (53 + j) = lt-of-lt-of-le (range .high) (pow-mono {i = 53} {j = 53 + j} (omega arith)) in
-      seed-scaled (loss (units (53 + j) m) strict) (loss (number a) proper) j (loss-seed j m) K num-is
-      (less-parts (2 ^ 1074) (value a) (2 ^ (53 + j)) m K parts num-is) (loss-seeds j m strict digits-fit (range .small))
+      let q = 2 * 2 ^ (53 + j) - m in
+      let same = same-quotient m q (value a) _ K num-is (less-parts (2 ^ 1074) (value a) (2 ^ (53 + j)) m K parts num-is) in
+      seed-same (loss (units (53 + j) m) strict) (loss (number a) proper) j (loss-seed j m) same
+      (loss-seeds j m strict digits-fit (range .small))

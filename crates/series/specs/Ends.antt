@@ -1,5 +1,5 @@
--- The answers where there is no enclosure (document 01, "What the leaves mean"): at the infinities, at NaN, and outside the ranges.
--- And atan at the infinities is the f64 nearest π/2. Assumes nothing.
+-- The answers where there is no enclosure (document 01, "What the leaves mean"): at the infinities, at NaN, and outside the
+-- ranges. And atan at the infinities is the f64 nearest π/2. Assumes nothing.
 use Prim.Native.Nat.{ℕ, _+_, _-_, _<_}
 use mathlib.Core.Path.{_≡_, refl, sym}
 use mathlib.Core.Bool.{true, false}
@@ -16,7 +16,7 @@ use Rattle.enclosure.specs.Constants.{half-pi-low, half-pi-high}
 use Rattle.series.specs.Pattern.{size-bits}
 use Rattle.series.specs.Near.{signed}
 use Rattle.series.specs.Atan.{atan}
-use Rattle.series.specs.Ln.{two, ln}
+use Rattle.series.specs.Ln.{one, minus-zero, ln}
 use Rattle.series.specs.Ln1p.{last, ln-1p}
 use Rattle.series.specs.Cases as cases
 
@@ -57,18 +57,29 @@ pub ln-1p-infinities : (ln-1p (inf false) ≡ nan) × (ln-1p (inf true) ≡ nan)
 unfolding ln-1p toBits
 ln-1p-infinities = (refl, refl)
 
--- ---- outside the ranges: x has the pattern b
-pub ln-none : (x : Float) → toBits binary64 x < two → ln x ≡ nan
-ln-none x h = sym (cases.ln-below x (toBits binary64 x) refl h)
+-- ---- ln at 1 and at the zeros
+pub ln-at-one : ln (signed 0 one) ≡ signed 0 0
+unfolding ln toBits ofBits
+ln-at-one = refl
 
+pub ln-at-zero : ln (signed 0 0) ≡ inf true
+unfolding ln toBits ofBits
+ln-at-zero = refl
+
+pub ln-at-minus-zero : ln (signed 1 0) ≡ inf true
+unfolding ln toBits ofBits
+ln-at-minus-zero = refl
+
+-- ---- outside the ranges
 pub ln-1p-none : (x : Float) → last < size-bits (toBits binary64 x) → ln-1p x ≡ nan
 ln-1p-none x h = sym (cases.ln-1p-none x (toBits binary64 x) refl (omega arith) h)
 
--- (a number with a sign has a pattern past the infinity's)
-pub ln-negative : (x : Float) → infinity < toBits binary64 x → ln x ≡ nan
-ln-negative x h = sym (cases.ln-past x (toBits binary64 x) refl (omega arith) (λ e. omega arith))
+-- (a number below zero has a pattern past -0's, which is past the infinity's)
+pub ln-negative : (x : Float) → minus-zero < toBits binary64 x → ln x ≡ nan
+ln-negative x h = sym (cases.ln-past x (toBits binary64 x) refl (omega arith) (λ e. omega arith) (λ e. omega arith))
 
--- ---- nearest to π/2 = 8 atan(1/5) - 2 atan(1/239): it lies past the middle to the pattern below, and before the middle to the one above
+-- ---- nearest to π/2 = 8 atan(1/5) - 2 atan(1/239): it lies past the middle to the pattern below, and before the middle to the
+-- one above
 abbrev pub past-lower : Quotient
 past-lower = units 1075 (middle (half-pi-bits - 1) half-pi-bits + 1)
 

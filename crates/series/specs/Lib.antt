@@ -8,8 +8,8 @@ pub mod Within
 pub mod Ends
 pub mod Quotient
 pub mod Ranges
-pub mod Cases
 pub mod Exponents
+pub mod Cases
 pub mod Units
 pub mod Inverse
 pub mod Rounded

@@ -4,9 +4,11 @@
 // one short polynomial (the crate `pieces`), and a few products of which the upper word counts.
 mod arc;
 mod logarithm;
+mod one_plus;
 mod quotient;
 mod scaled;
+mod t_series;
 
 pub use crate::arc::atan;
 pub use crate::logarithm::ln;
-pub use crate::logarithm::ln_1p;
+pub use crate::one_plus::ln_1p;

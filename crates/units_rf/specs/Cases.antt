@@ -1,25 +1,25 @@
--- RC's closed forms in two runs, for a prefix of any kind: RC with y above zero has the prefix one, RC with y below zero a root that the two runs
--- share.
--- Of atan and the logarithms only bounds are used.
+-- RC's closed forms in two runs, for a prefix of any kind: RC with y above zero has the prefix one, RC with y below zero a root
+-- that the two runs share. Of atan and the logarithms only bounds are used.
 use mathlib.Core.Path.{_≡_, refl, sym, ap, ap₂, _∙_, subst}
 use mathlib.Core.Logic.{_⊎_, inl, inr}
-use Prim.Native.Nat.{ℕ, _-_, _*_, _^_, _≤_}
+use Prim.Native.Nat.{ℕ, _+_, _-_, _*_, _^_, _≤_}
 use native.Mathlib.Nat.{le-refl, le-of-lt, lt-of-lt-of-le}
-use mathlib.Core.Bool.{true, false, not}
+use mathlib.Core.Bool.{Bool, true, false, not}
 use lib.Dec.{T, T-not, eqb, lt→ltb, nltb→le, lit<}
 use lib.Arith.{lt-of-le-ne}
-use lib.Ieee.{Float, nan, inf, fin, binary64, low, mul, div, eq, lt, below, level}
+use lib.Ieee.{Float, nan, inf, fin, binary64, low, mul, div, eq, lt, below, level, ofBits}
 use lib.Ieee.Fits.{eq→eqb, and-i}
-use Rattle.binary64.specs.Operators.{_⊖_, _⊗_, _⊘_}
+use Rattle.binary64.specs.Operators.{_⊕_, _⊖_, _⊗_, _⊘_}
 use Rattle.root.specs.Root.{root}
 use Rattle.series.specs.Atan.{atan}
 use Rattle.series.specs.Ln.{ln}
 use Rattle.scaling.specs.Near.{near}
-use Rattle.scaling.specs.Units.{lt-units, eq-units}
+use Rattle.scaling.specs.Cross.{addN}
+use Rattle.scaling.specs.Units.{Is, lt-units, eq-units}
 use Rattle.scaling.specs.Kind.{Kind, last, floor-le, mulK, mulOk, divK, divOk, plusK, plusOk, within}
 use Rattle.scaling.specs.Last.{digits-of}
-use Rattle.scaling.specs.Two.{Two, mul-two, div-two, plus-two, lt-two}
-use Rattle.scaling.specs.One.{lit-two, litOk, widen-two}
+use Rattle.scaling.specs.Two.{Two, mul-two, div-two, plus-two, summed, lt-two}
+use Rattle.scaling.specs.One.{lit-is, lit-two, litOk, widen-two}
 use Rattle.scaling.specs.Tests.{eq-two}
 use Rattle.scaling.specs.Leaf.{gapK, gapOk, gap-two, gap-units, leaf-two}
 use Rattle.scaling.specs.Root.{rootK, rootOk, root-two}
@@ -28,7 +28,8 @@ use Rattle.scaling.specs.Pick.{choose}
 use Rattle.carlson.specs.Constants.{zero, two, half, half-pi}
 use Rattle.elliprc.specs.Rc.{atZero, atEqual, byAtan, byLn1p, byLn, rcCases}
 use Rattle.units.specs.Runs.{Fair}
-use Rattle.units_rf.specs.Leaves.{spread, atan-leaf, ln-leaf, spread-leaf, ratioK, leafK}
+use Rattle.units_rf.specs.Leaves.{spread, atan-leaf, ln-leaf, spread-leaf, ratioK, aboveK, leafK}
+use Rattle.units_rf.specs.Above.{argument-least}
 
 -- ---- kinds
 -- an argument above zero, or the sum of two
@@ -65,14 +66,36 @@ unfolding div
 div-nan w = refl
 
 -- of two numbers above zero that are neither equal nor in order, the second is below
-flip : {k : ℕ} {x y x' y' : Float} → Two binary64 k wideK x x' → Two binary64 k wideK y y' → T (not (eq x y)) → T (not (lt x y)) → T (lt y x)
+flip : {k : ℕ} {x y x' y' : Float} → Two binary64 k wideK x x' → Two binary64 k wideK y y' → T (not (eq x y)) → T (not (lt x y))
+    → T (lt y x)
 flip {x = x} {y} a b e l =
     let S : a .s ≡ false = a .in-first .sign tt in
     let S' : b .s ≡ false = b .in-first .sign tt in
-    let h = nltb→le (a .m) (b .m) (subst (λ z. T (not z)) (lt-units (a .first) (b .first) ∙ ap₂ (λ s t. below s (a .m) t (b .m)) S S') l) in
+    let h = nltb→le (a .m) (b .m) (subst (λ z. T (not z))
+    (lt-units (a .first) (b .first) ∙ ap₂ (λ s t. below s (a .m) t (b .m)) S S') l) in
     let g = subst (λ z. T (not z)) (eq-units (a .first) (b .first) ∙ ap₂ (λ s t. level s (a .m) t (b .m)) S S') e in
-    let n : b .m ≡ a .m → ⊥ = λ p. T-not (level false (a .m) false (b .m)) g (and-i (eqb (a .m) (b .m)) true (eq→eqb (sym p)) tt) in
-    subst T (sym (lt-units (b .first) (a .first) ∙ ap₂ (λ s t. below s (b .m) t (a .m)) S' S)) (lt→ltb (b .m) (a .m) (lt-of-le-ne h n))
+    let n : b .m ≡ a .m → ⊥ = λ p. T-not (level false (a .m) false (b .m)) g
+    (and-i (eqb (a .m) (b .m)) true (eq→eqb (sym p)) tt) in
+    subst T (sym (lt-units (b .first) (a .first) ∙ ap₂ (λ s t. below s (b .m) t (a .m)) S' S))
+    (lt→ltb (b .m) (a .m) (lt-of-le-ne h n))
+
+-- ---- floats of no sign, and a sum of two
+half-is : Is binary64 half false (2 ^ 1073)
+unfolding litOk ofBits
+half-is = lit-is binary64 half tt
+
+pub not-above : {v : Float} {s : Bool} {m : ℕ} → Is binary64 v s m → s ≡ false → T (not (lt half v)) → m ≤ 2 ^ 1073
+not-above {m = m} i e h =
+    nltb→le (2 ^ 1073) m (subst (λ b. T (not b)) (lt-units half-is i ∙ ap (λ s. below false (2 ^ 1073) s m) e) h)
+
+plain : {v : Float} {s : Bool} {m : ℕ} → Is binary64 v s m → s ≡ false → Is binary64 v false m
+plain {v} {m = m} i e = subst (λ s. Is binary64 v s m) e i
+
+added : (s t : Bool) (m n r : ℕ) → s ≡ false → t ≡ false
+    → 9 * 2 ^ 1071 ≤ near binary64 (near binary64 (m + n) 1 * 2 ^ low binary64) r
+    → 9 * 2 ^ 1071 ≤ near binary64 (near binary64 (addN s m t n) 1 * 2 ^ low binary64) r
+added s t m n r e f = subst (λ z. 9 * 2 ^ 1071 ≤ near binary64 (near binary64 z 1 * 2 ^ low binary64) r)
+    (sym (ap₂ (λ s t. addN s m t n) e f))
 
 module _ {k : ℕ} where
   root-wide : {x x' : Float} → Two binary64 k wideK x x' → Two binary64 k divisorK (root x) (root x')
@@ -89,14 +112,16 @@ module _ {k : ℕ} where
   divides x = widen-two x tt
 
   -- the root of (y - x) / z, the same in both runs: floats that differ do so by a part in 2 ^ 55
-  ratio-root : {x y z x' y' z' : Float} (X : Two binary64 k wideK x x') (Y : Two binary64 k wideK y y') (Z : Two binary64 k wideK z z') → T (lt x y)
+  ratio-root : {x y z x' y' z' : Float} (X : Two binary64 k wideK x x') (Y : Two binary64 k wideK y y')
+      (Z : Two binary64 k wideK z z') → T (lt x y)
       → Z .m ≤ Y .m → Z .n ≤ Y .n → Two binary64 k ratioK (root ((y ⊖ x) ⊘ z)) (root ((y' ⊖ x') ⊘ z'))
   unfolding gapK gapOk divK divOk rootK rootOk raiseK within div-two
   ratio-root X Y Z t p q =
       let G = gap-two X Y t tt tt in
       let g = gap-units X Y t tt tt in
       let D = div-two G Z tt in
-      let at : (d d' w : ℕ) → d ≡ d' → 2 ^ 1019 ≤ near binary64 (d' * 2 ^ low binary64) w → 2 ^ 1019 ≤ near binary64 (d * 2 ^ low binary64) w =
+      let at : (d d' w : ℕ) → d ≡ d' → 2 ^ 1019 ≤ near binary64 (d' * 2 ^ low binary64) w
+      → 2 ^ 1019 ≤ near binary64 (d * 2 ^ low binary64) w =
       λ d d' w e. subst (λ z. 2 ^ 1019 ≤ near binary64 (z * 2 ^ low binary64) w) (sym e) in
       widen-two
       (root-two
@@ -109,6 +134,38 @@ module _ {k : ℕ} where
       (lt-of-lt-of-le (lit< tt) (floor-le (Z .in-second))) q refl)))
       tt)
       tt
+
+  -- ---- the test of y / x, and what ln is taken of after it
+  free : {x y x' y' : Float} → Two binary64 k wideK x x' → Two binary64 k wideK y y' → lt half (y ⊘ x) ≡ lt half (y' ⊘ x')
+  unfolding litOk divK divOk within
+  free X Y = lt-two (lit-two half tt) (widen-two {B = freeK} (div-two Y X tt) tt) tt
+
+  module _ {x y x' y' : Float} (X : Two binary64 k wideK x x') (Y : Two binary64 k wideK y y') (t : T (lt y x)) where
+    ln-argument : T (not (lt half (y ⊘ x))) → T (not (lt half (y' ⊘ x')))
+        → Two binary64 k aboveK ((root x ⊕ root (x ⊖ y)) ⊘ root y) ((root x' ⊕ root (x' ⊖ y')) ⊘ root y')
+    unfolding divK divOk plusK plusOk rootK rootOk gapK gapOk raiseK within div-two plus-two summed widen-two
+    ln-argument h h' =
+        let A = root-two X tt in
+        let B = gap-root Y X t in
+        let R = root-two Y tt in
+        let G = gap-two Y X t tt tt in
+        let g = gap-units Y X t tt tt in
+        let Q = div-two Y X tt in
+        let S = X .in-first .sign tt in
+        let S' = Y .in-first .sign tt in
+        let Z = G .in-first .sign tt in
+        let first = argument-least (plain (X .first) S) (plain (Y .first) S') (A .first)
+        (subst (λ n. Is binary64 (x ⊖ y) false n) (g .2) (plain (G .first) Z)) (B .first) (R .first)
+        (g .0) (floor-le (Y .in-first)) (X .in-first .to) (not-above (Q .first) (Q .in-first .sign tt) h) in
+        let second = argument-least (plain (X .second) S) (plain (Y .second) S') (A .second)
+        (subst (λ n. Is binary64 (x' ⊖ y') false n) (g .3) (plain (G .second) Z)) (B .second) (R .second)
+        (g .1) (floor-le (Y .in-second)) (X .in-second .to) (not-above (Q .second) (Q .in-first .sign tt) h') in
+        let W = div-two (plus-two A B tt) R tt in
+        widen-two
+        (raise-two (9 * 2 ^ 1071) W
+        (added (A .s) (B .s) (A .m) (B .m) (R .m) (A .in-first .sign tt) (B .in-first .sign tt) first)
+        (added (A .s) (B .s) (A .n) (B .n) (R .n) (A .in-first .sign tt) (B .in-first .sign tt) second))
+        tt
 
   module _ {P R : Kind} (C : Carries k P R) {p p' : Float} (pre : Two binary64 k P p p') where
     -- what a leaf gives, over a divisor
@@ -130,7 +187,8 @@ module _ {k : ℕ} where
     unfolding atEqual
     at-equal X = inr (C .alone pre (root-wide X))
 
-    by-atan : {x y x' y' : Float} → Two binary64 k wideK x x' → Two binary64 k wideK y y' → T (lt x y) → Fair k R (byAtan p x y) (byAtan p' x' y')
+    by-atan : {x y x' y' : Float} → Two binary64 k wideK x x' → Two binary64 k wideK y y' → T (lt x y)
+        → Fair k R (byAtan p x y) (byAtan p' x' y')
     unfolding byAtan gapOk
     by-atan X Y t =
         let g = gap-units X Y t tt tt in
@@ -144,17 +202,18 @@ module _ {k : ℕ} where
         over-fair (leaf-two spread spread-leaf refl refl refl (ratio-root Y X X t (le-refl _) (le-refl _)))
         (widen-two (mul-two (lit-two two tt) (gap-root Y X t) tt) tt)
 
-    by-ln : {x y x' y' : Float} → Two binary64 k wideK x x' → Two binary64 k wideK y y' → T (lt y x) → Fair k R (byLn p x y) (byLn p' x' y')
-    unfolding byLn divK divOk plusK plusOk rootK rootOk within
-    by-ln X Y t =
+    by-ln : {x y x' y' : Float} → Two binary64 k wideK x x' → Two binary64 k wideK y y' → T (lt y x)
+        → T (not (lt half (y ⊘ x))) → T (not (lt half (y' ⊘ x'))) → Fair k R (byLn p x y) (byLn p' x' y')
+    unfolding byLn raiseK within
+    by-ln X Y t h h' =
         over-fair
-        (leaf-two ln ln-leaf refl refl refl
-        (widen-two (div-two (plus-two (root-two X tt) (gap-root Y X t) tt) (root-two Y tt) tt) tt))
+        (leaf-two ln ln-leaf refl refl refl (ln-argument X Y t h h'))
         (divides (gap-root Y X t))
 
-    pub cases-fair : {x y x' y' : Float} → eq x zero ≡ eq x' zero → (T (not (eq x zero)) → Two binary64 k wideK x x') → Two binary64 k wideK y y'
+    pub cases-fair : {x y x' y' : Float} → eq x zero ≡ eq x' zero → (T (not (eq x zero)) → Two binary64 k wideK x x')
+        → Two binary64 k wideK y y'
         → Fair k R (rcCases p x y) (rcCases p' x' y')
-    unfolding rcCases litOk divK divOk within
+    unfolding rcCases
     cases-fair {x} {y} {x'} {y'} e X Y =
         choose (Fair k R) (eq x zero) (eq x' zero) e (λ z. at-zero Y)
         (λ z.
@@ -163,5 +222,6 @@ module _ {k : ℕ} where
         (λ q.
         choose (Fair k R) (lt x y) (lt x' y') (lt-two X⁺ Y tt) (λ t. by-atan X⁺ Y t)
         (λ t.
-        choose (Fair k R) (lt half (y ⊘ x)) (lt half (y' ⊘ x')) (lt-two (lit-two half tt) (widen-two {B = freeK} (div-two Y X⁺ tt) tt) tt)
-        (λ h. by-ln-1p X⁺ Y (flip X⁺ Y q t)) (λ h. by-ln X⁺ Y (flip X⁺ Y q t)))))
+        choose (Fair k R) (lt half (y ⊘ x)) (lt half (y' ⊘ x')) (free X⁺ Y)
+        (λ h. by-ln-1p X⁺ Y (flip X⁺ Y q t))
+        (λ h. by-ln X⁺ Y (flip X⁺ Y q t) h (subst (λ b. T (not b)) (free X⁺ Y) h)))))

@@ -1,11 +1,12 @@
--- atan, ln and the spread ln(1 + a) - ln(1 - a) as RC's two runs take them: at a number from 2 ^ -90 to 2 ^ 71 the value is a NaN or lies from
--- 2 ^ -104 to 2 ^ 16. Such a bound is a leaf's whole rule, since its argument is the same float in both runs.
+-- atan, ln and the spread ln(1 + a) - ln(1 - a) as RC's two runs take them: at a number from 2 ^ -90 to 2 ^ 71, ln from 9/8 on,
+-- the value is a NaN or lies from 2 ^ -104 to 2 ^ 16. Such a bound is a leaf's whole rule, since its argument is the same float
+-- in both runs.
 use mathlib.Core.Path.{refl, subst}
 use mathlib.Core.Logic.{inl, inr}
-use Prim.Native.Nat.{ℕ, _^_, _≤_}
-use native.Mathlib.Nat.{le-trans}
+use Prim.Native.Nat.{ℕ, _*_, _^_, _≤_}
+use native.Mathlib.Nat.{le-trans, lt-of-lt-of-le}
 use mathlib.Core.Bool.{Bool, false}
-use lib.Dec.{lit≤}
+use lib.Dec.{lit≤, lit<}
 use lib.Pow.{pow-mono}
 use lib.Ieee.{Float, binary64, neg}
 use Rattle.binary64.specs.Operators.{_⊖_}
@@ -26,6 +27,10 @@ spread a = ln-1p a ⊖ ln-1p (neg a)
 -- ---- the kinds of what a leaf is taken of, and of what it gives
 abbrev pub ratioK : Kind
 ratioK = record { any = false; zer = false; lo = 2 ^ 984; hi = 2 ^ 1145; g = last binary64 (2 ^ 984); u = 0; d = 0 }
+
+-- of ln: 9/8 at least
+abbrev pub aboveK : Kind
+aboveK = record { any = false; zer = false; lo = 9 * 2 ^ 1071; hi = 2 ^ 1300; g = 0; u = 0; d = 0 }
 
 abbrev pub leafK : Kind
 leafK = record { any = false; zer = false; lo = 2 ^ 970; hi = 2 ^ 1090; g = last binary64 (2 ^ 970); u = 0; d = 0 }
@@ -53,8 +58,14 @@ module _ {x : Float} (v : Value binary64 ratioK x) where
 pub atan-leaf : Leaf binary64 atan ratioK leafK
 atan-leaf x v = inr (leaf-value (lit≤ tt) (atan-between (plain v) (floor-le (v .within)) (far v)))
 
-pub ln-leaf : Leaf binary64 ln ratioK leafK
-ln-leaf x v = elim (ln-between (plain v) (floor-le (v .within)) (far v)) [ inl e ↦ inl e | inr w ↦ inr (leaf-value (lit≤ tt) w) ]
+pub ln-leaf : Leaf binary64 ln aboveK leafK
+ln-leaf x v =
+    let X = subst (λ (s : Bool). Is binary64 x s (v .n)) (v .within .sign tt) (v .is) in
+    let from = floor-le (v .within) in
+    inr (leaf-value (lit≤ tt)
+    (ln-between X (le-trans (lit≤ tt) from) (le-trans (v .within .to) (pow-mono {i = 1300} {j = bounds.most} (lit≤ tt)))
+    (lt-of-lt-of-le (lit< tt) from)))
 
 pub spread-leaf : Leaf binary64 spread ratioK leafK
-spread-leaf x v = elim (spread-between (plain v) (floor-le (v .within)) (far v)) [ inl e ↦ inl e | inr w ↦ inr (leaf-value (lit≤ tt) w) ]
+spread-leaf x v = elim (spread-between (plain v) (floor-le (v .within)) (far v))
+    [ inl e ↦ inl e | inr w ↦ inr (leaf-value (lit≤ tt) w) ]

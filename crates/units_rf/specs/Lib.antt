@@ -1,4 +1,5 @@
 pub mod Leaves
+pub mod Above
 pub mod Cases
 pub mod Rc
 pub mod Series

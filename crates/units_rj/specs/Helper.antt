@@ -1,14 +1,14 @@
--- RC(1, 1 + y) as RJ asks for it, of a y that is the same in both runs: no number, or between 2 ^ -190 and 2 ^ 130. Only bounds are at stake.
--- RJ asks for it outside -3/2 < y < -1/2 only. Assumes nothing.
+-- RC(1, 1 + y) as RJ asks for it, of a y that is the same in both runs: no number, or between 2 ^ -190 and 2 ^ 130. Only bounds
+-- are at stake. RJ asks for it outside -3/2 < y < -1/2 only. Assumes nothing.
 use mathlib.Core.Path.{_≡_, refl, sym, ap, _∙_, subst}
 use mathlib.Core.Logic.{_⊎_, inl, inr}
 use Prim.Native.Nat.{ℕ, _*_, _^_, _≤_, _<_}
 use lib.Pow.{pow-mono}
-use native.Mathlib.Nat.{not-le-of-lt, lt-of-le-of-lt, lt-of-lt-of-le, le-trans, le-of-lt}
+use native.Mathlib.Nat.{le-antisymm, not-le-of-lt, lt-of-le-of-lt, lt-of-lt-of-le, le-trans, le-of-lt}
 use native.Mathlib.Omega.{arith}
 use mathlib.Core.Bool.{Bool, true, false, not}
 use lib.Dec.{T, T-not, not-T, ltb, ltb→lt, lt→ltb, nltb→le, lit≤, lit<}
-use lib.Ieee.{Float, nan, binary64, neg, sub, div, lt, le, eq, below, ofBits}
+use lib.Ieee.{Float, nan, binary64, neg, add, sub, div, lt, le, eq, below, ofBits}
 use Rattle.binary64.specs.Leaves.{absolute}
 use Rattle.binary64.specs.Operators.{_⊕_, _⊗_, _⊘_, bits}
 use Rattle.root.specs.Root.{root}
@@ -19,8 +19,8 @@ use Rattle.elliprc.specs.Rc.{rcUnchecked}
 use Rattle.polynomial.specs.Polynomial.{horner}
 use Rattle.rj_positive.specs.Helper.{byAtan1p, byLogs1p, byRc1p, byLn1p, rc1p}
 use Rattle.scaling.specs.Kind.{Kind, last, floor-le, mulK, mulOk, divK, divOk, plusK, plusOk, nudgeK, nudgeOk, within}
-use Rattle.scaling.specs.Units.{Is, lt-units}
-use Rattle.scaling.specs.Two.{Two, mul-two, div-two, plus-two, nudge-two}
+use Rattle.scaling.specs.Units.{Is, unique, lt-units}
+use Rattle.scaling.specs.Two.{Two, mul-two, div-two, plus-two}
 use Rattle.scaling.specs.Tests.{zero-is}
 use Rattle.scaling.specs.One.{lit-two, litOk, lit-is, widen-two, clip-two, clipK, neg-two, abs-units}
 use Rattle.scaling.specs.Leaf.{leaf-two}
@@ -55,7 +55,8 @@ divisorK = record { any = false; zer = false; lo = 2 ^ 1060; hi = 2 ^ 1100; g = 
 abbrev sideK : Kind
 sideK = record { any = false; zer = false; lo = 2 ^ 1061; hi = 2 ^ 1099; g = 0; u = 0; d = 0 }
 
-over : {k : ℕ} {v w : Float} → ((v ≡ nan) × (v ≡ nan)) ⊎ Two binary64 k leafK v v → Two binary64 k divisorK w w → Fair k termK (v ⊘ w) (v ⊘ w)
+over : {k : ℕ} {v w : Float} → ((v ≡ nan) × (v ≡ nan)) ⊎ Two binary64 k leafK v v → Two binary64 k divisorK w w
+    → Fair k termK (v ⊘ w) (v ⊘ w)
 unfolding div divK divOk within
 over {w = w} (inl z) D = inl (ap (λ a. a ⊘ w) (z .0), ap (λ a. a ⊘ w) (z .0))
 over (inr F) D = inr (widen-two (div-two F D tt) tt)
@@ -84,7 +85,8 @@ abbrev plainK : Kind
 plainK = record { any = false; zer = false; lo = 2 ^ 1010; hi = 2 ^ 1138; g = last binary64 (2 ^ 1010); u = 0; d = 0 }
 
 not-below : {v : Float} {m : ℕ} → Is binary64 v false m → T (not (lt v zero))
-not-below {v} {m} a = not-T (lt v zero) (λ t. let h = ltb→lt m 0 (subst T (lt-units a (zero-is binary64)) t) in let r : ⊥ = omega arith in r)
+not-below {v} {m} a = not-T (lt v zero) (λ t. let h = ltb→lt m 0 (subst T (lt-units a (zero-is binary64)) t) in
+    let r : ⊥ = omega arith in r)
 
 not-zero : {v : Float} {s : Bool} {m : ℕ} → Is binary64 v s m → 0 < m → T (not (eq v zero))
 not-zero {v} {s} {m} a h = not-T (eq v zero) (λ t. let e = no-units-of a t in let r : ⊥ = omega arith in r)
@@ -132,24 +134,25 @@ by-rc y N =
 abbrev halfK : Kind
 halfK = record { any = false; zer = false; lo = 2 ^ 1073; hi = 2 ^ 1073; g = last binary64 (2 ^ 1073); u = 0; d = 0 }
 
-abbrev restK : Kind
-restK = record { any = false; zer = false; lo = 2 ^ 1073; hi = 2 ^ 1075; g = last binary64 (2 ^ 1073); u = 0; d = 0 }
-
-by-ln : {k : ℕ} (y : Float) → Two binary64 k halfK (neg y) (neg y) → Two binary64 k restK (one ⊕ y) (one ⊕ y) → Fair k termK (byLn1p y) (byLn1p y)
+by-ln : {k : ℕ} (y : Float) → Two binary64 k halfK (neg y) (neg y) → Two binary64 k halfK (one ⊕ y) (one ⊕ y)
+    → Fair k termK (byLn1p y) (byLn1p y)
 unfolding byLn1p divK divOk plusK plusOk rootK rootOk within litOk ofBits
 by-ln y N O =
     let r = root-two N tt in
-    over (leaf-two ln ln-leaf refl refl refl (widen-two (div-two (plus-two (lit-two one tt) r tt) (root-two O tt) tt) tt)) (widen-two r tt)
+    over (leaf-two ln ln-leaf refl refl refl (widen-two (div-two (plus-two (lit-two one tt) r tt) (root-two O tt) tt) tt))
+    (widen-two r tt)
 
 -- ---- which of them
 module _ {k : ℕ} {y : Float} (Y : Two binary64 k ratioOfK y y) where
   abbrev m : ℕ
   m = Y .m
 
-  recast : (lo hi : ℕ) {v : Float} (a : Two binary64 k (record { any = true; zer = true; lo = 0; hi = 2 ^ 1090; g = 0; u = 0; d = 0 }) v v)
+  recast : (lo hi : ℕ) {v : Float}
+      (a : Two binary64 k (record { any = true; zer = true; lo = 0; hi = 2 ^ 1090; g = 0; u = 0; d = 0 }) v v)
       → a .s ≡ false → lo ≤ a .m → a .m ≤ hi
       → Two binary64 k (record { any = false; zer = false; lo = lo; hi = hi; g = last binary64 lo; u = 0; d = 0 }) v v
-  recast lo hi a e p q = recast-two (record { any = false; zer = false; lo = lo; hi = hi; g = last binary64 lo; u = 0; d = 0 }) a refl refl refl
+  recast lo hi a e p q = recast-two (record { any = false; zer = false; lo = lo; hi = hi; g = last binary64 lo; u = 0; d = 0 })
+      a refl refl refl
       (record { sign = λ t. e; from = inr p; to = q })
 
   -- 0.01
@@ -222,7 +225,8 @@ module _ {k : ℕ} {y : Float} (Y : Two binary64 k ratioOfK y y) where
       unfolding litOk ofBits neg
       minus-half = lit-is binary64 (neg half) tt
 
-      below-one : T (lt y (neg one)) → (T (lt y (neg half)) → T (not (lt (neg (bits 0x3FF8_0000_0000_0000)) y))) → Fair k termK (byRc1p y) (byRc1p y)
+      below-one : T (lt y (neg one)) → (T (lt y (neg half)) → T (not (lt (neg (bits 0x3FF8_0000_0000_0000)) y)))
+          → Fair k termK (byRc1p y) (byRc1p y)
       unfolding litOk ofBits neg
       below-one t h =
           let one-is : Is binary64 (neg one) true (2 ^ 1074) = lit-is binary64 (neg one) tt in
@@ -233,9 +237,10 @@ module _ {k : ℕ} {y : Float} (Y : Two binary64 k ratioOfK y y) where
           (subst (λ b. T (not b)) (lt-units (lit-is binary64 (neg (bits 0x3FF8_0000_0000_0000)) tt) Y-is) (h g)) in
           by-rc y (sized (3 * 2 ^ 1073) (2 ^ 1090) q (Y .in-first .to))
 
-      at-half : T (not (lt (neg half) y)) → T (not (lt y (neg one))) → (T (lt y (neg half)) → T (not (lt (neg (bits 0x3FF8_0000_0000_0000)) y)))
+      at-half : T (not (lt (neg half) y)) → T (not (lt y (neg one)))
+          → (T (lt y (neg half)) → T (not (lt (neg (bits 0x3FF8_0000_0000_0000)) y)))
           → Fair k termK (byLn1p y) (byLn1p y)
-      unfolding litOk ofBits neg nudgeK nudgeOk within clipK flat-two
+      unfolding litOk ofBits neg within
       at-half t u h =
           let p : 2 ^ 1073 ≤ m = nltb→le m (2 ^ 1073) (subst (λ b. T (not b)) (lt-units minus-half Y-is) t) in
           let one-is : Is binary64 (neg one) true (2 ^ 1074) = lit-is binary64 (neg one) tt in
@@ -248,7 +253,13 @@ module _ {k : ℕ} {y : Float} (Y : Two binary64 k ratioOfK y y) where
                 absurd (not-le-of-lt (lit< tt) (le-trans w q))
             | inr l ↦ l
           ] in
-          by-ln y (sized (2 ^ 1073) (2 ^ 1073) p r) (widen-two (nudge-two (lit-two one tt) (clip-two (2 ^ 1073) (flat-two k Y) r r) tt) tt)
+          let y-is : y ≡ neg half = unique (subst (λ n. Is binary64 y true n) (le-antisymm r p) Y-is) minus-half in
+          let O : Two binary64 k halfK (one ⊕ y) (one ⊕ y) =
+          subst (λ v. Two binary64 k halfK v v) (sym (ap (λ v. one ⊕ v) y-is ∙ rest)) (widen-two (lit-two half tt) tt) in
+          by-ln y (sized (2 ^ 1073) (2 ^ 1073) p r) O
+        where
+          rest : one ⊕ neg half ≡ half
+          rest = unfold add ofBits neg in refl
 
   pub rc1p-fair : (T (lt y (neg half)) → T (not (lt (neg (bits 0x3FF8_0000_0000_0000)) y))) → Fair k termK (rc1p y) (rc1p y)
   unfolding rc1p within litOk ofBits
@@ -257,4 +268,5 @@ module _ {k : ℕ} {y : Float} (Y : Two binary64 k ratioOfK y y) where
       (λ far. choose (Fair k termK) (lt zero y) (lt zero y) refl (above-zero far)
       (λ low. choose (Fair k termK) (eq y zero) (eq y zero) refl (λ e. inr (widen-two (lit-two one tt) tt))
       (λ e. choose (Fair k termK) (lt (neg half) y) (lt (neg half) y) refl (λ t. above-half far low)
-      (λ t. choose (Fair k termK) (lt y (neg one)) (lt y (neg one)) refl (λ u. below-one far low u h) (λ u. at-half far low t u h)))))
+      (λ t. choose (Fair k termK) (lt y (neg one)) (lt y (neg one)) refl (λ u. below-one far low u h)
+      (λ u. at-half far low t u h)))))

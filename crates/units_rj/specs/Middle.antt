@@ -1,13 +1,14 @@
--- RC(1, b) for a b above zero up to 2 ^ 12 that is the same in both runs: no number, or of a bounded size. Only bounds are at stake. Assumes nothing.
+-- RC(1, b) for a b above zero up to 2 ^ 12 that is the same in both runs: no number, or of a bounded size. Only bounds are at
+-- stake. Assumes nothing.
 use mathlib.Core.Path.{_≡_, refl, sym, ap, _∙_, subst}
 use mathlib.Core.Logic.{_⊎_, inl, inr}
-use Prim.Native.Nat.{ℕ, _^_, _≤_, _<_, max}
+use Prim.Native.Nat.{ℕ, _*_, _^_, _≤_, _<_, max}
 use native.Mathlib.Nat.{le-trans, le-of-lt, le-max-left}
 use native.Mathlib.Omega.{arith}
 use mathlib.Core.Bool.{Bool, true, false, not, cond}
 use lib.Dec.{T, T-not, eqb, ltb→lt, lt→ltb, nltb→le, lit≤}
-use lib.Pow.{pow-mono}
-use lib.Ieee.{Float, nan, binary64, sub, lt, eq, level, ofBits}
+use lib.Pow.{pow-pos, pow-add, pow-mono}
+use lib.Ieee.{Float, nan, binary64, low, sub, lt, eq, level, ofBits}
 use lib.Arith.{lt-of-le-ne}
 use lib.Ieee.Fits.{and-i, eq→eqb}
 use Rattle.binary64.specs.Operators.{_⊖_, _⊗_, _⊘_}
@@ -23,16 +24,18 @@ use Rattle.scaling.specs.Kind.{Kind, last, floor-le, mulK, mulOk, divK, divOk, 
 use Rattle.scaling.specs.Units.{Is, lt-units, eq-units}
 use Rattle.scaling.specs.Two.{Two, mul-two, div-two, plus-two, nudge-two}
 use Rattle.scaling.specs.Tests.{zero-is}
-use Rattle.scaling.specs.One.{lit-two, litOk, lit-is, widen-two, neg-two, abs-units, maximum-units}
-use Rattle.scaling.specs.Leaf.{Leaf, leaf-two, gapK, gapOk, gap-two}
+use Rattle.scaling.specs.Near.{near}
+use Rattle.scaling.specs.One.{lit-two, constant-two, litOk, lit-is, widen-two, neg-two, abs-units, maximum-units}
+use Rattle.scaling.specs.Leaf.{leaf-two, gapK, gapOk, gap-two}
 use Rattle.scaling.specs.Pick.{choose}
 use Rattle.scaling.specs.Nan.{mul-nan, nan-div}
 use Rattle.scaling.specs.Root.{rootK, rootOk, root-two}
 use Rattle.scaling.specs.Still.{recast-two}
-use Rattle.leaf_bounds.specs.Leaves.{ln-between}
 use Rattle.units.specs.Limits.{Size, within-limits}
 use Rattle.units.specs.Runs.{Fair}
-use Rattle.units_rf.specs.Leaves.{ratioK, leafK, spread, leaf-value, atan-leaf, spread-leaf}
+use Rattle.units_rf.specs.Leaves.{ratioK, leafK, spread, atan-leaf, ln-leaf, spread-leaf}
+use Rattle.units_rf.specs.Above.{three-quarters}
+use Rattle.units_rf.specs.Cases.{not-above}
 use Rattle.units_rj.specs.Helper.{termK}
 
 -- ---- kinds
@@ -42,22 +45,12 @@ middleK = record { any = false; zer = false; lo = 2 ^ 870; hi = 2 ^ 1086; g = la
 abbrev betweenK : ℕ → ℕ → Kind
 betweenK lo hi = record { any = false; zer = false; lo = lo; hi = hi; g = last binary64 lo; u = 0; d = 0 }
 
--- what ln is taken of
-abbrev farK : Kind
-farK = record { any = false; zer = false; lo = 2 ^ 1000; hi = 2 ^ 1300; g = last binary64 (2 ^ 1000); u = 0; d = 0 }
-
-ln-far : Leaf binary64 ln farK leafK
-ln-far x v =
-    let X = subst (λ s. Is binary64 x s (v .n)) (v .within .sign tt) (v .is) in
-    elim (ln-between X (le-trans (pow-mono {i = 984} {j = 1000} (lit≤ tt)) (floor-le (v .within)))
-    (le-trans (v .within .to) (pow-mono {i = 1300} {j = 1600} (lit≤ tt)))) [
-      | inl e ↦ inl e
-      | inr w ↦ inr (leaf-value (lit≤ tt) w)
-    ]
-
 -- a difference of 1 and b, and its root
 abbrev differenceK : Kind
 differenceK = record { any = false; zer = false; lo = 2 ^ 1020; hi = 2 ^ 1087; g = last binary64 (2 ^ 1020); u = 0; d = 0 }
+
+abbrev restK : Kind
+restK = record { any = false; zer = false; lo = 2 ^ 1072; hi = 2 ^ 1075; g = last binary64 (2 ^ 1072); u = 0; d = 0 }
 
 abbrev sideK : Kind
 sideK = record { any = false; zer = false; lo = 2 ^ 1047; hi = 2 ^ 1082; g = last binary64 (2 ^ 1047); u = 0; d = 0 }
@@ -69,7 +62,8 @@ divisorK = record { any = false; zer = false; lo = 2 ^ 1047; hi = 2 ^ 1083; g = 
 over : {k : ℕ} {v w : Float} → ((v ≡ nan) × (v ≡ nan)) ⊎ Two binary64 k leafK v v → Two binary64 k divisorK w w
     → Fair k termK (one ⊗ v ⊘ w) (one ⊗ v ⊘ w)
 unfolding mulK mulOk divK divOk within litOk ofBits
-over {w = w} (inl z) D = let g = ap (λ a. one ⊗ a ⊘ w) (z .0) ∙ ap (λ a. a ⊘ w) (mul-nan binary64 one) ∙ nan-div binary64 w in inl (g, g)
+over {w = w} (inl z) D = let g = ap (λ a. one ⊗ a ⊘ w) (z .0) ∙ ap (λ a. a ⊘ w) (mul-nan binary64 one) ∙ nan-div binary64 w in
+    inl (g, g)
 over (inr F) D = inr (widen-two (div-two (mul-two (lit-two one tt) F tt) D tt) tt)
 
 module _ {k : ℕ} {d : Float} (D : Two binary64 k differenceK d d) where
@@ -97,7 +91,8 @@ module _ {k : ℕ} {b : Float} (B : Two binary64 k middleK b b) where
   one-is = lit-is binary64 one tt
 
   recast : (lo hi : ℕ) → lo ≤ m → m ≤ hi → Two binary64 k (betweenK lo hi) b b
-  recast lo hi p q = recast-two (betweenK lo hi) B refl refl refl (record { sign = λ t. B .in-first .sign tt; from = inr p; to = q })
+  recast lo hi p q = recast-two (betweenK lo hi) B refl refl refl
+      (record { sign = λ t. B .in-first .sign tt; from = inr p; to = q })
 
   -- b above 1
   above-one : T (lt one b) → Two binary64 k differenceK (b ⊖ one) (b ⊖ one)
@@ -112,7 +107,8 @@ module _ {k : ℕ} {b : Float} (B : Two binary64 k middleK b b) where
   below-one t =
       let l : m < 2 ^ 1074 = ltb→lt m (2 ^ 1074) (subst T (lt-units B-is one-is) t) in
       elim (lt-or-le m (2 ^ 1073)) [
-        | inl h ↦ widen-two (nudge-two (lit-two one tt) (neg-two (recast (2 ^ 870) (2 ^ 1073) (floor-le (B .in-first)) (le-of-lt h))) tt) tt
+        | inl h ↦ widen-two (nudge-two (lit-two one tt)
+            (neg-two (recast (2 ^ 870) (2 ^ 1073) (floor-le (B .in-first)) (le-of-lt h))) tt) tt
         | inr h ↦ widen-two (gap-two (recast (2 ^ 1073) (2 ^ 1074) h (le-of-lt l)) (lit-two one tt) t tt tt) tt
       ]
 
@@ -130,14 +126,34 @@ module _ {k : ℕ} {b : Float} (B : Two binary64 k middleK b b) where
 
   by-ln1p : T (lt b one) → Fair k termK (byLn1p one one b) (byLn1p one one b)
   unfolding byLn1p mulK mulOk within litOk ofBits
-  by-ln1p t = let D = below-one t in over (leaf-two spread spread-leaf refl refl refl (ratio D)) (widen-two (mul-two (lit-two two tt) (side D) tt) tt)
+  by-ln1p t = let D = below-one t in over (leaf-two spread spread-leaf refl refl refl (ratio D))
+      (widen-two (mul-two (lit-two two tt) (side D) tt) tt)
 
-  by-ln : T (lt b one) → Fair k termK (byLn one one b) (byLn one one b)
+  -- b, over 1 not above 1/2, is not 3/4
+  quarters : T (not (lt half (b ⊘ one))) → m ≤ 3 * 2 ^ 1072
+  unfolding litOk ofBits divK divOk div-two lit-two constant-two
+  quarters h =
+      let Q = div-two B (lit-two one tt) tt in
+      let q : near binary64 (m * 2 ^ low binary64) (2 ^ 1074) ≤ 2 ^ 1073 = not-above (Q .first) (Q .in-first .sign tt) h in
+      fourth m (2 ^ 1072) (2 ^ 1074) (pow-add 2 2 1072) (three-quarters (2 ^ 1074) m (pow-pos 1074) q)
+    where
+      fourth : (m q p : ℕ) → p ≡ 4 * q → 4 * m < 3 * p → m ≤ 3 * q
+      fourth m q p e h = omega arith
+
+  -- so 1 - b is a quarter at least
+  rest : T (not (lt half (b ⊘ one))) → Two binary64 k restK (one ⊖ b) (one ⊖ b)
+  unfolding sub nudgeK nudgeOk within litOk ofBits
+  rest h = widen-two (nudge-two (lit-two one tt)
+      (neg-two (recast (2 ^ 870) (3 * 2 ^ 1072) (floor-le (B .in-first)) (quarters h))) tt) tt
+
+  by-ln : T (not (lt half (b ⊘ one))) → Fair k termK (byLn one one b) (byLn one one b)
   unfolding byLn plusK plusOk divK divOk rootK rootOk within litOk ofBits
-  by-ln t =
-      let D = below-one t in
-      over (leaf-two ln ln-far refl refl refl (widen-two (div-two (plus-two (root-two (lit-two one tt) tt) (side D) tt) (root-two B tt) tt) tt))
-      (divisor D)
+  by-ln h =
+      let D = rest h in
+      let Q = recast (2 ^ 870) (3 * 2 ^ 1072) (floor-le (B .in-first)) (quarters h) in
+      over (leaf-two ln ln-leaf refl refl refl
+      (widen-two (div-two (plus-two (root-two (lit-two one tt) tt) (root-two D tt) tt) (root-two Q tt) tt) tt))
+      (divisor (widen-two D tt))
 
   by-atan : T (lt one b) → Fair k termK (byAtan one one b) (byAtan one one b)
   unfolding byAtan
@@ -150,7 +166,7 @@ module _ {k : ℕ} {b : Float} (B : Two binary64 k middleK b b) where
       choose (Fair k termK) (eq one zero) (eq one zero) refl (λ t. absurd (T-not (eq one zero) not-zero t))
       (λ t. choose (Fair k termK) (eq one b) (eq one b) refl (λ e. equal)
       (λ e. choose (Fair k termK) (lt one b) (lt one b) refl by-atan
-      (λ l. choose (Fair k termK) (lt half (b ⊘ one)) (lt half (b ⊘ one)) refl (λ h. by-ln1p (lower e l)) (λ h. by-ln (lower e l)))))
+      (λ l. choose (Fair k termK) (lt half (b ⊘ one)) (lt half (b ⊘ one)) refl (λ h. by-ln1p (lower e l)) by-ln)))
     where
       not-zero : T (not (eq one zero))
       not-zero = unfold eq ofBits in tt
@@ -159,7 +175,8 @@ module _ {k : ℕ} {b : Float} (B : Two binary64 k middleK b b) where
   unfolding rcSteps
   steps =
       choose (Fair k termK) (lt b zero) (lt b zero) refl
-      (λ t. absurd (let h = ltb→lt m 0 (subst T (lt-units B-is (zero-is binary64)) t) in let r : ⊥ = omega arith in r)) (λ t. cases)
+      (λ t. absurd (let h = ltb→lt m 0 (subst T (lt-units B-is (zero-is binary64)) t) in let r : ⊥ = omega arith in r))
+      (λ t. cases)
 
   size : Size (scaleOf2 one b)
   size = record {

@@ -2,7 +2,7 @@
 
 use super::{Args, Leaf};
 use crate::random::Random;
-use crate::shapes::{corner, moved, scaled, wide, CORNERS};
+use crate::shapes::{corner, moved, power_of_two, scaled, wide, CORNERS};
 use crate::symbols;
 use doc01::rules;
 
@@ -23,7 +23,7 @@ pub static LN: Leaf = Leaf {
     wanted: |[a, ..]| rules::ln(a),
     standard: |[a, ..]| a.ln(),
     fixed,
-    case: |random| [from_two(random), 0.0, 0.0],
+    case: |random| [above_zero(random), 0.0, 0.0],
 };
 
 pub static LN_1P: Leaf = Leaf {
@@ -36,11 +36,11 @@ pub static LN_1P: Leaf = Leaf {
     case: |random| signed(random, |random| to_three_quarters(random)),
 };
 
-/// Of either sign: the corners, each power of two and the numbers about it, and those about 3/4.
+/// Of either sign: the corners, each power of two and the numbers about it, and those about 3/4 and 1.
 fn fixed() -> Vec<Args> {
-    let powers = (0..2047u64).flat_map(|field| (-3..4).map(move |off| moved(f64::from_bits(field << 52), off)));
-    let border = (-99..100).map(|off| moved(0.75, off));
-    let all = CORNERS.map(f64::from_bits).into_iter().chain(powers).chain(border);
+    let powers = (-1075..1025).flat_map(|k| (-3..4).map(move |off| moved(power_of_two(k), off)));
+    let borders = [0.75, 1.0].into_iter().flat_map(|at| (-99..100).map(move |off| moved(at, off)));
+    let all = CORNERS.map(f64::from_bits).into_iter().chain(powers).chain(borders);
     all.flat_map(|a| [[a, 0.0, 0.0], [-a, 0.0, 0.0]]).collect()
 }
 
@@ -63,15 +63,34 @@ fn of_any_size(random: &mut Random) -> f64 {
     }
 }
 
-/// Mostly from 2 up, where `ln` has a value.
-fn from_two(random: &mut Random) -> f64 {
-    match random.below(8) {
+/// Mostly above zero, where `ln` has a value: a part to each of its rules, and to the places where they meet.
+fn above_zero(random: &mut Random) -> f64 {
+    match random.below(12) {
         0 => of_any_size(random),
-        1 => moved(2.0, random.between(-9, 1 << 20)),
-        2 | 3 => scaled(random, 1, 3),
-        4 => scaled(random, 1, 70),
-        _ => scaled(random, 1, 1023),
+        1 => scaled(random, 1, 3),
+        2 => scaled(random, 1, 70),
+        3 => scaled(random, 1, 1023),
+        4 | 5 => scaled(random, 0, 0),
+        6 | 7 => scaled(random, -1, -1),
+        8 => scaled(random, -1022, -2),
+        9 => within_2_40_of_one(random),
+        10 => subnormal(random),
+        _ => {
+            let power = power_of_two(random.between(-1074, 1023));
+            moved(power, random.between(-9, 9))
+        }
     }
+}
+
+fn subnormal(random: &mut Random) -> f64 {
+    let digits = random.between(1, 52);
+    f64::from_bits(1 + random.below((1 << digits) - 1))
+}
+
+/// Below 1 the numbers lie twice as dense as above it.
+fn within_2_40_of_one(random: &mut Random) -> f64 {
+    let reach = 1 << random.between(0, 12);
+    moved(1.0, random.between(-2 * reach, reach))
 }
 
 /// Mostly up to 3/4, where `ln_1p` has a value.

@@ -1,4 +1,4 @@
--- `series::logarithm::t_sum` meets its contract: the sum at the square, times the seed. Assumes nothing.
+-- `series::t_series::t_sum` meets its contract: the sum at the square, times the seed. Assumes nothing.
 use Prim.Native.Nat.{ℕ, _*_, _/_, _^_}
 use mathlib.Core.Path.{_≡_, ap, _∙_}
 use borrow.Author.Needs.{needs}
@@ -7,8 +7,8 @@ use Rattle.enclosure.specs.Pieces.{odd, pieces, piece, value}
 use Rattle.enclosure.specs.Rules.{seed-square, T-answer}
 use Rattle.pieces.specs.Row.{value-or-zero}
 use Rattle.series.proofs.Products.{doubled, seed-square-is}
-use Rattle.series.proofs.logarithm.t_sum.Statement.{statement}
-use Rattle.series.proofs.logarithm.t_sum.Tie as tie
+use Rattle.series.proofs.t_series.t_sum.Statement.{statement}
+use Rattle.series.proofs.t_series.t_sum.Tie as tie
 
 returns : tie.Need-returns
 unfolding T-answer

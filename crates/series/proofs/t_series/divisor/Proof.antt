@@ -1,8 +1,8 @@
--- `series::logarithm::divisor` meets its contract, by its test. Assumes nothing.
+-- `series::t_series::divisor` meets its contract, by its test. Assumes nothing.
 use borrow.Author.Needs.{needs}
 use borrow.Author.Tests.{eq-eqb, ne-eqb}
-use Rattle.series.proofs.logarithm.divisor.Statement.{statement}
-use Rattle.series.proofs.logarithm.divisor.Tie as tie
+use Rattle.series.proofs.t_series.divisor.Statement.{statement}
+use Rattle.series.proofs.t_series.divisor.Tie as tie
 
 returns : tie.Need-returns
 returns c = rw (eq-eqb (c .before .args .s) 1 (c .if1 .taken))

@@ -1,0 +1,80 @@
+-- "RC and RJ reach no other finite argument" (document 01): RC and RJ's helper ask ln at no finite number below 2, and ln_1p at
+-- none outside -3/4 to 3/4. Any other functions that agree with these there give the same answers, so that with a wider ln
+-- "their answers stay, as they never asked there" (document 02, 2026-02). Assumes nothing.
+use mathlib.Core.Path.{_≡_, refl, ap, ap₂}
+use lib.Dec.{T}
+use lib.Ieee.{Float, binary64, neg, lt, le, eq, fits}
+use lib.Ieee.Fits.{sub-fits, div-fits, neg-fits}
+use Rattle.binary64.specs.Leaves.{absolute}
+use Rattle.binary64.specs.Operators.{_⊖_, _⊗_, _⊘_, bits}
+use Rattle.root.specs.Root.{root}
+use Rattle.series.specs.Ln.{ln}
+use Rattle.series.specs.Ln1p.{ln-1p}
+use Rattle.scaling.specs.Pick.{choose}
+use Rattle.carlson.specs.Constants.{zero, one, two, half}
+use Rattle.carlson.specs.Rescaling.{scaleOf2, rescales2, rescaling2}
+use Rattle.carlson.specs.Answer.{closedAt}
+use Rattle.elliprc.specs.Rc as rc
+use Rattle.elliprc.specs.Rc.{rcCases, rcSteps, rcFound, overRoot, rcUnchecked}
+use Rattle.rj_positive.specs.Helper as helper
+use Rattle.rj_positive.specs.Helper.{rc1p}
+use Rattle.asked.specs.With.{Agrees, Agrees1p, ln-before, byLnWith, byLn1pWith, rcCasesWith, rcStepsWith, rcUncheckedWith}
+use Rattle.asked.specs.With.{byLogs1pWith, byRc1pWith, byLnOf1pWith, rc1pWith}
+use Rattle.asked.specs.Before.{before-agrees}
+use Rattle.asked.specs.Rc.{cases-ask, turned}
+use Rattle.asked.specs.Helper.{lnOf, logs-asked, ln-asked}
+
+-- with ln and ln_1p themselves the steps are RC's
+pub own-text : (prefix x y : Float) → rcCasesWith ln ln-1p prefix x y ≡ rcCases prefix x y
+unfolding rcCasesWith rcCases byLnWith rc.byLn byLn1pWith rc.byLn1p
+own-text prefix x y = refl
+
+-- ---- THEOREMS
+module _ (log log1p : Float → Float) (A : Agrees log) (B : Agrees1p log1p) where
+  pub rc-asks : (x y : Float) → T (fits binary64 x) → T (fits binary64 y) → rcStepsWith log log1p x y ≡ rcSteps x y
+  unfolding rcStepsWith rcSteps
+  rc-asks x y F G =
+      choose _≡_ (lt y zero) (lt y zero) refl
+      (λ t.
+      cases-ask log log1p A B (root (x ⊘ (x ⊖ y))) (x ⊖ y) (neg y) (sub-fits binary64 x y) (neg-fits binary64 y G) (turned y t))
+      (λ t. cases-ask log log1p A B one x y F G t)
+
+  -- rescaled where it is
+  pub unchecked-asks : (x y : Float) → T (fits binary64 x) → T (fits binary64 y) → rcUncheckedWith log log1p x y ≡ rcUnchecked x y
+  unfolding rcUncheckedWith rcUnchecked rcFound rescaling2
+  unchecked-asks x y F G =
+      let s = scaleOf2 x y in
+      choose _≡_ (rescales2 x y s) (rescales2 x y s) refl
+      (λ t. ap (λ v. overRoot (closedAt v) s) (rc-asks (x ⊘ s) (y ⊘ s) (div-fits binary64 x s) (div-fits binary64 y s)))
+      (λ t. ap closedAt (rc-asks x y F G))
+
+  pub rc1p-asks : (y : Float) → T (fits binary64 y) → rc1pWith log log1p y ≡ rc1p y
+  unfolding rc1pWith rc1p byLogs1pWith byRc1pWith byLnOf1pWith helper.byLogs1p helper.byRc1p helper.byLn1p
+  rc1p-asks y F =
+      choose _≡_ (le (absolute y) (bits 0x3F84_7AE1_47AE_147B)) _ refl (λ t. refl)
+      (λ t.
+      choose _≡_ (lt zero y) _ refl (λ p. refl)
+      (λ p.
+      choose _≡_ (eq y zero) _ refl (λ z. refl)
+      (λ z.
+      choose _≡_ (lt (neg half) y) _ refl
+      (λ k.
+      let w = logs-asked y F p z k in
+      ap₂ (λ u v. (u ⊖ v) ⊘ (two ⊗ root (neg y))) (B (root (neg y)) (w .0)) (B (neg (root (neg y))) (w .1)))
+      (λ k.
+      choose _≡_ (lt y (neg one)) _ refl (λ j. ap (λ v. root (one ⊘ neg y) ⊗ v .value) below-one)
+      (λ j. ap (λ v. v ⊘ root (neg y)) (A (lnOf y) (ln-asked y F p z k j)))))))
+    where
+      below-one : rcUncheckedWith log log1p (neg y) (neg one ⊖ y) ≡ rcUnchecked (neg y) (neg one ⊖ y)
+      below-one = unchecked-asks (neg y) (neg one ⊖ y) (neg-fits binary64 y F) (sub-fits binary64 (neg one) y)
+
+-- ---- their answers stay: they are those that document 01's ln gives
+pub rc-stays : (x y : Float) → T (fits binary64 x) → T (fits binary64 y) → rcStepsWith ln-before ln-1p x y ≡ rcSteps x y
+rc-stays = rc-asks ln-before ln-1p before-agrees (λ a h. refl)
+
+pub unchecked-stays : (x y : Float) → T (fits binary64 x) → T (fits binary64 y)
+    → rcUncheckedWith ln-before ln-1p x y ≡ rcUnchecked x y
+unchecked-stays = unchecked-asks ln-before ln-1p before-agrees (λ a h. refl)
+
+pub rc1p-stays : (y : Float) → T (fits binary64 y) → rc1pWith ln-before ln-1p y ≡ rc1p y
+rc1p-stays = rc1p-asks ln-before ln-1p before-agrees (λ a h. refl)
