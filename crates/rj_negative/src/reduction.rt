@@ -60,7 +60,12 @@ pub fn carried(r: Reduced, inner: Answer) -> Answer
     ensures { λ a. ⌜ a ≡ reducedAnswer r inner ⌝ }
 {
     match inner {
-        Answer::Value(rj) => Answer::Value(together(r, rj, elliprf_unchecked(r.x, r.y, r.z), rc_of(r))),
+        Answer::Value(rj) => Answer::Value(together(
+            r,
+            rj,
+            elliprf_unchecked(r.x, r.y, r.z),
+            rc_of(r),
+        )),
         Answer::Refused(n) => Answer::Refused(n),
     }
 }

@@ -91,7 +91,7 @@ module _ {k : ℕ} where
   two-equal : {x x' y y' : Float} → Argument k x x' → Argument k y y' → T (not (eq x zero)) → T (not (eq y zero))
       → Ran k valueK (rgTwo x y) (rgTwo x' y')
   unfolding rgTwo
-  two-equal {x} {x'} {y} {y'} X Y p q = 
+  two-equal {x} {x'} {y} {y'} X Y p q =
       let S = rc-same X Y q in
       result (carried (same-way S) (with-rc (rcUnchecked x y .value) (rcUnchecked x' y' .value) (above X p) (above Y q) (value-fair S)))
 

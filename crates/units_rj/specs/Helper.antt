@@ -104,7 +104,7 @@ module _ {k : ℕ} {v : Float} (a : Two binary64 k plainK v v) where
 abbrev pub rcFlatK : Kind
 rcFlatK = record { any = false; zer = false; lo = 2 ^ 900; hi = 2 ^ 1200; g = last binary64 (2 ^ 900); u = 0; d = 0 }
 
-pub rc-flat : {k : ℕ} {x y : Float} → Two binary64 k plainK x x → Two binary64 k plainK y y → 
+pub rc-flat : {k : ℕ} {x y : Float} → Two binary64 k plainK x x → Two binary64 k plainK y y →
     Fair k rcFlatK (rcUnchecked x y .value) (rcUnchecked x y .value)
 rc-flat {k} X Y =
     elim (unchecked-fair (argument X) (argument Y) (not-zero (plain Y) (some Y))) [
