@@ -9,6 +9,7 @@ use borrow.Author.Tests.{lt-ltb, le-ltb, eq-eqb, ne-eqb}
 use lib.ListN.{length, getD, drop, drop-of-length-le}
 use lib.Seq.{drop-cons}
 use Rattle.packed.specs.Numbers.{list-cut, number-bad, groupsOf, lastGroup, numberFrom}
+use Rattle.packed.specs.NumberLaws.{power-some}
 use Rattle.packed.specs.declared.numbers.Number.{Number}
 use Rattle.packed.specs.declared.numbers.Number.the-variants.{Whole, Refused}
 
@@ -19,10 +20,6 @@ tenth = 9223372036854775808
 -- ---- the weight of a group and the value before it
 pub weight-more : (w left m : ℕ) → left ≡ suc m → w * 128 ^ left ≤ tenth → w * 128 * 128 ^ m ≤ tenth
 weight-more w left m e h = let k : w * (128 ^ m * 128) ≤ tenth = rw (e, pow-suc) at h in omega arith
-
-power-some : (m : ℕ) → 0 < 128 ^ m
-power-some zero = rw pow-zero (omega arith)
-power-some (suc m) = rw pow-suc (omega (arith, power-some m))
 
 weight-fits : (w m : ℕ) → w * 128 ^ m ≤ tenth → w ≤ tenth
 weight-fits w m h = omega (arith, le-mul-of-pos-right w (power-some m))
