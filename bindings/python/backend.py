@@ -1,4 +1,6 @@
-"""Builds the wheel for pip (PEP 517): the package with the proved library in it, from GATEWREN_SO or where `./gatewren shared` made it."""
+"""Builds the wheel for pip (PEP 517): the package with the proved library in it.
+
+The library is the one that GATEWREN_SO names, else the one that `./gatewren shared` made."""
 
 import base64
 import hashlib
@@ -24,7 +26,8 @@ def _files(project, tag):
     info = f"gatewren-{project['version']}.dist-info"
     metadata = ["Metadata-Version: 2.4", f"Name: {project['name']}", f"Version: {project['version']}"]
     metadata += [f"Summary: {project['description']}", f"License-Expression: {project['license']}"]
-    metadata += ["License-File: LICENSE", f"Keywords: {','.join(project['keywords'])}", f"Requires-Python: {project['requires-python']}"]
+    metadata += ["License-File: LICENSE", f"Keywords: {','.join(project['keywords'])}"]
+    metadata += [f"Requires-Python: {project['requires-python']}"]
     wheel = ["Wheel-Version: 1.0", "Generator: gatewren", "Root-Is-Purelib: false", f"Tag: {tag}"]
     return {
         **package,

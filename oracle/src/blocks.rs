@@ -9,8 +9,8 @@ use std::path::PathBuf;
 const BLOCK: usize = 1024;
 const LENGTH: usize = 6 * BLOCK - 100;
 
-/// Good lines, bad lines and long ones. At each border of a block a line lies across it, a good one and a long one in turn; the last
-/// line lacks its newline.
+/// Good lines, bad lines and long ones. At each border of a block a line lies across it, a good one and a long one in turn; the
+/// last line lacks its newline.
 fn input(program: Program) -> Vec<u8> {
     let mut random = Random::new(20_261_115);
     let mut text = if program == Program::Steps { numbers::total(&mut random) } else { Vec::new() };

@@ -1,5 +1,5 @@
-//! What the three programs that read lines must print: readers and writers of the oracle's own, from document 01's listing and from
-//! docs/DECISIONS.md, "The swing's lines".
+//! What the three programs that read lines must print: readers and writers of the oracle's own, from document 01's listing and
+//! from docs/DECISIONS.md, "The swing's lines".
 
 use crate::call::{shown, Call};
 use crate::swing::{judged, summed};

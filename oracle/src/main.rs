@@ -27,7 +27,8 @@ mod units_list;
 use std::process::ExitCode;
 
 const USAGE: &str = "oracle examples | make-list | check-list | call | diff N [SEED] | leaf NAME N [SEED] | answers NAME |
-       compare N [SEED [THREADS]] | units N [SEED] | make-units | make-blocks | effect N [SEED] | swing N [SEED] | fuzz SECONDS [SEED]";
+       compare N [SEED [THREADS]] | units N [SEED] | effect N [SEED] | swing N [SEED] | fuzz SECONDS [SEED] |
+       make-units | make-blocks";
 
 fn main() -> ExitCode {
     let words: Vec<String> = std::env::args().skip(1).collect();

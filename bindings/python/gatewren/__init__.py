@@ -1,8 +1,8 @@
 """Gatewren for Python: Carlson's elliptic integrals rc, rf, rd, rg, rj, the leaves they stand on, the knee bench's swing time and
 step log, and the packed work lists of its controller.
 
-What is called is the proved library as a shared object, which `./gatewren shared` builds and `pip install` takes along; GATEWREN_SO
-may name another place.
+What is called is the proved library as a shared object, which `./gatewren shared` builds and `pip install` takes along;
+GATEWREN_SO may name another place.
 
     >>> rf(4, 4, 4)
     Value(value=0.5, rounds=0)

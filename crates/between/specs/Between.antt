@@ -66,7 +66,8 @@ solid-under lo hi o = ltb→lt hi infinity (and-r (leb lo hi) (ltb hi infinity) 
 
 solid-low : (lo hi : ℕ) → T (solid lo hi) → lo ≤ infinity
 solid-low lo hi o =
-    le-trans (leb→le lo hi (and-l (leb lo hi) (ltb hi infinity) (and-r (ltb 0 lo) (leb lo hi && ltb hi infinity) o))) (le-of-lt (solid-under lo hi o))
+    le-trans (leb→le lo hi (and-l (leb lo hi) (ltb hi infinity) (and-r (ltb 0 lo) (leb lo hi && ltb hi infinity) o)))
+    (le-of-lt (solid-under lo hi o))
 
 module _ (v : Cut) (num : Number v) where
   not-under : (p n : ℕ) → p ≤ infinity → T (isLe (v (value p) (2 ^ 1074))) → Nearest v n → p ≤ n
@@ -74,7 +75,8 @@ module _ (v : Cut) (num : Number v) where
     | inl l ↦
         absurd
         (N .higher p l h
-        (num .below (middle n p) (2 ^ 1075) (value p) (2 ^ 1074) (pow-pos 1075) (pow-pos 1074) (lower-half (value n) (value p) (value-lt n p l)) t))
+        (num .below (middle n p) (2 ^ 1075) (value p) (2 ^ 1074) (pow-pos 1075) (pow-pos 1074)
+        (lower-half (value n) (value p) (value-lt n p l)) t))
     | inr l ↦ l
   ]
 
@@ -83,15 +85,24 @@ module _ (v : Cut) (num : Number v) where
     | inl l ↦
         absurd
         (t
-        (num .below (value q) (2 ^ 1074) (middle q n) (2 ^ 1075) (pow-pos 1074) (pow-pos 1075) (upper-half (value q) (value n) (value-lt q n l))
+        (num .below (value q) (2 ^ 1074) (middle q n) (2 ^ 1075) (pow-pos 1074) (pow-pos 1075)
+        (upper-half (value q) (value n) (value-lt q n l))
         (N .lower q l)))
     | inr l ↦ l
   ]
 
-  cut-between : (p q : ℕ) → T (solid p q) → T (isLe (v (value p) (2 ^ 1074))) → (v (value q) (2 ^ 1074) ≡ Ordering·lt → ⊥) → Between p q (rounded v)
+  cut-between : (p q : ℕ) → T (solid p q) → T (isLe (v (value p) (2 ^ 1074))) → (v (value q) (2 ^ 1074) ≡ Ordering·lt → ⊥)
+      → Between p q (rounded v)
   cut-between p q o s t =
       let r = rounded-nearest v num in
-      record { ok = o; n = r .0; is = r .1; low = not-under p (r .0) (solid-low p q o) s (r .2); high = not-over q (r .0) t (r .2) }
+      record {
+        ok = o;
+        n = r .0;
+        is = r .1;
+        low = not-under p (r .0) (solid-low p q o) s (r .2);
+        high =
+            not-over q (r .0) t (r .2);
+      }
 
 not-below : (a b : ℕ) → b ≤ a → compare a b ≡ Ordering·lt → ⊥
 not-below a b h e = lt-irrefl a (lt-of-lt-of-le (subst (λ (o : Ordering). Compared o a b) e (compared a b)) h)
@@ -101,7 +112,8 @@ pub fraction-between : (P Q p q : ℕ) → 0 < Q → T (solid p q) → value p *
     → Between p q (round binary64 false P Q)
 fraction-between P Q p q H o s t =
     subst (λ (x : Float). Between p q x) (rounded-fraction P Q H)
-    (cut-between (fraction P Q) (fraction-number P Q H) p q o (le→leb (value p * Q) (P * 2 ^ 1074) s) (not-below (value q * Q) (P * 2 ^ 1074) t))
+    (cut-between (fraction P Q) (fraction-number P Q H) p q o (le→leb (value p * Q) (P * 2 ^ 1074) s)
+    (not-below (value q * Q) (P * 2 ^ 1074) t))
 
 -- ---- such an f64 as data, with its units of 2 ^ -1074
 pub record Form (x : Float) (u : ℕ) : Type 0 where
@@ -113,7 +125,8 @@ pub record Form (x : Float) (u : ℕ) : Type 0 where
 pub form-of : (x : Float) (u : ℕ) → 0 < u → HasValue x false u (2 ^ 1074) → Form x u
 form-of nan u h v = absurd v
 form-of (inf s) u h v = absurd v
-form-of (fin s zero e) u h v = absurd (lt-irrefl 0 (subst (λ (z : ℕ). 0 < z) (sym (v .1) ∙ nothing (up e)) (mul-pos h (down-pos e))))
+form-of (fin s zero e) u h v = absurd (lt-irrefl 0 (subst (λ (z : ℕ). 0 < z) (sym (v .1) ∙ nothing (up e))
+    (mul-pos h (down-pos e))))
   where
     nothing : (w : ℕ) → 0 * w * 2 ^ 1074 ≡ 0
     nothing = ring 1 (λ w. con 0 :* w :* con (2 ^ 1074) ≈ con 0) tt
@@ -176,7 +189,8 @@ module _ {x y : Float} {u w : ℕ} (X : Form x u) (Y : Form y w) where
       let c = down (X .e) in
       let d = down (Y .e) in
       rw (X .is, Y .is)
-      (round-same binary64 false (a * d + b * c) (c * d) (u + w) (2 ^ 1074) (mul-pos (down-pos (X .e)) (down-pos (Y .e))) (pow-pos 1074)
+      (round-same binary64 false (a * d + b * c) (c * d) (u + w) (2 ^ 1074) (mul-pos (down-pos (X .e)) (down-pos (Y .e)))
+      (pow-pos 1074)
       (sum-cross a b c d u w (2 ^ 1074) (X .units) (Y .units)))
 
   mul-is : x ⊗ y ≡ round binary64 false (u * w) (2 ^ 1074 * 2 ^ 1074)
@@ -212,15 +226,18 @@ module _ {lo hi lo' hi' : ℕ} {x y : Float} (X : Between lo hi x) (Y : Between 
   pub sum-between : T (leb (value p) (value lo + value lo')) → T (leb (value hi + value hi') (value q)) → Between p q (x ⊕ y)
   sum-between s t = subst (λ (z : Float). Between p q z) (sym (add-is (form X) (form Y)))
       (fraction-between (units-of X + units-of Y) (2 ^ 1074) p q (pow-pos 1074) o
-      (mul-le-mul-right (2 ^ 1074) (le-trans (leb→le (value p) (value lo + value lo') s) (add-le-add (units-low X) (units-low Y))))
-      (mul-le-mul-right (2 ^ 1074) (le-trans (add-le-add (units-high X) (units-high Y)) (leb→le (value hi + value hi') (value q) t))))
+      (mul-le-mul-right (2 ^ 1074) (le-trans (leb→le (value p) (value lo + value lo') s)
+      (add-le-add (units-low X) (units-low Y))))
+      (mul-le-mul-right (2 ^ 1074) (le-trans (add-le-add (units-high X) (units-high Y))
+      (leb→le (value hi + value hi') (value q) t))))
 
   pub product-between : T (leb (value p * 2 ^ 1074) (value lo * value lo')) → T (leb (value hi * value hi') (value q * 2 ^ 1074))
       → Between p q (x ⊗ y)
   product-between s t = subst (λ (z : Float). Between p q z) (sym (mul-is (form X) (form Y)))
       (fraction-between (units-of X * units-of Y) (2 ^ 1074 * 2 ^ 1074) p q (mul-pos (pow-pos 1074) (pow-pos 1074)) o
       (le-trans (le-of-eq (sym (mul-assoc (value p) (2 ^ 1074) (2 ^ 1074))))
-      (mul-le-mul-right (2 ^ 1074) (le-trans (leb→le (value p * 2 ^ 1074) (value lo * value lo') s) (mul-le-mul (units-low X) (units-low Y)))))
+      (mul-le-mul-right (2 ^ 1074) (le-trans (leb→le (value p * 2 ^ 1074) (value lo * value lo') s)
+      (mul-le-mul (units-low X) (units-low Y)))))
       (le-trans (mul-le-mul-right (2 ^ 1074)
       (le-trans (mul-le-mul (units-high X) (units-high Y)) (leb→le (value hi * value hi') (value q * 2 ^ 1074) t)))
       (le-of-eq (mul-assoc (value q) (2 ^ 1074) (2 ^ 1074)))))
@@ -243,7 +260,8 @@ root-low p u m c D h e = le-trans (mul-le-mul-right c h) (le-of-eq (sym (root-cr
 root-high : (q u m c D : ℕ) → u * D ≤ q * q → m * D ≡ u * c → m * (D * D) ≤ q * q * c
 root-high q u m c D h e = le-trans (le-of-eq (root-cross u m c D e)) (mul-le-mul-right c h)
 
-pub root-between : {lo hi : ℕ} {x : Float} (X : Between lo hi x) (p q : ℕ) → T (solid p q) → T (leb (value p * value p) (value lo * 2 ^ 1074))
+pub root-between : {lo hi : ℕ} {x : Float} (X : Between lo hi x) (p q : ℕ) → T (solid p q)
+    → T (leb (value p * value p) (value lo * 2 ^ 1074))
     → T (leb (value hi * 2 ^ 1074) (value q * value q)) → Between p q (root x)
 root-between {lo} {hi} {x} X p q o s t =
     let F = form X in

@@ -1,5 +1,5 @@
-// The larger and the smaller of two f64s. A NaN is passed over, and of two equal ones the first is taken, so that of two zeros the
-// first one's sign is kept.
+// The larger and the smaller of two f64s. A NaN is passed over, and of two equal ones the first is taken, so that of two zeros
+// the first one's sign is kept.
 ghost use mathlib.Core.Path.{_≡_};
 ghost use Rattle.binary64.specs.Leaves.{maximum, minimum};
 

@@ -9,7 +9,8 @@ use Rattle.carlson.specs.declared.answer.Found.{Found}
 use Rattle.carlson.specs.declared.answer.Answer.{Answer}
 use Rattle.carlson.specs.declared.answer.Answer.the-variants.{Value, Refused}
 
--- ---- the way to a value: "the round count is the number of duplication or joint passes begun, plus AGM passes that replaced the means"
+-- ---- the way to a value: "the round count is the number of duplication or joint passes begun, plus AGM passes that replaced
+-- the means"
 abbrev pub wayOf : ℕ → Way
 wayOf n = record { rounds = n }
 
@@ -60,4 +61,5 @@ settled f n = cond (finite (f .value)) (Value f) (Refused n)
 
 -- "a finite result stands; else 1, then +infinity gives 0, then" the number
 unfoldable pub settledLate : Found → Bool → Bool → ℕ → Answer
-settledLate f nan unbounded n = cond (finite (f .value)) (Value f) (cond nan (Refused nan-given) (cond unbounded infiniteAt (Refused n)))
+settledLate f nan unbounded n = cond (finite (f .value)) (Value f)
+    (cond nan (Refused nan-given) (cond unbounded infiniteAt (Refused n)))

@@ -24,6 +24,7 @@ abbrev pub lambdaWith : Float → Float → Float → Lambda
 lambdaWith rx ry rz = record { lambda = lambdaOf rx ry rz; rz = rz }
 
 -- the series of RD and RJ (DLMF 19.36.2)
+-- by their bits: 9, 14, 6, 88, 22, 52, 26, 16, 40, 20, 45, 272, 68
 unfoldable pub thirdKind : Float → Float → Float → Float → Float
 thirdKind e2 e3 e4 e5 =
     let nine = bits 0x4022_0000_0000_0000 in

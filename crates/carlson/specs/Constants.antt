@@ -22,9 +22,11 @@ four = bits 0x4010_0000_0000_0000
 abbrev pub half : Float
 half = bits 0x3FE0_0000_0000_0000
 
+-- by its bits: 3.141592653589793
 abbrev pub pi : Float
 pi = bits 0x4009_21FB_5444_2D18
 
+-- by its bits: 1.5707963267948966
 abbrev pub half-pi : Float
 half-pi = bits 0x3FF9_21FB_5444_2D18
 

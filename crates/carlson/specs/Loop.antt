@@ -1,4 +1,5 @@
--- A capped loop that is left with its result (document 01, Required forms), and its laws: all the loops of the five entries are this one.
+-- A capped loop that is left with its result (document 01, Required forms), and its laws: all the loops of the five entries are
+-- this one.
 use Prim.Native.Nat.{ℕ, zero, suc, _+_, _-_, _<_, _≤_}
 use mathlib.Core.Path.{_≡_, refl, sym, _∙_}
 use mathlib.Core.Bool.{Bool, true, false}
@@ -6,15 +7,16 @@ use native.Mathlib.Numerals.{add-one}
 use native.Mathlib.Omega.{arith}
 
 module _ {S A : Type 0} (step : S → S) (stop : S → Bool) (found spent : S → ℕ → A) where
-  -- So many passes are left; whether the state may stop the loop; the state; the passes made. Stopped, the state is `found`; with no pass
-  -- left, `spent`.
+  -- So many passes are left; whether the state may stop the loop; the state; the passes made. Stopped, the state is `found`;
+  -- with no pass left, `spent`.
   unfoldable pub capped : ℕ → Bool → S → ℕ → A
   capped zero true s n = found s n
   capped zero false s n = spent s n
   capped (suc left) true s n = found s n
   capped (suc left) false s n = capped left (stop (step s)) (step s) (suc n)
 
-  turn : (cap : ℕ) (s : S) (n : ℕ) → n < cap → capped (cap - n) false s n ≡ capped (cap - (n + 1)) (stop (step s)) (step s) (n + 1)
+  turn : (cap : ℕ) (s : S) (n : ℕ) → n < cap → capped (cap - n) false s n
+      ≡ capped (cap - (n + 1)) (stop (step s)) (step s) (n + 1)
   unfolding capped
   turn cap s n h = let e : cap - n ≡ suc (cap - (n + 1)) = omega arith in rw (e, add-one)
 
@@ -23,13 +25,15 @@ module _ {S A : Type 0} (step : S → S) (stop : S → Bool) (found spent : S �
   stopped zero s n = refl
   stopped (suc left) s n = refl
 
-  -- ---- the invariant of a loop in code: what is left of it gives what the whole loop gives. b₀ and b are what the tests of s₀ and s said.
+  -- ---- the invariant of a loop in code: what is left of it gives what the whole loop gives. b₀ and b are what the tests of s₀
+  -- and s said.
   pub record Left (cap : ℕ) (b₀ : Bool) (s₀ : S) (b : Bool) (s : S) (n : ℕ) : Type 0 where
     pub few : n ≤ cap
     pub gives : capped (cap - n) b s n ≡ capped cap b₀ s₀ 0
 
   -- ---- what holds of whatever a loop can be left with holds of what it gives: with at most `cap` passes made
-  pub capped-holds : (P : A → Type 0) (cap : ℕ) → ((s : S) (n : ℕ) → n ≤ cap → P (found s n)) → ((s : S) (n : ℕ) → n ≤ cap → P (spent s n))
+  pub capped-holds : (P : A → Type 0) (cap : ℕ) → ((s : S) (n : ℕ) → n ≤ cap → P (found s n))
+      → ((s : S) (n : ℕ) → n ≤ cap → P (spent s n))
       → (left : ℕ) (b : Bool) (s : S) (n : ℕ) → n + left ≤ cap → P (capped left b s n)
   unfolding capped
   capped-holds P cap f g zero true s n h = f s n (omega arith)
@@ -38,10 +42,12 @@ module _ {S A : Type 0} (step : S → S) (stop : S → Bool) (found spent : S �
   capped-holds P cap f g (suc left) false s n h = capped-holds P cap f g left (stop (step s)) (step s) (suc n) (omega arith)
 
   -- so the count is at most the cap, where the loop counts its passes
-  pub capped-count : (count : A → ℕ) (cap : ℕ) → ((s : S) (n : ℕ) → count (found s n) ≡ n) → ((s : S) (n : ℕ) → count (spent s n) ≡ n)
+  pub capped-count : (count : A → ℕ) (cap : ℕ) → ((s : S) (n : ℕ) → count (found s n) ≡ n)
+      → ((s : S) (n : ℕ) → count (spent s n) ≡ n)
       → (b : Bool) (s : S) → count (capped cap b s 0) ≤ cap
   capped-count count cap f g b s =
-      capped-holds (λ a. count a ≤ cap) cap (λ t n h. omega (arith, f t n)) (λ t n h. omega (arith, g t n)) cap b s 0 (omega arith)
+      capped-holds (λ a. count a ≤ cap) cap (λ t n h. omega (arith, f t n)) (λ t n h. omega (arith, g t n)) cap b s 0
+      (omega arith)
 
 module _ {S A : Type 0} {step : S → S} {stop : S → Bool} {found spent : S → ℕ → A} {cap : ℕ} {b₀ : Bool} {s₀ : S} where
   -- it begins
@@ -50,8 +56,13 @@ module _ {S A : Type 0} {step : S → S} {stop : S → Bool} {found spent : S �
 
   module _ {b : Bool} {s : S} {n : ℕ} (l : Left step stop found spent cap b₀ s₀ b s n) where
     -- another pass brings it to the state t, of which the test says d
-    pub left-on : {d : Bool} {t : S} → b ≡ false → n < cap → t ≡ step s → d ≡ stop t → Left step stop found spent cap b₀ s₀ d t (n + 1)
-    left-on e h f g = record { few = omega arith; gives = rw (g, f) (sym (turn step stop found spent cap s n h) ∙ (rw e at (l .gives))) }
+    pub left-on : {d : Bool} {t : S} → b ≡ false → n < cap → t ≡ step s → d ≡ stop t
+        → Left step stop found spent cap b₀ s₀ d t (n + 1)
+    left-on e h f g = record {
+      few = omega arith;
+      gives =
+          rw (g, f) (sym (turn step stop found spent cap s n h) ∙ (rw e at (l .gives)));
+    }
 
     -- the cap is spent
     pub left-spent : b ≡ false → n ≡ cap → spent s n ≡ capped step stop found spent cap b₀ s₀ 0

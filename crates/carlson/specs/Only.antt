@@ -1,5 +1,5 @@
--- Demand 1 (document 01): the only answers are a finite value, or one number out of a list. And how that, or any other property of
--- what may be answered, goes through the steps that the entries share. Assumes nothing.
+-- Demand 1 (document 01): the only answers are a finite value, or one number out of a list. And how that, or any other property
+-- of what may be answered, goes through the steps that the entries share. Assumes nothing.
 use Prim.Native.Nat.{ℕ}
 use mathlib.Core.Path.{_≡_, refl, sym, subst}
 use mathlib.Core.Bool.{Bool, true, false, _&&_, _||_, cond}
@@ -68,7 +68,8 @@ rescaled2 Q back steps each kept x y =
     let s = scaleOf2 x y in
     chosen Q (rescales2 x y s) (kept (steps (x ⊘ s) (y ⊘ s)) s (each (x ⊘ s) (y ⊘ s))) (each x y)
 
-pub rescaled3 : {A : Type 0} (Q : A → Type 0) (back : A → Float → A) (steps : Float → Float → Float → A) → ((x y z : Float) → Q (steps x y z))
+pub rescaled3 : {A : Type 0} (Q : A → Type 0) (back : A → Float → A) (steps : Float → Float → Float → A)
+    → ((x y z : Float) → Q (steps x y z))
     → ((a : A) (s : Float) → Q a → Q (back a s)) → (x y z : Float) → Q (rescaling3 back steps x y z)
 unfolding rescaling3
 rescaled3 Q back steps each kept x y z =
@@ -96,7 +97,8 @@ late-only numbers f nan unbounded n g h = go (finite (f .value)) refl
     go : (b : Bool) → finite (f .value) ≡ b
         → Only Finite numbers (cond b (Value f) (cond nan (Refused nan-given) (cond unbounded infiniteAt (Refused n))))
     go true e = value e
-    go false e = chosen (Only Finite numbers) nan (refused g) (chosen (Only Finite numbers) unbounded (infinite-only numbers) (refused h))
+    go false e = chosen (Only Finite numbers) nan (refused g)
+        (chosen (Only Finite numbers) unbounded (infinite-only numbers) (refused h))
 
 -- what the inner parts answered: a value is settled, their own numbers go through
 pub told-only : {ns : List ℕ} (ms : List ℕ) (settle : Answer → Answer) → ((f : Found) → Only Finite ms (settle (Value f)))

@@ -44,11 +44,12 @@ rescales3 x y z s = beyondLimits s && survive3 x y z s
 abbrev pub rescales4 : Float → Float → Float → Float → Float → Bool
 rescales4 x y z p s = beyondLimits s && survive4 x y z p s
 
--- ---- "Arguments are divided by the scale": the steps at those, and what is done to their result with the scale. The Rust calls itself
--- there; the crate `once` shows that the scaled arguments are not rescaled again, so that this is the same.
+-- ---- "Arguments are divided by the scale": the steps at those, and what is done to their result with the scale. The Rust
+-- calls itself there; the crate `once` shows that the scaled arguments are not rescaled again, so that this is the same.
 module _ {A : Type 0} (back : A → Float → A) where
   unfoldable pub rescaling2 : (Float → Float → A) → Float → Float → A
   rescaling2 steps x y = let s = scaleOf2 x y in cond (rescales2 x y s) (back (steps (x ⊘ s) (y ⊘ s)) s) (steps x y)
 
   unfoldable pub rescaling3 : (Float → Float → Float → A) → Float → Float → Float → A
-  rescaling3 steps x y z = let s = scaleOf3 x y z in cond (rescales3 x y z s) (back (steps (x ⊘ s) (y ⊘ s) (z ⊘ s)) s) (steps x y z)
+  rescaling3 steps x y z = let s = scaleOf3 x y z in cond (rescales3 x y z s) (back (steps (x ⊘ s) (y ⊘ s) (z ⊘ s)) s)
+      (steps x y z)

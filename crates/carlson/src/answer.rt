@@ -1,11 +1,24 @@
-// An answer is one of two cases: a value with its way, or the number of a refusal (document 01, "Numbers for no").
-// What the way to a value tells beside the value is `Way`, which alone grows; a `Found` is made by the functions here, one for each
-// road to a value, by `carried` and by `rescaled`.
+// An answer is one of two cases: a value with its way, or the number of a refusal (document 01, "Numbers for no"). What the way
+// to a value tells beside the value is `Way`, which alone grows; a `Found` is made by the functions here, one for each road to
+// a value, by `carried` and by `rescaled`.
 use crate::constants::NAN_GIVEN;
 use binary64::is_finite;
 ghost use mathlib.Core.Path.{_≡_};
 ghost use lib.Ieee.{nan};
-ghost use Rattle.carlson.specs.Answer.{bothWays, closedAt, carriedAt, infiniteAt, agmAt, duplicationAt, jointAt, taylorAt, reductionAt, rescaledAt, settled, settledLate};
+ghost use Rattle.carlson.specs.Answer.{
+  bothWays,
+  closedAt,
+  carriedAt,
+  infiniteAt,
+  agmAt,
+  duplicationAt,
+  jointAt,
+  taylorAt,
+  reductionAt,
+  rescaledAt,
+  settled,
+  settledLate,
+};
 
 // What is known of the way to a value: the rounds begun over the call and all it calls.
 pub struct Way {

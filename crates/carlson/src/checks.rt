@@ -3,7 +3,16 @@ use binary64::min;
 ghost use mathlib.Core.Path.{_≡_};
 ghost use mathlib.Core.Bool.{_&&_, _||_};
 ghost use lib.Ieee.{eq, isNan};
-ghost use Rattle.carlson.specs.Checks.{anyNan2, anyNan3, anyNan4, anyInfinite2, anyInfinite3, anyInfinite4, below3, zerosOf3};
+ghost use Rattle.carlson.specs.Checks.{
+  anyNan2,
+  anyNan3,
+  anyNan4,
+  anyInfinite2,
+  anyInfinite3,
+  anyInfinite4,
+  below3,
+  zerosOf3,
+};
 ghost use Rattle.carlson.specs.Constants.{zero, infinity};
 
 pub fn either(a: bool, b: bool) -> bool

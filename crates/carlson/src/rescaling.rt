@@ -1,5 +1,5 @@
-// Rescaling (document 01): the arguments are divided by the scale, the largest argument's size, if it is beyond the limits and no nonzero
-// argument would become zero. What an entry does with the scale's root is its own.
+// Rescaling (document 01): the arguments are divided by the scale, the largest argument's size, if it is beyond the limits and
+// no nonzero argument would become zero. What an entry does with the scale's root is its own.
 use crate::checks::both;
 use crate::constants::LIMIT;
 use crate::constants::RECIPROCAL;
@@ -7,7 +7,19 @@ use binary64::abs;
 use binary64::is_finite;
 use binary64::max;
 ghost use mathlib.Core.Path.{_≡_};
-ghost use Rattle.carlson.specs.Rescaling.{scaleOf2, scaleOf3, scaleOf4, beyondLimits, survives, survive2, survive3, survive4, rescales2, rescales3, rescales4};
+ghost use Rattle.carlson.specs.Rescaling.{
+  scaleOf2,
+  scaleOf3,
+  scaleOf4,
+  beyondLimits,
+  survives,
+  survive2,
+  survive3,
+  survive4,
+  rescales2,
+  rescales3,
+  rescales4,
+};
 
 pub fn scale2(x: f64, y: f64) -> f64
     ensures { λ r. ⌜ r ≡ scaleOf2 x y ⌝ }

@@ -1,74 +1,46 @@
-// Standard input to standard output, for the programs of the swing's lines: what is written is swing_stream' to say.
+// Standard input and standard output, for every program: a block is read, bytes are written, and where that fails it is said on standard
+// error.
 use libc::STDERR_FILENO;
 use libc::STDIN_FILENO;
 use libc::STDOUT_FILENO;
-use swing_stream::State;
-ghost use Rattle.io.specs.Counts.{Counts};
+use writing::OUT;
+use writing::least;
+ghost use Rattle.console.specs.Got.{Within};
 
 // What a read led to.
-enum Turn {
-    // The state after the bytes that came.
-    On(State),
+pub enum Got {
+    // So many bytes came.
+    Bytes(usize),
     // The input has ended.
     End,
-    // A read or a write failed, and that was said.
+    // The read failed, and that was said.
     Failed,
 }
 
-fn written(out: &[u8], used: usize) -> bool
-    requires { ⌜ Counts used (now out) ⌝ }
+// Reads once, into the start of the block.
+pub fn read_block(block: &mut [u8]) -> Got
+    ensures { λ r. ⌜ Within r (now (block .exit)) ⌝ }
 {
-    if io::write_all(STDOUT_FILENO, &out[..used]) {
+    let got = libc::read(STDIN_FILENO, block);
+    if got < 0 {
+        io::write_all(STDERR_FILENO, b"gatewren: cannot read\n");
+        return Got::Failed;
+    }
+    if got == 0 {
+        return Got::End;
+    }
+    Got::Bytes(io::count(got, block))
+}
+
+fn written_from(out: &[u8], used: usize) -> bool {
+    io::write_all(STDOUT_FILENO, &out[..least(out.len(), used)])
+}
+
+// Writes the first `used` bytes, all of `out` where that is more; whether they were written.
+pub fn written(out: &[u8; OUT], used: usize) -> bool {
+    if written_from(out, used) {
         return true;
     }
     io::write_all(STDERR_FILENO, b"gatewren: cannot write\n");
     false
-}
-
-// Reads once, and replies to the lines that end in what came.
-fn read_some(state: State, out: &mut [u8; 65536]) -> Turn {
-    let mut block = [0u8; 1024];
-    let got = libc::read(STDIN_FILENO, &mut block);
-    if got < 0 {
-        io::write_all(STDERR_FILENO, b"gatewren: cannot read\n");
-        return Turn::Failed;
-    }
-    if got == 0 {
-        return Turn::End;
-    }
-    let size = io::count(got, &block);
-    let fed = swing_stream::feed(&block[..size], state, out);
-    if written(out, fed.used) {
-        let after = fed.state;
-        return Turn::On(after);
-    }
-    Turn::Failed
-}
-
-// Replies to what is left at the input's end.
-fn end(state: State, out: &mut [u8; 65536]) {
-    let used = swing_stream::finish(state, out);
-    written(out, used);
-}
-
-pub fn run(begin: State) {
-    let mut out = io::large_buffer();
-    let mut state = begin;
-    // A proved loop has to end, and nothing says that the input does: so many turns no run uses up.
-    let mut turns = u64::MAX;
-    while turns > 0 {
-        match read_some(state, &mut out) {
-            Turn::On(after) => {
-                state = after;
-            }
-            Turn::End => {
-                end(state, &mut out);
-                return;
-            }
-            Turn::Failed => {
-                return;
-            }
-        }
-        turns -= 1;
-    }
 }

@@ -1,5 +1,5 @@
--- DEMAND 1 (document 01): whatever bits a call has, it is answered by a finite value, or by one of its entry's numbers and nothing else. What
--- a function answers is, by its contract, the definition's answer. Assumes nothing.
+-- DEMAND 1 (document 01): whatever bits a call has, it is answered by a finite value, or by one of its entry's numbers and
+-- nothing else. What a function answers is, by its contract, the definition's answer. Assumes nothing.
 use Prim.Native.Nat.{ℕ, zero, suc}
 use mathlib.Core.Path.{_≡_, refl}
 use mathlib.Core.Bool.{Bool, false, _&&_, _||_}
@@ -94,7 +94,8 @@ rd-agm : (y z : Float) → Steps (rdAgmOf y z)
 unfolding rdAgmOf
 rd-agm y z =
     let s = rdAgmStart y z in
-    capped-holds sumsOf rdTogether (rdAgmFound (root y) (root z) y z) rdAgmSpent Steps meanCap (λ t n h. value tt) (λ t n h. refused tt) meanCap
+    capped-holds sumsOf rdTogether (rdAgmFound (root y) (root z) y z) rdAgmSpent Steps meanCap (λ t n h. value tt)
+    (λ t n h. refused tt) meanCap
     (rdTogether s) s 0 (omega arith)
 
 rd-general : (x y z : Float) → Steps (rdGeneral x y z)
@@ -105,7 +106,8 @@ rd-general x y z =
 rd-ordered : (x y z : Float) → Steps (rdOrdered x y z)
 unfolding rdOrdered rdEqual rdZero
 rd-ordered x y z =
-    chosen Steps (eq y z) (chosen Steps (eq x y) (value tt) (chosen Steps (eq x +0) (value tt) (rd-general x y z))) (rd-general x y z)
+    chosen Steps (eq y z) (chosen Steps (eq x y) (value tt) (chosen Steps (eq x +0) (value tt) (rd-general x y z)))
+    (rd-general x y z)
 
 rd-steps : (x y z : Float) → Steps (rdSteps x y z)
 unfolding rdSteps
@@ -135,7 +137,8 @@ rg-agm : (x z : Float) → Steps (rgAgmOf x z)
 unfolding rgAgmOf
 rg-agm x z =
     let s = rgBegin (root x) (root z) in
-    capped-holds rgNext rgTogether rgAgmFound rgAgmSpent Steps meanCap (λ t n h. value tt) (λ t n h. refused tt) meanCap (rgTogether s) s 0 (omega arith)
+    capped-holds rgNext rgTogether rgAgmFound rgAgmSpent Steps meanCap (λ t n h. value tt) (λ t n h. refused tt) meanCap
+    (rgTogether s) s 0 (omega arith)
 
 rg-sorted : (x y z : Float) → Steps (rgSorted x y z)
 unfolding rgSorted rgTop rgLow rgEqual rgZero rgTwo rgAlone
@@ -160,7 +163,8 @@ pub rg-only : (x y z : Float) → Only Finite rgNumbers (rg x y z)
 unfolding rg rgSettled
 rg-only x y z =
     chosen (Only Finite rgNumbers) (below3 x y z) (refused tt)
-    (told-only rgNumbers (λ a. rgSettled a (anyNan3 x y z)) (λ f. late-only rgNumbers f (anyNan3 x y z) false rg-no-result tt tt) (λ n. refl) tt
+    (told-only rgNumbers (λ a. rgSettled a (anyNan3 x y z))
+    (λ f. late-only rgNumbers f (anyNan3 x y z) false rg-no-result tt tt) (λ n. refl) tt
     (rgUnchecked x y z) (rg-unchecked x y z))
 
 -- ---- RJ: 9 from RD, 10 with no call left
@@ -171,7 +175,8 @@ rj-positive : (x y z p : Float) → Steps (rjPositive x y z p)
 unfolding rjPositive rjAll rjThree
 rj-positive x y z p =
     chosen Steps (eq x y)
-    (chosen Steps (eq x z) (chosen Steps (eq x p) (value tt) (chosen Steps (wellApart p x) (value tt) (cases x y z))) (cases z y x)) (cases x y z)
+    (chosen Steps (eq x z) (chosen Steps (eq x p) (value tt) (chosen Steps (wellApart p x) (value tt) (cases x y z)))
+    (cases z y x)) (cases x y z)
   where
     last : (x y z : Float) → Steps (rjLast x y z p)
     last x y z = unfold rjLast in chosen Steps (eq z p) (rd-unchecked x y z) (value tt)
@@ -218,7 +223,8 @@ run : (left : ℕ) (p : Plan) → Planned p → Run (rjRun left p)
 unfolding rjRun
 run zero p h = refused tt
 run (suc left) (Done a) h = longer spentOnly (agm-spent ∷ too-deep ∷ []) tt h
-run (suc left) (Rescale c) h = over-scale _ (c .scale) (run left (planOf (c .x) (c .y) (c .z) (c .p)) (planned (c .x) (c .y) (c .z) (c .p)))
+run (suc left) (Rescale c) h = over-scale _ (c .scale) (run left (planOf (c .x) (c .y) (c .z) (c .p))
+    (planned (c .x) (c .y) (c .z) (c .p)))
 run (suc left) (Reduce r) h = reduced r _ (run left (planOf (r .x) (r .y) (r .z) (r .p)) (planned (r .x) (r .y) (r .z) (r .p)))
 
 pub rj-only : (x y z p : Float) → Only Finite rjNumbers (rj x y z p)

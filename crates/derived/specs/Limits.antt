@@ -24,6 +24,7 @@ pub limit-is : root (root (root greatest)) ≡ limit
 unfolding root rounded value ofBits
 limit-is = refl
 
+-- (1 over the limit)
 pub reciprocal-is : bits 0x3FF0_0000_0000_0000 ⊘ limit ≡ reciprocal
 unfolding div ofBits
 reciprocal-is = refl

@@ -1,6 +1,6 @@
--- The three start factors: 3ε, ε/4 and ε/5 to the power -1/8, where ε is 2 ^ -52 and ε/5 is rounded first (document 01, "What the leaves mean").
--- They are constants, named here for the definitions of RF, RD and RJ; shown is that each is the f64 nearest to the exact number, by eighth
--- powers. Assumes nothing.
+-- The three start factors: 3ε, ε/4 and ε/5 to the power -1/8, where ε is 2 ^ -52 and ε/5 is rounded first (document 01, "What
+-- the leaves mean"). They are constants, named here for the definitions of RF, RD and RJ; shown is that each is the f64 nearest
+-- to the exact number, by eighth powers. Assumes nothing.
 use Prim.Native.Nat.{ℕ, _*_, _^_, _≤_, _<_, compare}
 use mathlib.Core.Path.{_≡_, refl, sym, ap, _∙_, subst}
 use mathlib.Core.Bool.{false}

@@ -1,4 +1,5 @@
--- Digits are read back as the number that was written, and what is read as a number is how that number is written. Assumes nothing.
+-- Digits are read back as the number that was written, and what is read as a number is how that number is written. Assumes
+-- nothing.
 use Prim.Native.Nat.{ℕ, zero, suc, _+_, _-_, _*_, _/_, _%_, _^_, _≤_, _<_}
 use mathlib.Core.Path.{_≡_, refl, ap, _∙_}
 use mathlib.Core.Bool.{Bool, true, false, cond}
@@ -84,7 +85,8 @@ module _ (base : ℕ) (low : 1 < base) (high : base ≤ 16) where
   read-last : (v : ℕ) (xs : List ℕ) (b : ℕ) → numberFrom base v (xs ++ b ∷ []) ≡ after (numberFrom base v xs) b
   unfolding numberFrom after
   read-last v [] b = refl
-  read-last v (x ∷ xs) b = go (ltb (digitOf x) base) (numberFrom base (v * base + digitOf x) xs) (read-last (v * base + digitOf x) xs b)
+  read-last v (x ∷ xs) b = go (ltb (digitOf x) base) (numberFrom base (v * base + digitOf x) xs)
+      (read-last (v * base + digitOf x) xs b)
     where
       go : (t : Bool) (r : Word) {l : Word} → l ≡ after r b → cond t l Not ≡ after (cond t r Not) b
       go true r e = e
@@ -120,20 +122,29 @@ module _ (base : ℕ) (low : 1 < base) (high : base ≤ 16) where
   first-digit (suc k) n = rw (first-digit k (n / base), div-div-eq-div-mul, ← pow-succ')
 
   -- what is read as a number is written so
-  pub written-read : (xs : List ℕ) (v n : ℕ) → numberFrom base v xs ≡ Is n → (n / base ^ length xs ≡ v) × (digits base (length xs) n ≡ xs)
+  pub written-read : (xs : List ℕ) (v n : ℕ) → numberFrom base v xs ≡ Is n
+      → (n / base ^ length xs ≡ v) × (digits base (length xs) n ≡ xs)
   unfolding numberFrom digits
   written-read [] v n e = (rw (pow-zero, div-one) (cc), refl)
   written-read (x ∷ xs) v n e = go (ltb (digitOf x) base) refl (written-read xs (v * base + digitOf x) n) e
     where
       go :
           (t : Bool) → ltb (digitOf x) base ≡ t
-          → (numberFrom base (v * base + digitOf x) xs ≡ Is n → (n / base ^ length xs ≡ v * base + digitOf x) × (digits base (length xs) n ≡ xs))
+          → (numberFrom base (v * base + digitOf x) xs ≡ Is n
+          → (n / base ^ length xs ≡ v * base + digitOf x) × (digits base (length xs) n ≡ xs))
           → cond t (numberFrom base (v * base + digitOf x) xs) Not ≡ Is n
           → (n / base ^ suc (length xs) ≡ v) × (digits base (suc (length xs)) n ≡ x ∷ xs)
       go true t rest e =
           let h : digitOf x < base = ltb-true (digitOf x) base t in
           let r = rest e in (
-            rw (pow-suc, ← div-div-eq-div-mul, r .0, mul-add-div-right {m = base} (omega arith) v (digitOf x), div-eq-of-lt h, add-zero),
+            rw (
+              pow-suc,
+              ← div-div-eq-div-mul,
+              r .0,
+              mul-add-div-right {m = base} (omega arith) v (digitOf x),
+              div-eq-of-lt h,
+              add-zero,
+            ),
             first-digit (length xs) n
                 ∙ rw (r .0, r .1, mul-add-mod-self-right v base (digitOf x), mod-eq-of-lt h, glyph-of-digit x (omega arith)),
           )

@@ -1,4 +1,5 @@
-// RC, the degenerate symmetric elliptic integral of the first kind (elliprc.rs; DLMF 19.16.6). It is elementary: closed forms only.
+// RC, the degenerate symmetric elliptic integral of the first kind (elliprc.rs; DLMF 19.16.6). It is elementary: closed forms
+// only.
 mod cases;
 
 use crate::cases::steps;

@@ -15,6 +15,7 @@ use Rattle.carlson.specs.declared.answer.Found.{Found}
 use Rattle.carlson.specs.declared.common.Lambda.{Lambda}
 use Rattle.elliprd.specs.declared.duplicate.Round.{Round}
 
+-- by its bits: 5
 unfoldable pub rdMean : Float → Float → Float → Float
 rdMean x y z = (x ⊕ y ⊕ three ⊗ z) ⊘ bits 0x4014_0000_0000_0000
 
@@ -47,13 +48,15 @@ unfoldable pub rdCorrection : Float → Float → Float → Float → Float
 rdCorrection fnval a0 x an = fnval ⊗ (a0 ⊖ x) ⊘ an
 
 -- the series, of the corrections x and y (DLMF 19.36.2)
+-- by their bits: 6, 8
 unfoldable pub rdFactor : Float → Float → Float
 rdFactor x y =
     let z = neg (x ⊕ y) ⊘ three in
     let xyz = x ⊗ y ⊗ z in
     let z2 = z ⊗ z in
     let z3 = z2 ⊗ z in
-    thirdKind (x ⊗ y ⊖ bits 0x4018_0000_0000_0000 ⊗ z2) (three ⊗ xyz ⊖ bits 0x4020_0000_0000_0000 ⊗ z3) (three ⊗ (xyz ⊖ z3) ⊗ z) (xyz ⊗ z2)
+    thirdKind (x ⊗ y ⊖ bits 0x4018_0000_0000_0000 ⊗ z2) (three ⊗ xyz ⊖ bits 0x4020_0000_0000_0000 ⊗ z3) (three ⊗ (xyz ⊖ z3) ⊗ z)
+    (xyz ⊗ z2)
 
 unfoldable pub rdSeries : Float → Float → Float → Float → Float → Float → Float
 rdSeries x y a0 an fnval sum =

@@ -24,6 +24,7 @@ unfoldable pub rdMeanValue : Float → Float → Float → Float → Sums → Fl
 rdMeanValue x0 y0 y z s =
     ((x0 ⊕ three ⊗ y0) ⊘ (four ⊗ z ⊗ (x0 ⊕ y0)) ⊖ s .sum ⊘ (z ⊗ (y ⊖ z))) ⊗ (pi ⊘ (s .xn ⊕ s .yn)) ⊗ three
 
+-- by its bits: 0.25
 unfoldable pub rdAgmStart : Float → Float → Sums
 rdAgmStart y z = record { xn = root y; yn = root z; sum = zero; sumpow = bits 0x3FD0_0000_0000_0000 }
 
@@ -39,4 +40,5 @@ rdAgmSpent s n = Refused agm-spent
 -- document 01, Rounds: with the added cap spent it is refused with 9, if the test still says go on
 unfoldable pub rdAgmOf : Float → Float → Answer
 rdAgmOf y z =
-    capped sumsOf rdTogether (rdAgmFound (root y) (root z) y z) rdAgmSpent meanCap (rdTogether (rdAgmStart y z)) (rdAgmStart y z) 0
+    capped sumsOf rdTogether (rdAgmFound (root y) (root z) y z) rdAgmSpent meanCap (rdTogether (rdAgmStart y z))
+    (rdAgmStart y z) 0

@@ -25,7 +25,8 @@ rdZero y = Value (closedAt (three ⊗ pi ⊘ (four ⊗ y ⊗ root y)))
 -- the mean where x = 0 and y <= 16z, else duplication
 unfoldable pub rdGeneral : Float → Float → Float → Answer
 rdGeneral x y z =
-    cond (eq x zero) (cond (le y (bits 0x4030_0000_0000_0000 ⊗ z)) (rdAgmOf y z) (Value (rdDuplication x y z))) (Value (rdDuplication x y z))
+    cond (eq x zero) (cond (le y (bits 0x4030_0000_0000_0000 ⊗ z)) (rdAgmOf y z) (Value (rdDuplication x y z)))
+    (Value (rdDuplication x y z))
 
 unfoldable pub rdOrdered : Float → Float → Float → Answer
 rdOrdered x y z = cond (eq y z) (cond (eq x y) (rdEqual x) (cond (eq x zero) (rdZero y) (rdGeneral x y z))) (rdGeneral x y z)

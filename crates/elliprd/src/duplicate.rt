@@ -9,7 +9,18 @@ use carlson::common::third_kind;
 use power::pow_neg_3_2;
 use root::sqrt;
 ghost use mathlib.Core.Path.{_≡_};
-ghost use Rattle.elliprd.specs.Duplicate.{rdMean, rdStart, rdBegin, rdMoved, rdStep, rdClose, rdCorrection, rdFactor, rdSeries, rdDuplication};
+ghost use Rattle.elliprd.specs.Duplicate.{
+  rdMean,
+  rdStart,
+  rdBegin,
+  rdMoved,
+  rdStep,
+  rdClose,
+  rdCorrection,
+  rdFactor,
+  rdSeries,
+  rdDuplication,
+};
 
 // The Rust's cap on its passes.
 const CAP: u32 = 50;

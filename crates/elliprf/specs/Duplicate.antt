@@ -47,6 +47,7 @@ unfoldable pub rfCorrection : Float → Float → Float → Float → Float
 rfCorrection a0 x an fnval = (a0 ⊖ x) ⊘ (an ⊗ fnval)
 
 -- the series, of the corrections x and y (DLMF 19.36.1)
+-- by their bits: 14, 104, 0.1, 24, 44, 5, 208, 16
 unfoldable pub rfFactor : Float → Float → Float
 rfFactor x y =
     let z = neg x ⊖ y in

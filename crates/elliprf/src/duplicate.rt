@@ -8,7 +8,18 @@ use carlson::common::Lambda;
 use carlson::common::lambda_with;
 use root::sqrt;
 ghost use mathlib.Core.Path.{_≡_};
-ghost use Rattle.elliprf.specs.Duplicate.{meanOf, rfStart, rfBegin, rfMoved, rfStep, rfClose, rfCorrection, rfFactor, rfSeries, rfDuplication};
+ghost use Rattle.elliprf.specs.Duplicate.{
+  meanOf,
+  rfStart,
+  rfBegin,
+  rfMoved,
+  rfStep,
+  rfClose,
+  rfCorrection,
+  rfFactor,
+  rfSeries,
+  rfDuplication,
+};
 
 // The Rust's cap on its passes.
 const CAP: u32 = 11;

@@ -19,7 +19,20 @@ use sorting::Triple;
 use sorting::largest_first;
 ghost use mathlib.Core.Path.{_≡_};
 ghost use mathlib.Core.Bool.{false};
-ghost use Rattle.elliprg.specs.Rg.{rgEqual, rgZero, rgTwo, rgAlone, rgTop, rgLow, rgSorted, rgSteps, timesRoot, rgUnchecked, rgSettled, rg};
+ghost use Rattle.elliprg.specs.Rg.{
+  rgEqual,
+  rgZero,
+  rgTwo,
+  rgAlone,
+  rgTop,
+  rgLow,
+  rgSorted,
+  rgSteps,
+  timesRoot,
+  rgUnchecked,
+  rgSettled,
+  rg,
+};
 
 // RG(x, x, x)
 fn all_equal(x: f64) -> Answer

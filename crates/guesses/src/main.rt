@@ -1,6 +1,6 @@
-// How good the guesses of the root and of the power -3/2 are: over numbers by chance, how often each way to the answer was taken, told by
-// the very functions that `sqrt` and `pow_neg_3_2` are. The answers are proved whatever a guess gives, so that a spoilt one would only cost
-// time; the file `stdout` has the counts, and a guess that became worse, or better, shows here.
+// How good the guesses of the root and of the power -3/2 are: over numbers by chance, how often each way to the answer was taken,
+// told by the very functions that `sqrt` and `pow_neg_3_2` are. The answers are proved whatever a guess gives, so that a spoilt
+// one would only cost time; the file `stdout` has the counts, and a guess that became worse, or better, shows here.
 mod chance;
 
 use crate::chance::Range;

@@ -27,7 +27,8 @@ plain j = mul-one (1 * 2 ^ j) ∙ one-mul (2 ^ j)
 mul-two : (n : ℕ) → n * 2 ≡ n + n
 mul-two n = omega arith
 
-module _ (f : Format) (s : Bool) (A t lo hi i j : ℕ) (least : 2 ^ i ≤ A) (most : A ≤ 2 ^ j) (down : lo + t ≤ i + low f) (up : j + low f ≤ hi + t)
+module _ (f : Format) (s : Bool) (A t lo hi i j : ℕ) (least : 2 ^ i ≤ A) (most : A ≤ 2 ^ j) (down : lo + t ≤ i + low f)
+    (up : j + low f ≤ hi + t)
     (fits : 2 ^ hi < overflow f) where
   abbrev n : ℕ
   n = near f (A * 2 ^ low f) (2 ^ t)
@@ -58,7 +59,8 @@ module _ (f : Format) (s : Bool) (A t lo hi i j : ℕ) (least : 2 ^ i ≤ A) (mo
   }
 
 -- the difference of one above zero and one below, of one size: at most one power of two more
-module _ (f : Format) (lo hi : ℕ) {x y : Float} (v : Powers f false lo hi x) (w : Powers f true lo hi y) (fits : 2 ^ (hi + 1) < overflow f) where
+module _ (f : Format) (lo hi : ℕ) {x y : Float} (v : Powers f false lo hi x) (w : Powers f true lo hi y)
+    (fits : 2 ^ (hi + 1) < overflow f) where
   abbrev sum : ℕ
   sum = near f (v .n + w .n) 1
 
@@ -80,4 +82,10 @@ module _ (f : Format) (lo hi : ℕ) {x y : Float} (v : Powers f false lo hi x) (
 
   pub sum-between : Powers f false lo (hi + 1) (sub f x y)
   unfolding sub
-  sum-between = record { n = sum; is = add-units (v .is) (neg-units (w .is)) (lt-of-le-of-lt sum-under fits); from = sum-above; to = sum-under }
+  sum-between = record {
+    n = sum;
+    is = add-units (v .is) (neg-units (w .is)) (lt-of-le-of-lt sum-under fits);
+    from =
+        sum-above;
+    to = sum-under;
+  }

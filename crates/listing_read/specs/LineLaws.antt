@@ -1,4 +1,5 @@
--- Exactly the well-formed lines are read: a call that is written is read back, and what is read is that call's line. Assumes nothing.
+-- Exactly the well-formed lines are read: a call that is written is read back, and what is read is that call's line. Assumes
+-- nothing.
 use Prim.Native.Nat.{ℕ, zero, suc, _+_, _*_, _^_, _≤_, _<_}
 use mathlib.Core.Path.{_≡_, refl, sym, ap, _∙_}
 use mathlib.Core.Bool.{Bool, true, false, _&&_, cond}
@@ -181,4 +182,8 @@ write-back l c e = go (eqb (length l) 36) (eqb (length l) 53) (eqb (length l) 70
 -- a line that is longer than every good one
 pub too-long : (l : List ℕ) → longestLine < length l → callOf l ≡ Bad
 unfolding callOf
-too-long l h = rw (ne-eqb (length l) 36 (λ e. omega arith), ne-eqb (length l) 53 (λ e. omega arith), ne-eqb (length l) 70 (λ e. omega arith))
+too-long l h = rw (
+  ne-eqb (length l) 36 (λ e. omega arith),
+  ne-eqb (length l) 53 (λ e. omega arith),
+  ne-eqb (length l) 70 (λ e. omega arith),
+)

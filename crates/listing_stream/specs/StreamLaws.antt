@@ -42,14 +42,18 @@ unfolding replyOf
 held-reply l = ⊎-elim long (λ h. rw (take-all heldLength l h)) (lt-or-le heldLength (length l))
   where
     long : heldLength < length l → replyTo (callOf (take heldLength l)) ≡ replyTo (callOf l)
-    long h = rw (too-long (take heldLength l) (omega (arith, length-take-le heldLength l (omega arith))), too-long l (omega arith))
+    long h = rw (
+      too-long (take heldLength l) (omega (arith, length-take-le heldLength l (omega arith))),
+      too-long l (omega arith),
+    )
 
 held-more : (l : List ℕ) (b : ℕ) → take heldLength (take heldLength l ++ b ∷ []) ≡ take heldLength (l ++ b ∷ [])
 held-more l b = ⊎-elim long (λ h. rw (take-all heldLength l h)) (lt-or-le heldLength (length l))
   where
     long : heldLength < length l → take heldLength (take heldLength l ++ b ∷ []) ≡ take heldLength (l ++ b ∷ [])
     long h =
-        take-append-le heldLength (take heldLength l) (b ∷ []) (omega (arith, length-take-le heldLength l (omega arith))) ∙ take-take heldLength heldLength l (omega arith)
+        take-append-le heldLength (take heldLength l) (b ∷ []) (omega (arith, length-take-le heldLength l (omega arith)))
+        ∙ take-take heldLength heldLength l (omega arith)
         ∙ sym (take-append-le heldLength l (b ∷ []) (omega arith))
 
 -- ---- the whole input
@@ -58,13 +62,15 @@ unfolding saidLast lastLine repliesTo
 said-last [] = refl
 said-last (b ∷ l) = ap (λ (r : List ℕ). r ++ []) (held-reply (b ∷ l))
 
-from-held : (bs begun : List ℕ) → saidOf (take heldLength begun) bs ++ saidLast (restOf (take heldLength begun) bs) ≡ repliesTo (linesFrom begun bs)
+from-held : (bs begun : List ℕ) → saidOf (take heldLength begun) bs ++ saidLast (restOf (take heldLength begun) bs)
+    ≡ repliesTo (linesFrom begun bs)
 unfolding saidOf restOf linesFrom repliesTo saidAt heldAfter
 from-held [] begun = said-last begun
 from-held (b ∷ bs) begun = go (eqb b 10) (from-held bs)
   where
     go :
-        (t : Bool) → ((l : List ℕ) → saidOf (take heldLength l) bs ++ saidLast (restOf (take heldLength l) bs) ≡ repliesTo (linesFrom l bs))
+        (t : Bool) → ((l : List ℕ) → saidOf (take heldLength l) bs ++ saidLast (restOf (take heldLength l) bs)
+        ≡ repliesTo (linesFrom l bs))
         → cond t (replyOf (take heldLength begun)) [] ++ saidOf (cond t [] (take heldLength (take heldLength begun ++ b ∷ []))) bs
         ++ saidLast (restOf (cond t [] (take heldLength (take heldLength begun ++ b ∷ []))) bs)
         ≡ repliesTo (cond t (begun ∷ linesFrom [] bs) (linesFrom (begun ++ b ∷ []) bs))

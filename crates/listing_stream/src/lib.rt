@@ -4,7 +4,6 @@ mod stream;
 
 pub use crate::stream::BLOCK;
 pub use crate::stream::HELD;
-pub use crate::stream::OUT;
 pub use crate::stream::Progress;
 pub use crate::stream::begin;
 pub use crate::stream::feed;

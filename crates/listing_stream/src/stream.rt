@@ -1,6 +1,7 @@
 // The listing as its input comes: what is held of a line that has not ended, and the replies to those that have.
 use crate::replies::put_reply;
 use listing_read::LONGEST;
+use writing::OUT;
 use writing::least;
 use writing::push;
 use writing::put_text;
@@ -16,10 +17,8 @@ ghost use Rattle.listing_stream.specs.Stream.{headerText, saidLast, held
 // So many bytes are held of a line: one more than the longest good line has, so that a longer one is told by its length.
 pub const HELD: usize = LONGEST + 1;
 
-// So many bytes are read at once, and the replies to them fit into so many.
+// So many bytes are read at once: the replies to them fit, if each ends a line.
 pub const BLOCK: usize = 2048;
-
-pub const OUT: usize = 65536;
 
 // How many bytes are held now, and how many were written.
 pub struct Progress {
@@ -83,8 +82,8 @@ fn feed_all(
     }
 }
 
-// Feeds the block's first bytes, all `size` of them: the replies to the lines that end there are put at the start of `out`, and `held`
-// keeps what has not ended. A size beyond the block counts as all of it, and n above HELD as HELD.
+// Feeds the block's first bytes, all `size` of them: the replies to the lines that end there are put at the start of `out`, and
+// `held` keeps what has not ended. A size beyond the block counts as all of it, and n above HELD as HELD.
 pub fn feed(
     block: &[u8; BLOCK],
     size: usize,

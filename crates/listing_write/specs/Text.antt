@@ -1,5 +1,5 @@
--- The text of an answer (document 01, the listing): the call's name, then the value's sixteen digits and the round count in decimal,
--- or the number of the refusal. Definitions only.
+-- The text of an answer (document 01, the listing): the call's name, then the value's sixteen digits and the round count in
+-- decimal, or the number of the refusal. Definitions only.
 use Prim.Native.Nat.{ℕ, _+_}
 use mathlib.Core.List.{List, [], _∷_, _++_}
 use lib.Ieee.{binary64, toBits}

@@ -1,3 +1,2 @@
--- `Words`: Horner's rule in words is Horner's rule. `Arms`: what the last arm of a match tells.
+-- `Words`: Horner's rule in words is Horner's rule.
 mod Words
-mod Arms

@@ -12,7 +12,8 @@ use Rattle.algebra.specs.Order.{lt-or-le}
 use Rattle.enclosure.specs.Pieces.{Series, pieces, row, piece, offset, horner, value}
 use Rattle.enclosure.specs.Floors.{all-fit, horner-fits}
 use Rattle.enclosure.specs.Rows.{row-fits, offset-fits}
-use Rattle.pieces.specs.Row.{row-or-none, value-or-zero, wrapped}
+use Rattle.pieces_rows.specs.Row.{row-or-none}
+use Rattle.pieces.specs.Row.{value-or-zero, wrapped}
 
 wrapped-is : (d : ℕ) (rs : List ℕ) → d ≤ 2 ^ 60 → T (all-fit rs) → wrapped d rs ≡ horner d rs
 wrapped-is d [] h t = refl
@@ -31,6 +32,7 @@ unfolding value
 value-is s x rs e =
     let order : x % 2 ^ 58 * 4 ≡ offset x = omega arith in
     rw (order, e) (elim (lt-or-le (piece x) (pieces s)) [
-      | inl l ↦ rw (lt-ltb (piece x) (pieces s) l) (wrapped-is (offset x) (row s (piece x)) (offset-fits x) (row-fits s (piece x) l))
+      | inl l ↦ rw (lt-ltb (piece x) (pieces s) l) (wrapped-is (offset x) (row s (piece x)) (offset-fits x)
+          (row-fits s (piece x) l))
       | inr l ↦ rw (le-ltb (piece x) (pieces s) l) (nothing (offset x))
     ])

@@ -1,11 +1,9 @@
 // The two series' sums by short polynomials, one for each sixty-fourth of the range: enclosure's `value`, in code.
-mod euler_rows;
-mod odd_rows;
 mod row;
 
-use crate::euler_rows::euler_row;
-use crate::odd_rows::odd_row;
 use crate::row::horner;
+use pieces_rows::euler_row;
+use pieces_rows::odd_row;
 ghost use mathlib.Core.Path.{_≡_};
 ghost use Rattle.enclosure.specs.Pieces.{euler, odd};
 ghost use Rattle.pieces.specs.Row.{value-or-zero};

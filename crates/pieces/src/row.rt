@@ -1,24 +1,10 @@
-// A row of twelve coefficients, and Horner's rule over it.
+// Horner's rule over a row of twelve coefficients.
+use pieces_rows::Row;
 use words::high;
 ghost use mathlib.Core.Path.{_≡_};
 ghost use Prim.Native.Nat.{_+_, _*_, _/_, _%_, _^_};
-ghost use Rattle.pieces.specs.Row.{listed, wrapped};
-
-// In units of 2 ^ -63, the constant first.
-pub struct Row(
-    pub u64,
-    pub u64,
-    pub u64,
-    pub u64,
-    pub u64,
-    pub u64,
-    pub u64,
-    pub u64,
-    pub u64,
-    pub u64,
-    pub u64,
-    pub u64,
-);
+ghost use Rattle.pieces_rows.specs.Row.{listed};
+ghost use Rattle.pieces.specs.Row.{wrapped};
 
 // One multiplication and one addition. That the sum is below 2 ^ 64 is a fact of the rows, and is proved of the whole chain.
 fn step(c: u64, d: u64, h: u64) -> u64

@@ -44,11 +44,13 @@ reached-at v (suc b) z h = let e : suc b - 1 ≡ b = omega arith in rw (lt-ltb b
 pub holds : {t : Bool} → t ≡ true → T t
 holds e = subst T (sym e) tt
 
-pub answer : (v : Cut) (r : ℕ) (s t : Bool) → r ≤ infinity → s ≡ reached v r → s ≡ true → t ≡ reached v (r + 1) → not t ≡ true → Answer v r
+pub answer : (v : Cut) (r : ℕ) (s t : Bool) → r ≤ infinity → s ≡ reached v r → s ≡ true → t ≡ reached v (r + 1) → not t ≡ true
+    → Answer v r
 answer v r s t h e p f q = record { held = h; here = holds (sym e ∙ p); last = holds (ap not (sym f) ∙ q) }
 
 -- (where bounds tell of both middles)
-pub clear : (v : Cut) (r : ℕ) (s t : Side) → (r ≡ 0 → ⊥) → r < infinity → Told s (v (middle (r - 1) (suc (r - 1))) (2 ^ 1075)) → s ≡ Below
+pub clear : (v : Cut) (r : ℕ) (s t : Side) → (r ≡ 0 → ⊥) → r < infinity → Told s (v (middle (r - 1) (suc (r - 1))) (2 ^ 1075))
+    → s ≡ Below
     → Told t (v (middle r (suc r)) (2 ^ 1075)) → t ≡ Above → Answer v r
 clear v r s t z h p e q f =
     let l = subst (λ (k : Side). Told k (v (middle (r - 1) (suc (r - 1))) (2 ^ 1075))) e p in
@@ -100,7 +102,8 @@ pub power-pattern : {b n y : ℕ} (r : ℕ) → (0 < b) × (b < infinity) → Sc
     → power (ofBits binary64 b) ≡ ofBits binary64 r
 power-pattern {b} {n} {y} r h s a =
     power-is (ofBits binary64 b) (ofBits binary64 r) (value b) (value-is b (h .1)) (omega (arith, value-lt 0 b (h .0)))
-    (λ p q Q e. ap rounded (same-power p q (n * four y) (four 1048) Q (four-pos 1048) (crossed p q (value b) n y e (s .same))) ∙ at)
+    (λ p q Q e. ap rounded (same-power p q (n * four y) (four 1048) Q (four-pos 1048) (crossed p q (value b) n y e (s .same)))
+    ∙ at)
   where
     num : Number (cutAt n y)
     num = power-number (n * four y) (four 1048) (mul-pos (omega (arith, s .low)) (four-pos y))

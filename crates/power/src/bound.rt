@@ -1,5 +1,5 @@
-// A bound of one word on the product d² n³. It decides all but one case of 200, by four multiplications for a middle, of which the next
-// middle shares two.
+// A bound of one word on the product d² n³. It decides all but one case of 200, by four multiplications for a middle, of which
+// the next middle shares two.
 //
 // With m = n * 2 ^ z and g = d * 2 ^ 10, both of 64 digits where d has 54,
 //     x = ((g * g / 2 ^ 64) * ((m * m / 2 ^ 64) * m / 2 ^ 64)) / 2 ^ 64
@@ -41,7 +41,8 @@ fn bound(m: u64, g: u64, to: u64, t: u64) -> Side
     Side::Near
 }
 
-// With the digits of n moved up to the highest place, by 10 or 11. (A shift, since a branch would go either way half of the time.)
+// With the digits of n moved up to the highest place, by 10 or 11. (A shift, since a branch would go either way half of the
+// time.)
 pub fn quick(n: u64, d: u64, t: u64) -> Side
     requires { ⌜ (n < 2 ^ 54) × (d < 2 ^ 54) × (t < 2 ^ 14) ⌝ }
     ensures { λ r. ⌜ Told r (against n d t) ⌝ }

@@ -1,11 +1,11 @@
-// A guess at the pattern of the answer, by plain f64 arithmetic. Nothing is proved of it but that it is safe. In tests it was right at all
-// but one number of 1000, and there its neighbour was.
+// A guess at the pattern of the answer, by plain f64 arithmetic. Nothing is proved of it but that it is safe. In tests it was
+// right at all but one number of 1000, and there its neighbour was.
 //
-// The number is a * 4 ^ (y - 1022) with 1 ≤ a < 4, a = n / 2 ^ 52, and its power is a ^ (-3/2) * 8 ^ (1022 - y). The pattern of a, halved
-// and subtracted from a constant, is near that of 1 / √a. One step of Newton's method gives s to 9 binary digits. It is rounded to a
-// multiple of 2 ^ -17, so that s * s and s * s * s are exact. With w = 1 - a * s * s, formed by two parts of a so that little is lost,
-//     a ^ (-3/2) = s³ * (1 - w) ^ (-3/2) = s³ + s³ * w * (3/2 + 15/8 * w + 35/16 * w² + ..)
-// The sum with s³ comes last, so that the only rounding that counts is its own.
+// The number is a * 4 ^ (y - 1022) with 1 ≤ a < 4, a = n / 2 ^ 52, and its power is a ^ (-3/2) * 8 ^ (1022 - y). The pattern of
+// a, halved and subtracted from a constant, is near that of 1 / √a. One step of Newton's method gives s to 9 binary digits. It
+// is rounded to a multiple of 2 ^ -17, so that s * s and s * s * s are exact. With w = 1 - a * s * s, formed by two parts of a
+// so that little is lost, a ^ (-3/2) = s³ * (1 - w) ^ (-3/2) = s³ + s³ * w * (3/2 + 15/8 * w + 35/16 * w² + ..) The sum with s³
+// comes last, so that the only rounding that counts is its own.
 ghost use Prim.Native.Nat.{_*_, _^_, _≤_, _<_};
 ghost use Rattle.power.specs.Parts.{Held};
 
@@ -48,7 +48,8 @@ fn estimate(b: u64) -> f64
     s3 + s3 * w * (even + ww * ww * odd)
 }
 
-// The pattern of v * 8 ^ (1022 - y), where b is that of v: the exponents are added, and past both ends of the range the digits fall away.
+// The pattern of v * 8 ^ (1022 - y), where b is that of v: the exponents are added, and past both ends of the range the digits
+// fall away.
 fn moved(b: u64, y: u64) -> u64
     requires { ⌜ y ≤ 1534 ⌝ }
 {

@@ -1,5 +1,6 @@
-// The middle between a pattern and the next, against the power. Normal and subnormal numbers, powers of two and the infinity go by one rule:
-// the pattern r has the value c * 2 ^ e units, the next has (c + 1) * 2 ^ e, and their middle is 2 * c + 1 times 2 ^ e half units.
+// The middle between a pattern and the next, against the power. Normal and subnormal numbers, powers of two and the infinity go
+// by one rule: the pattern r has the value c * 2 ^ e units, the next has (c + 1) * 2 ^ e, and their middle is 2 * c + 1 times 2
+// ^ e half units.
 use crate::bound::Side;
 use crate::bound::quick;
 use crate::exact::exact;
@@ -35,8 +36,8 @@ pub fn side(n: u64, y: u64, r: u64) -> Side
     quick(n, 2 * (r - e * ONE) + 1, 3 * y + e)
 }
 
-// Whether the power is past that middle. At the middle itself the even one of the two would be taken; it is never met, since d² n³ 4 ^ t is
-// no power of four: d is odd, and where it is 1, n³ would be 2 to a power that 3 does not divide.
+// Whether the power is past that middle. At the middle itself the even one of the two would be taken; it is never met, since d²
+// n³ 4 ^ t is no power of four: d is odd, and where it is 1, n³ would be 2 to a power that 3 does not divide.
 fn past(n: u64, y: u64, r: u64) -> bool
     requires { ⌜ Held n y × (r < infinity) ⌝ }
     ensures { λ t. ⌜ t ≡ passed (cutAt n y) r ⌝ }

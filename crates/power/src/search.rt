@@ -11,7 +11,8 @@ ghost use Rattle.power.specs.Parts.{cutAt, Held, Answer};
 
 const INFINITY: u64 = 0x7ff0_0000_0000_0000; // the pattern of the infinity
 
-// Whether r is the answer as far as bounds of one word tell, for a number that is not at an end of the range. This is all that most calls do.
+// Whether r is the answer as far as bounds of one word tell, for a number that is not at an end of the range. This is all that
+// most calls do.
 pub fn is_clear(n: u64, y: u64, r: u64) -> bool
     requires { ⌜ Held n y ⌝ }
     ensures { λ t. ⌜ (t ≡ true → Answer (cutAt n y) r) ⌝ }

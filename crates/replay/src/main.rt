@@ -1,13 +1,15 @@
-// Runs the oracle's fixed list through the proved entries and compares values, counts and numbers. The list is this program's standard
-// input: a header, then rows such as `RF 4010000000000000 4010000000000000 4010000000000000 = 3FE0000000000000 0` or `.. = refused 3`,
-// of which some end in ` s`, a mark of the oracle's that is passed over here.
+// Runs the oracle's fixed list through the proved entries and compares values, counts and numbers. The list is this program's
+// standard input: a header, then rows such as `RF 4010000000000000 4010000000000000 4010000000000000 = 3FE0000000000000 0` or
+// `.. = refused 3`, of which some end in ` s`, a mark of the oracle's that is passed over here.
 mod row;
 
 use crate::row::Verdict;
 use crate::row::judge;
-use libc::STDERR_FILENO;
-use libc::STDIN_FILENO;
 use libc::STDOUT_FILENO;
+use rows::BLOCK;
+use rows::ROW;
+use rows::begin;
+use rows::next;
 
 // How many rows that differ are shown.
 const SHOWN: u64 = 5;
@@ -18,10 +20,8 @@ struct Tally {
     differ: [u64; 6],
     // rows in another form
     odd: u64,
-    // how many bytes of the next row are held, whether that is the header, and whether there is more to read
-    held: usize,
+    // whether the next row is the header
     header: bool,
-    going: bool,
 }
 
 fn more(x: u64) -> u64 {
@@ -75,48 +75,25 @@ fn take_row(row: &[u8], tally: Tally) -> Tally {
     }
 }
 
-// A row that is longer than `held` is cut, and then in another form.
-fn take_byte(b: u8, held: &mut [u8], tally: Tally) -> Tally {
+// Every row, one after the other. One that is longer than `held` is cut, and then in another form.
+fn take_rows(tally: Tally) -> Tally {
+    let mut block = [0u8; BLOCK];
+    let mut held = [0u8; ROW];
     let mut t = tally;
-    let n = t.held;
-    if b == b'\n' {
-        t.held = 0;
-        if n <= held.len() {
-            return take_row(&held[..n], t);
+    let mut rows = begin();
+    // A proved loop has to end, and nothing says that the input does: so many turns no run uses up.
+    let mut turns = u64::MAX;
+    while turns > 0 {
+        rows = next(rows, &mut block, &mut held);
+        if rows.whole {
+            let n = rows.row;
+            t = take_row(&held[..n], t);
+        } else {
+            return t;
         }
-        return t;
-    }
-    t.held = writing::push(held, n, b);
-    t
-}
-
-fn take_block(block: &[u8], held: &mut [u8], tally: Tally) -> Tally {
-    let mut t = tally;
-    let mut i = 0;
-    while i < block.len() {
-        t = take_byte(block[i], held, t);
-        i += 1;
+        turns -= 1;
     }
     t
-}
-
-fn read_some(held: &mut [u8; 128], tally: Tally) -> Tally {
-    let mut t = tally;
-    let mut block = [0u8; 2048];
-    let got = libc::read(STDIN_FILENO, &mut block);
-    if got < 0 {
-        io::write_all(STDERR_FILENO, b"replay: cannot read\n");
-    }
-    if got <= 0 {
-        t.going = false;
-        // the last row may lack its end
-        if t.held > 0 {
-            return take_byte(b'\n', held, t);
-        }
-        return t;
-    }
-    let size = io::count(got, &block);
-    take_block(&block[..size], held, t)
 }
 
 fn report(name: &[u8], rows: u64, differ: u64) {
@@ -140,20 +117,10 @@ fn report_all(t: Tally) {
 }
 
 fn main() {
-    let mut held = [0u8; 128];
-    let mut t = Tally {
+    report_all(take_rows(Tally {
         rows: [0; 6],
         differ: [0; 6],
         odd: 0,
-        held: 0,
         header: true,
-        going: true,
-    };
-    // A proved loop has to end, and nothing says that the input does: so many turns no run uses up.
-    let mut turns = u64::MAX;
-    while turns > 0 && t.going {
-        t = read_some(&mut held, t);
-        turns -= 1;
-    }
-    report_all(t);
+    }));
 }

@@ -56,7 +56,15 @@ rdMoved p lambda rz zn = record {
 unfoldable pub rdEnded : RdPart → Float → Float → Float → RdPart
 rdEnded p x y a0 =
     cond (lt (p .q) (p .an))
-    (record { an = p .an; q = p .q; fnval = p .fnval; sum = p .sum; res = rdSeries x y a0 (p .an) (p .fnval) (p .sum); done = true })
+    (record {
+      an = p .an;
+      q = p .q;
+      fnval = p .fnval;
+      sum = p .sum;
+      res = rdSeries x y a0 (p .an) (p .fnval) (p .sum);
+      done =
+          true;
+    })
     p
 
 unfoldable pub rdNext : RdPart → Float → Float → Float → Float → Float → Float → RdPart

@@ -8,7 +8,24 @@ use carlson::common::Lambda;
 use carlson::common::lambda_with;
 use root::sqrt;
 ghost use mathlib.Core.Path.{_≡_};
-ghost use Rattle.rg_joint.specs.Joint.{rfBegun, rdBegun, jointBegun, rfMoved, rfEnded, rfNext, rdMoved, rdEnded, rdNext, jointMoved, jointNext, allDone, rfRdOf, rgValue, jointOf, rgJoint};
+ghost use Rattle.rg_joint.specs.Joint.{
+  rfBegun,
+  rdBegun,
+  jointBegun,
+  rfMoved,
+  rfEnded,
+  rfNext,
+  rdMoved,
+  rdEnded,
+  rdNext,
+  jointMoved,
+  jointNext,
+  allDone,
+  rfRdOf,
+  rgValue,
+  jointOf,
+  rgJoint,
+};
 
 // The Rust's cap on its passes.
 const CAP: u32 = 50;

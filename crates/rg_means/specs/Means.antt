@@ -14,6 +14,7 @@ use Rattle.carlson.specs.declared.answer.Answer.the-variants.{Value, Refused}
 use Rattle.rg_means.specs.declared.means.Sums.{Sums}
 
 -- the square of the mean, and what its rounding lost: the fused step is exact there
+-- by its bits: 0.25
 unfoldable pub rgBegin : Float → Float → Sums
 rgBegin xn yn =
     let mean = (xn ⊕ yn) ⊘ two in

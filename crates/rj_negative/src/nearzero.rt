@@ -5,7 +5,17 @@ use binary64::max;
 use fused::mul_add;
 use root::sqrt;
 ghost use mathlib.Core.Path.{_≡_};
-ghost use Rattle.rj_negative.specs.NearZero.{largestOf, distant, deltasOf, linearOf, errorOf, quadraticOf, cubicOf, taylorOf, nearZero};
+ghost use Rattle.rj_negative.specs.NearZero.{
+  largestOf,
+  distant,
+  deltasOf,
+  linearOf,
+  errorOf,
+  quadraticOf,
+  cubicOf,
+  taylorOf,
+  nearZero,
+};
 
 const ROOT_EPSILON: f64 = 1.4901161193847656e-8; // 2 ^ -26, the root of 2 ^ -52
 

@@ -18,6 +18,7 @@ use Rattle.rj_positive.specs.Helper.{rc1p}
 use Rattle.rj_positive.specs.declared.duplicate.Round.{Round}
 use Rattle.rj_positive.specs.declared.duplicate.Roots.{Roots}
 
+-- by its bits: 5
 unfoldable pub rjMean : Float → Float → Float → Float → Float
 rjMean x y z p = (x ⊕ y ⊕ z ⊕ two ⊗ p) ⊘ bits 0x4014_0000_0000_0000
 
@@ -47,6 +48,7 @@ unfoldable pub shareOf : Float → Float → Float → Float
 shareOf pn xn s = (pn ⊖ xn) ⊘ s ⊘ s
 
 -- where the denominator's square is at least the least normal number; else each factor is divided by itself
+-- by its bits: 2 ^ -1022
 unfoldable pub rjRatio : Round → Roots → Float → Float
 rjRatio s r dn =
     cond (le (bits 0x0010_0000_0000_0000) (dn ⊗ dn)) (s .delta ⊘ (dn ⊗ dn))
@@ -56,10 +58,13 @@ unfoldable pub rjMiddle : Float → Roots → Float → Float
 rjMiddle pn r dn = two ⊗ r .p ⊗ (pn ⊕ r .x ⊗ (r .y ⊕ r .z) ⊕ r .y ⊗ r .z) ⊘ dn
 
 -- between -3/2 and -1/2 RC itself, at an argument that keeps its digits
+-- by its bits: 1.5
 unfoldable pub rjTerm : Float → Roots → Float → Float → Float
 rjTerm pn r dn en =
-    cond (lt en (neg half)) (cond (lt (neg (bits 0x3FF8_0000_0000_0000)) en) (rcUnchecked one (rjMiddle pn r dn) .value) (rc1p en)) (rc1p en)
+    cond (lt en (neg half)) (cond (lt (neg (bits 0x3FF8_0000_0000_0000)) en) (rcUnchecked one (rjMiddle pn r dn) .value)
+    (rc1p en)) (rc1p en)
 
+-- by its bits: 64
 unfoldable pub rjMoved : Round → Lambda → Float → Round
 rjMoved s l added = record {
   an = (s .an ⊕ l .lambda) ⊘ four;
@@ -98,9 +103,11 @@ rjFactor x y z =
     let e4 = (two ⊗ xyz ⊕ e2 ⊗ p ⊕ three ⊗ p3) ⊗ p in
     thirdKind e2 e3 e4 (xyz ⊗ p2)
 
+-- by its bits: 6
 unfoldable pub rjSeries : Float → Float → Float → Float → Round → Float
 rjSeries x y z a0 s =
-    s .fmn ⊗ power (s .an) ⊗ rjFactor (rjCorrection (s .fmn) a0 x (s .an)) (rjCorrection (s .fmn) a0 y (s .an)) (rjCorrection (s .fmn) a0 z (s .an))
+    s .fmn ⊗ power (s .an) ⊗ rjFactor (rjCorrection (s .fmn) a0 x (s .an)) (rjCorrection (s .fmn) a0 y (s .an))
+    (rjCorrection (s .fmn) a0 z (s .an))
     ⊕ bits 0x4018_0000_0000_0000 ⊗ s .sum
 
 -- "RJ 100"

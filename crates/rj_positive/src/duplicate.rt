@@ -12,7 +12,24 @@ use elliprc::elliprc_unchecked;
 use power::pow_neg_3_2;
 use root::sqrt;
 ghost use mathlib.Core.Path.{_≡_};
-ghost use Rattle.rj_positive.specs.Duplicate.{rjMean, rjStart, rjBegin, rjDenominator, shareOf, rjRatio, rjMiddle, rjTerm, rjMoved, rjWith, rjStep, rjClose, rjCorrection, rjFactor, rjSeries, rjDuplication};
+ghost use Rattle.rj_positive.specs.Duplicate.{
+  rjMean,
+  rjStart,
+  rjBegin,
+  rjDenominator,
+  shareOf,
+  rjRatio,
+  rjMiddle,
+  rjTerm,
+  rjMoved,
+  rjWith,
+  rjStep,
+  rjClose,
+  rjCorrection,
+  rjFactor,
+  rjSeries,
+  rjDuplication,
+};
 
 // The Rust's cap on its passes.
 const CAP: u32 = 100;

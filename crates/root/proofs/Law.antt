@@ -1,5 +1,5 @@
--- If the pattern b is cut into n and y, and c is the rounded root of n * 2 ^ 52, then the root of b's f64 has the pattern y * 2 ^ 52 + c.
--- Assumes nothing.
+-- If the pattern b is cut into n and y, and c is the rounded root of n * 2 ^ 52, then the root of b's f64 has the pattern y * 2
+-- ^ 52 + c. Assumes nothing.
 use Prim.Native.Nat.{ℕ, zero, suc, _+_, _-_, _*_, _^_, _≤_, _<_}
 use mathlib.Core.Path.{_≡_, refl, sym, ap, _∙_, subst}
 use mathlib.Core.Bool.{true, false, true≢false}
@@ -33,14 +33,16 @@ c-low n c h r = elim (lt-or-le c (2 ^ 52)) [
 too-high : (n c : ℕ) → c * c < n * 2 ^ 52 + c → 2 ^ 53 ≤ c → n + 2 ≤ 2 ^ 54 → 2 ^ 53 ≤ c → 1 ≤ 0
 too-high =
     below 2 (λ n c.
-    (con 1 times nxt (c :* c) ≼ n :* con (2 ^ 52) :+ c) ∷ (c times con (2 ^ 53) ≼ c) ∷ (con (2 ^ 52) times n :+ con 2 ≼ con (2 ^ 54))
+    (con 1 times nxt (c :* c) ≼ n :* con (2 ^ 52) :+ c) ∷ (c times con (2 ^ 53) ≼ c) ∷
+    (con (2 ^ 52) times n :+ con 2 ≼ con (2 ^ 54))
     ∷ (con (2 ^ 53 - 1) times con (2 ^ 53) ≼ c) ∷ [] ⊩ con 1 ≈ con 0) tt
 
 pub c-high : (n c : ℕ) → n + 2 ≤ 2 ^ 54 → RootDigits n c → c < 2 ^ 53
 c-high n c h r = elim (lt-or-le c (2 ^ 53)) [ inl l ↦ l | inr l ↦ let z = too-high n c (r .above) l h l in absurd (omega arith) ]
 
 -- ---- the middles beside the pattern y * 2 ^ 52 + c, squared. Y is 2 ^ y.
-before-at : (n d Y : ℕ) → d * d + d < n * 2 ^ 52 → 1 ≤ Y * Y → (d * Y + (d + 1) * Y) * (d * Y + (d + 1) * Y) < n * 2 ^ 54 * (Y * Y)
+before-at : (n d Y : ℕ) → d * d + d < n * 2 ^ 52 → 1 ≤ Y * Y
+    → (d * Y + (d + 1) * Y) * (d * Y + (d + 1) * Y) < n * 2 ^ 54 * (Y * Y)
 before-at =
     below 3 (λ n d Y.
     (con 4 :* Y :* Y times nxt (d :* d :+ d) ≼ n :* con (2 ^ 52)) ∷ (con 1 times con 1 ≼ Y :* Y) ∷ []
@@ -50,7 +52,8 @@ before-at =
 before-one : (n A Y : ℕ) → A < 2 ^ 53 * Y → 2 ^ 52 ≤ n → 1 ≤ Y → A * A < n * 2 ^ 54 * (Y * Y)
 before-one =
     below 3 (λ n A Y.
-    (A :+ con (2 ^ 53) :* Y times nxt A ≼ con (2 ^ 53) :* Y) ∷ (con (2 ^ 54) :* Y :* Y times con (2 ^ 52) ≼ n) ∷ (con 1 times con 1 ≼ Y) ∷ []
+    (A :+ con (2 ^ 53) :* Y times nxt A ≼ con (2 ^ 53) :* Y) ∷ (con (2 ^ 54) :* Y :* Y times con (2 ^ 52) ≼ n) ∷
+    (con 1 times con 1 ≼ Y) ∷ []
     ⊩ nxt (A :* A) ≈ n :* con (2 ^ 54) :* (Y :* Y)) tt
 
 after-at : (n c Y : ℕ) → n * 2 ^ 52 ≤ c * c + c → 1 ≤ Y * Y → n * 2 ^ 54 * (Y * Y) < (c * Y + (c + 1) * Y) * (c * Y + (c + 1) * Y)
@@ -62,7 +65,8 @@ after-at =
 at-scale : (w n y : ℕ) → w * four 511 ≡ n * four y → w * 2 ^ 1076 ≡ n * 2 ^ 54 * (2 ^ y * 2 ^ y)
 unfolding four
 at-scale w n y e =
-    sym (mul-assoc w (2 ^ 1022) (2 ^ 54)) ∙ ap (λ (z : ℕ). z * 2 ^ 54) e ∙ regroup n (2 ^ (y + y)) (2 ^ 54) (2 ^ y) (pow-add 2 y y)
+    sym (mul-assoc w (2 ^ 1022) (2 ^ 54)) ∙ ap (λ (z : ℕ). z * 2 ^ 54) e
+    ∙ regroup n (2 ^ (y + y)) (2 ^ 54) (2 ^ y) (pow-add 2 y y)
   where
     regroup : (n x k Y : ℕ) → x ≡ Y * Y → n * x * k ≡ n * k * (Y * Y)
     regroup = ring 4 (λ n x k Y. (n :* k times x ≼ Y :* Y) ∷ [] ⊩ n :* x :* k ≈ n :* k :* (Y :* Y)) tt
@@ -145,5 +149,6 @@ root-is (fin false (suc m) e) z w h W f = f (suc m * up e) (down e) (down-pos e)
 pub root-pattern : {b n y : ℕ} (c : ℕ) → (0 < b) × (b < infinity) → Scaled b n y → RootDigits n c
     → root (ofBits binary64 b) ≡ ofBits binary64 (y * 2 ^ 52 + c)
 root-pattern {b} {n} {y} c h s r =
-    root-is (ofBits binary64 b) (ofBits binary64 (y * 2 ^ 52 + c)) (value b) (value-is b (h .1)) (omega (arith, value-lt 0 b (h .0)))
+    root-is (ofBits binary64 b) (ofBits binary64 (y * 2 ^ 52 + c)) (value b) (value-is b (h .1))
+    (omega (arith, value-lt 0 b (h .0)))
     (λ p q Q e. rounded-root c (h .1) s r p q Q e)

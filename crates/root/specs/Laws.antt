@@ -23,13 +23,15 @@ use Rattle.root.specs.Parts.{four, Scaled}
 squares : (a b c d p q : ℕ) → a * d < c * b → c * c * q ≤ p * (d * d) → 0 < q → a * a * q * (d * d) < p * (b * b) * (d * d)
 squares =
     below 6 (λ a b c d p q.
-    (q :* (a :* d :+ c :* b :+ con 1) times nxt (a :* d) ≼ c :* b) ∷ (b :* b times c :* c :* q ≼ p :* (d :* d)) ∷ (con 1 times con 1 ≼ q) ∷ []
+    (q :* (a :* d :+ c :* b :+ con 1) times nxt (a :* d) ≼ c :* b) ∷ (b :* b times c :* c :* q ≼ p :* (d :* d)) ∷
+    (con 1 times con 1 ≼ q) ∷ []
     ⊩ nxt (a :* a :* q :* (d :* d)) ≈ p :* (b :* b) :* (d :* d)) tt
 
 pub root-number : (p q : ℕ) → 0 < q → Number (rootOf p q)
 root-number p q Q = record {
   below = λ a b c d B D h t.
-      lt-compare (a * a * q) (p * (b * b)) (lt-of-mul-lt-mul-right (d * d) (squares a b c d p q h (leb→le (c * c * q) (p * (d * d)) t) Q));
+      lt-compare (a * a * q) (p * (b * b)) (lt-of-mul-lt-mul-right (d * d)
+      (squares a b c d p q h (leb→le (c * c * q) (p * (d * d)) t) Q));
 }
 
 -- ---- the answer is nearest, and nothing else is
@@ -49,11 +51,12 @@ module _ (m : ℕ) (e : ℤ) where
   unfolding root
   root-only n h = nearest-rounded exact one-number n h
 
--- ---- THE COMPARISON IN WHOLE NUMBERS: where p / q is w units of 2 ^ -1074, a number of h half units, as every middle between two patterns is,
--- lies to √(p / q) as its square does to p / q: h * h to w * 2 ^ 1076, in quarters of square units
+-- ---- THE COMPARISON IN WHOLE NUMBERS: where p / q is w units of 2 ^ -1074, a number of h half units, as every middle between
+-- two patterns is, lies to √(p / q) as its square does to p / q: h * h to w * 2 ^ 1076, in quarters of square units
 square-units : (w p q : ℕ) → p * 2 ^ 1074 ≡ w * q → p * (2 ^ 1075 * 2 ^ 1075) ≡ w * 2 ^ 1076 * q
 square-units =
-    ring 3 (λ w p q. (con (2 ^ 1076) times p :* con (2 ^ 1074) ≼ w :* q) ∷ [] ⊩ p :* (con (2 ^ 1075) :* con (2 ^ 1075)) ≈ w :* con (2 ^ 1076) :* q) tt
+    ring 3 (λ w p q. (con (2 ^ 1076) times p :* con (2 ^ 1074) ≼ w :* q) ∷ [] ⊩ p :* (con (2 ^ 1075) :* con (2 ^ 1075))
+    ≈ w :* con (2 ^ 1076) :* q) tt
 
 pub by-squares : (h w p q : ℕ) → 0 < q → p * 2 ^ 1074 ≡ w * q → rootOf p q h (2 ^ 1075) ≡ compare (h * h) (w * 2 ^ 1076)
 by-squares h w p q Q e = ap (λ (z : ℕ). compare (h * h * q) z) (square-units w p q e) ∙ scaled-compare (h * h) (w * 2 ^ 1076) q Q

@@ -15,7 +15,8 @@ pub record Scaled (b n y : ℕ) : Type 0 where
   pub high : n + 2 ≤ 2 ^ 54
   pub small : b < infinity → y ≤ 1534
 
--- c is the root of n * 2 ^ 52, rounded: c * c - c < n * 2 ^ 52 ≤ c * c + c. There is no tie, since (c + 1 / 2) ^ 2 is no whole number.
+-- c is the root of n * 2 ^ 52, rounded: c * c - c < n * 2 ^ 52 ≤ c * c + c. There is no tie, since (c + 1 / 2) ^ 2 is no whole
+-- number.
 pub record RootDigits (n c : ℕ) : Type 0 where
   pub above : c * c < n * 2 ^ 52 + c
   pub within : n * 2 ^ 52 ≤ c * c + c

@@ -16,7 +16,8 @@ const TWO: u64 = 0x3fe0_0000_0000_0000; // with the 53 digits, the pattern of a 
 
 const FOUR: u64 = 0x3ff0_0000_0000_0000; // and from 2 to 4
 
-// Whether c is the root: the products of the halves are formed once for both tests, and l is 1 at least, so that no difference is below zero.
+// Whether c is the root: the products of the halves are formed once for both tests, and l is 1 at least, so that no difference
+// is below zero.
 pub fn is_root(n: u64, c: u64) -> bool
     ensures { λ r. ⌜ (r ≡ true → RootDigits n c) ⌝ }
 {

@@ -1,9 +1,10 @@
 // The square root of an f64, exactly rounded, at every f64.
 //
-// `guess` finds it by plain f64 arithmetic; nothing is proved of that. `is_root` tests it in whole numbers, and what passes is proved
-// to be the root. Where the guess is one off, or the number is subnormal, `search` finds the root, in a bounded number of steps.
-// A caller does not wait for the test: the processor runs on past it. The guess is made first, so that it is on its way early.
-// Which of these found the root is told beside it, so that a program can count how good the guess is; `sqrt` leaves it away.
+// `guess` finds it by plain f64 arithmetic; nothing is proved of that. `is_root` tests it in whole numbers, and what passes is
+// proved to be the root. Where the guess is one off, or the number is subnormal, `search` finds the root, in a bounded number
+// of steps. A caller does not wait for the test: the processor runs on past it. The guess is made first, so that it is on its
+// way early. Which of these found the root is told beside it, so that a program can count how good the guess is; `sqrt` leaves
+// it away.
 mod exact;
 pub mod parts;
 mod way;

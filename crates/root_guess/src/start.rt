@@ -1,7 +1,7 @@
-// Where a guess starts: for each of 64 pieces of 1/2 ≤ m < 2 a number r of few digits near √m, and a quotient by it.
-// A piece is named by the lowest bit of m's exponent and the five digits after the leading one: 0 to 31 for m below 1.
-// These are `match`es and no arrays: LLVM makes tables in read-only memory of them, while an array constant is copied at each use.
-// Nothing is proved of the numbers: a wrong one makes the root slow, not wrong.
+// Where a guess starts: for each of 64 pieces of 1/2 ≤ m < 2 a number r of few digits near √m, and a quotient by it. A piece is
+// named by the lowest bit of m's exponent and the five digits after the leading one: 0 to 31 for m below 1. These are `match`es
+// and no arrays: LLVM makes tables in read-only memory of them, while an array constant is copied at each use. Nothing is
+// proved of the numbers: a wrong one makes the root slow, not wrong.
 
 // A number and its square.
 pub struct Squared(pub f64, pub f64);

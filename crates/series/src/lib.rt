@@ -1,7 +1,7 @@
 // atan, ln and ln_1p of an f64, at every f64: whole-number rules, rounded once. What each answers is in specs/Atan, Ln and Ln1p.
 //
-// A function takes its argument apart by its bits, works in words of fixed point, and rounds at the end. Two quotients at most, one
-// short polynomial (the crate `pieces`), and a few products of which the upper word counts.
+// A function takes its argument apart by its bits, works in words of fixed point, and rounds at the end. Two quotients at most,
+// one short polynomial (the crate `pieces`), and a few products of which the upper word counts.
 mod arc;
 mod logarithm;
 mod quotient;

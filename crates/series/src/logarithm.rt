@@ -30,8 +30,8 @@ const LN_TWO: u64 = 0x58b9_0bfb_e8e7_bcd5; // ln 2 in units of 2 ^ -63, rounded 
 
 const FOUR: u64 = 0x4000_0000_0000_0000; // 4 in units of 2 ^ -60, those of a divisor
 
-// T(s), where s is sg units of 2 ^ -(62 + j), in these units. The square in units of 2 ^ -64 is shifted by j twice over, since 2 * j
-// may be more than a word has; with a branch for that, LLVM would make jumps of the table's rows.
+// T(s), where s is sg units of 2 ^ -(62 + j), in these units. The square in units of 2 ^ -64 is shifted by j twice over, since
+// 2 * j may be more than a word has; with a branch for that, LLVM would make jumps of the table's rows.
 fn t_sum(j: u64, sg: u64) -> u64
     requires { ⌜ Seeded j sg ⌝ }
     ensures { λ r. ⌜ r ≡ T-answer j sg ⌝ }

@@ -22,8 +22,8 @@ fn settle(d: u64, q: u64, r: u64) -> WithRest
     WithRest { q: q + 1, r: r - d }
 }
 
-// p * 2 ^ 31 by d. Division by one more than the upper part of d gives a digit that is at most 2 too low, and a rest that is easy to know:
-// what is left of p, and the digit times what was put on top of d.
+// p * 2 ^ 31 by d. Division by one more than the upper part of d gives a digit that is at most 2 too low, and a rest that is
+// easy to know: what is left of p, and the digit times what was put on top of d.
 fn digit(p: u64, d: u64) -> WithRest
     requires { ⌜ (p ≤ d) × (2 ^ 61 ≤ d) × (d < 2 ^ 63) ⌝ }
     ensures { λ n. ⌜ Divided (p * 2 ^ 31) d (n .q) (n .r) ⌝ }

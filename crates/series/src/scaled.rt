@@ -1,4 +1,5 @@
-// A word in units of a power of two, as an f64: rounded once as a whole number, and then the exponent's field is lowered, which is exact.
+// A word in units of a power of two, as an f64: rounded once as a whole number, and then the exponent's field is lowered, which
+// is exact.
 ghost use mathlib.Core.Path.{_≡_};
 ghost use Prim.Native.Nat.{_^_, _≤_, _<_};
 ghost use lib.Dec.{eqb};

@@ -1,4 +1,5 @@
--- Document 01's sixteen settled examples, in its order, as one table under one statement: antt computes each from the definitions. Assumes nothing.
+-- Document 01's sixteen settled examples, in its order, as one table under one statement: antt computes each from the
+-- definitions. Assumes nothing.
 use mathlib.Core.Path.{_≡_, refl}
 use mathlib.Core.List.{List, [], _∷_}
 use lib.Ieee.{Float, ofBits, add, sub, mul, div, neg, lt, le, eq, isNan}
@@ -91,4 +92,25 @@ unfolding rf rfUnchecked rfSteps allEqual oneZero
     nearZero taylorOf cubicOf quadraticOf errorOf linearOf deltasOf distant largestOf
     rescaling2 rescaling3 closedAt taylorAt infiniteAt settled settledLate absolute maximum minimum root rounded value fused
     ofBits add sub mul div neg lt le eq isNan
-sixteen = (refl, (refl, (refl, (refl, (refl, (refl, (refl, (refl, (refl, (refl, (refl, (refl, (refl, (refl, (refl, (refl, tt))))))))))))))))
+sixteen = (
+  refl,
+  (
+    refl,
+    (
+      refl,
+      (
+        refl,
+        (
+          refl,
+          (
+            refl,
+            (
+              refl,
+              (refl, (refl, (refl, (refl, (refl, (refl, (refl, (refl, (refl, tt))))))))),
+            ),
+          ),
+        ),
+      ),
+    ),
+  ),
+)

@@ -1,4 +1,4 @@
 // The step log (document 02, 2026-01): a total, then a reading a line, and the new total at the end.
 fn main() {
-    console::run(swing_stream::steps_begin());
+    swing_run::run(swing_stream::steps_begin());
 }

@@ -1,5 +1,5 @@
--- For arguments in range RF does not refuse, so that the only numbers are 11 and 12, and the period is a finite f64 above zero: from
--- 2 ^ -11 to 2 ^ 19 seconds (the true bounds are nearer, and nothing asks for them). Assumes nothing.
+-- For arguments in range RF does not refuse, so that the only numbers are 11 and 12, and the period is a finite f64 above zero:
+-- from 2 ^ -11 to 2 ^ 19 seconds (the true bounds are nearer, and nothing asks for them). Assumes nothing.
 use Prim.Native.Nat.{ℕ, _-_, _*_, _^_, _≤_, _<_}
 use mathlib.Core.Path.{_≡_, refl, sym, _∙_, subst}
 use mathlib.Core.Bool.{Bool, true, false, cond}
@@ -152,7 +152,8 @@ swing-of l h g =
 module _ (l h g : ℕ) (R : InRange l h g) where
   argument-in : Between (power 998) below-one (ratio (2 * l - h) (2 * l))
   argument-in =
-      argument (2 * l - h) (2 * l) (from-one l h (R .length-in) (R .height-in)) (less l h (R .length-in) (R .height-in)) (most l (R .length-in))
+      argument (2 * l - h) (2 * l) (from-one l h (R .length-in) (R .height-in)) (less l h (R .length-in) (R .height-in))
+      (most l (R .length-in))
     where
       from-one : (l h : ℕ) → From1 l 10000000 → From1 h (2 * l - 1) → 1 ≤ 2 * l - h
       from-one l h L H = omega arith
@@ -184,7 +185,8 @@ unfolding periodOf
 period-bounded l h g = go (within l 10000000) (within g 20000000) (within h (2 * l - 1)) refl refl refl
   where
     go : (s t u : Bool) → within l 10000000 ≡ s → within g 20000000 ≡ t → within h (2 * l - 1) ≡ u
-        → Bounded (cond s (cond t (cond u (swung l h g) (Refused height-number)) (Refused length-or-gravity)) (Refused length-or-gravity))
+        → Bounded (cond s (cond t (cond u (swung l h g) (Refused height-number)) (Refused length-or-gravity))
+        (Refused length-or-gravity))
     go false t u p q r = no-length
     go true false u p q r = no-length
     go true true false p q r = no-height

@@ -34,7 +34,8 @@ module _ (a b c d u w D : ℕ) (P : 0 < D) (C : 0 < c * d) (e : a * D ≡ u * c)
       same-ltb (a * d) (b * c) u w
       (λ h. lt-of-mul-lt-mul-right (c * d)
       (lt-of-le-of-lt (le-of-eq (sym over-left)) (lt-of-lt-of-le (mul-lt-mul-of-pos-right h P) (le-of-eq over-right))))
-      (λ h. lt-of-mul-lt-mul-right D (lt-of-le-of-lt (le-of-eq over-left) (lt-of-lt-of-le (mul-lt-mul-of-pos-right h C) (le-of-eq (sym over-right)))))
+      (λ h. lt-of-mul-lt-mul-right D (lt-of-le-of-lt (le-of-eq over-left)
+      (lt-of-lt-of-le (mul-lt-mul-of-pos-right h C) (le-of-eq (sym over-right)))))
 
   cross-eq : eqb (a * d) (b * c) ≡ eqb u w
   cross-eq = ap isEq (sym (scaled-compare (a * d) (b * c) D P) ∙ ap₂ compare over-left over-right ∙ scaled-compare u w (c * d) C)
@@ -48,7 +49,8 @@ lt-is (fin false m e) nan u w X Y = absurd Y
 lt-is (fin false m e) (inf t) u w X Y = absurd Y
 lt-is (fin false m e) (fin true n d) u w X Y = absurd (true≢false (Y .0))
 lt-is (fin false m e) (fin false n d) u w X Y =
-    cross-lt (m * up e) (n * up d) (down e) (down d) u w (2 ^ 1074) (pow-pos 1074) (mul-pos (down-pos e) (down-pos d)) (X .1) (Y .1)
+    cross-lt (m * up e) (n * up d) (down e) (down d) u w (2 ^ 1074) (pow-pos 1074) (mul-pos (down-pos e) (down-pos d)) (X .1)
+    (Y .1)
 
 pub eq-is : (x y : Float) (u w : ℕ) → HasValue x false u (2 ^ 1074) → HasValue y false w (2 ^ 1074) → eq x y ≡ eqb u w
 unfolding eq
@@ -60,7 +62,8 @@ eq-is (fin false m e) (inf t) u w X Y = absurd Y
 eq-is (fin false m e) (fin true n d) u w X Y = absurd (true≢false (Y .0))
 eq-is (fin false m e) (fin false n d) u w X Y =
     same-sign (eqb (m * up e * down d) (n * up d * down e))
-    ∙ cross-eq (m * up e) (n * up d) (down e) (down d) u w (2 ^ 1074) (pow-pos 1074) (mul-pos (down-pos e) (down-pos d)) (X .1) (Y .1)
+    ∙ cross-eq (m * up e) (n * up d) (down e) (down d) u w (2 ^ 1074) (pow-pos 1074) (mul-pos (down-pos e) (down-pos d)) (X .1)
+    (Y .1)
   where
     same-sign : (t : Bool) → (t && true) ≡ t
     same-sign true = refl
@@ -96,8 +99,10 @@ module _ {lo hi : ℕ} {x : Float} (X : Between lo hi x) where
   not-below-zero = lt-is x +0 (units-of X) 0 (has-value X) zero-units ∙ le-ltb (units-of X) 0 zero-le
 
   pub not-zero : eq x +0 ≡ false
-  not-zero = eq-is x +0 (units-of X) 0 (has-value X) zero-units ∙ ne-eqb (units-of X) 0 (λ e. lt-irrefl 0 (subst (λ (z : ℕ). 0 < z) e (units-pos X)))
+  not-zero = eq-is x +0 (units-of X) 0 (has-value X) zero-units
+      ∙ ne-eqb (units-of X) 0 (λ e. lt-irrefl 0 (subst (λ (z : ℕ). 0 < z) e (units-pos X)))
 
   pub zero-not : eq +0 x ≡ false
   zero-not =
-      eq-is +0 x 0 (units-of X) zero-units (has-value X) ∙ ne-eqb 0 (units-of X) (λ e. lt-irrefl 0 (subst (λ (z : ℕ). 0 < z) (sym e) (units-pos X)))
+      eq-is +0 x 0 (units-of X) zero-units (has-value X)
+      ∙ ne-eqb 0 (units-of X) (λ e. lt-irrefl 0 (subst (λ (z : ℕ). 0 < z) (sym e) (units-pos X)))

@@ -22,7 +22,8 @@ Kept zero m = Between (power 1023) (power 1023) (m .xn) × Between (power 1010) 
 Kept (suc zero) m = Between (power 1022) (power 1023) (m .xn) × Between (power 1016) (power 1023) (m .yn)
 Kept (suc (suc k)) m = Between (power 1019) (power 1023) (m .xn) × Between (power 1019) (power 1023) (m .yn)
 
-halved : {lo hi : ℕ} {x : Float} → Between lo hi x → (p q : ℕ) → T (solid p q) → T (leb (value p * value (power 1024)) (value lo * 2 ^ 1074))
+halved : {lo hi : ℕ} {x : Float} → Between lo hi x → (p q : ℕ) → T (solid p q)
+    → T (leb (value p * value (power 1024)) (value lo * 2 ^ 1074))
     → T (leb (value hi * 2 ^ 1074) (value q * value (power 1024))) → Between p q (x ⊘ two)
 halved X p q o s t = quotient-between X (constant (power 1024) tt) p q o s t
 
@@ -45,7 +46,8 @@ kept (suc (suc k)) m K = (
 abbrev pub Answered : Float → Type 0
 Answered v = Between (power 1023) (power 1028) v
 
-pi-over : {lo : ℕ} {x : Float} → Between lo (power 1024) x → T (leb (value 0x4009_21FB_5444_2D18 * 2 ^ 1074) (value (power 1028) * value lo))
+pi-over : {lo : ℕ} {x : Float} → Between lo (power 1024) x
+    → T (leb (value 0x4009_21FB_5444_2D18 * 2 ^ 1074) (value (power 1028) * value lo))
     → Answered (pi ⊘ x)
 unfolding value
 pi-over X t = quotient-between (constant 0x4009_21FB_5444_2D18 tt) X (power 1023) (power 1028) tt tt t
@@ -78,11 +80,14 @@ pub mean : (y : Float) → Between (power 998) below-one y → Answered (agmOf o
 unfolding agmOf
 mean y Y =
     let r = ended meansOf together agmCount Kept kept 11 (together (agmStart one y)) (agmStart one y) 0 0 started in
-    subst Answered (sym (ap (λ (f : Found). f .value) (r .is) ∙ counted (agmValue (r .state)) (r .count))) (answered (r .passes) (r .state) (r .good))
+    subst Answered (sym (ap (λ (f : Found). f .value) (r .is) ∙ counted (agmValue (r .state)) (r .count)))
+    (answered (r .passes) (r .state) (r .good))
   where
     started : Kept 0 (agmStart one y)
-    started = unfold value agmStart in
-        (root-between (constant (power 1023) tt) (power 1023) (power 1023) tt tt tt, root-between Y (power 1010) (power 1023) tt tt tt)
+    started = unfold value agmStart in (
+      root-between (constant (power 1023) tt) (power 1023) (power 1023) tt tt tt,
+      root-between Y (power 1010) (power 1023) tt tt tt,
+    )
 
     counted : (v : Float) (n : ℕ) → agmAt v n .value ≡ v
     counted v n = unfold agmAt in refl

@@ -17,7 +17,14 @@ unfolding digitAfter atStart spoiltOf
 digit-begins r d = go (roomFor (r .begun) (r .value) d)
   where
     go : (t : Bool)
-        → atStart (cond t (record { ended = r .ended; first = r .first; second = r .second; begun = true; value = r .value * 10 + d }) spoiltOf)
+        → atStart (cond t (record {
+          ended = r .ended;
+          first = r .first;
+          second = r .second;
+          begun = true;
+          value =
+              r .value * 10 + d;
+        }) spoiltOf)
         ≡ false
     go true = refl
     go false = refl

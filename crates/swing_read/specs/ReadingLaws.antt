@@ -1,5 +1,5 @@
--- Exactly the lines of one or three decimal numbers are read: numbers that are written are read back, and what is read is how they are
--- written. Assumes nothing.
+-- Exactly the lines of one or three decimal numbers are read: numbers that are written are read back, and what is read is how
+-- they are written. Assumes nothing.
 use Prim.Native.Nat.{ℕ, zero, suc, _+_, _-_, _*_, _/_, _%_, _^_, _≤_, _<_}
 use mathlib.Core.Path.{_≡_, refl, sym, ap, _∙_, subst}
 use mathlib.Core.Bool.{Bool, true, false, not, _&&_, cond, true≢false}
@@ -35,11 +35,19 @@ module _ (k a b : ℕ) (K : k < 3) where
   not-bad e = omega arith
 
   -- a digit
-  digit-read : (begun : Bool) (v d : ℕ) → d < 10 → roomFor begun v d ≡ true → byteAfter (at k a b begun v) (48 + d) ≡ at k a b true (v * 10 + d)
+  digit-read : (begun : Bool) (v d : ℕ) → d < 10 → roomFor begun v d ≡ true
+      → byteAfter (at k a b begun v) (48 + d) ≡ at k a b true (v * 10 + d)
   unfolding byteAfter digitAfter
   digit-read begun v d h room =
       let z : 48 + d - 48 ≡ d = omega arith in
-      rw (ne-eqb k 3 not-bad, ne-eqb (48 + d) 32 (λ e. omega arith), le-ltb (48 + d) 48 (omega arith), lt-ltb (48 + d) 58 (omega arith), z, room)
+      rw (
+        ne-eqb k 3 not-bad,
+        ne-eqb (48 + d) 32 (λ e. omega arith),
+        le-ltb (48 + d) 48 (omega arith),
+        lt-ltb (48 + d) 58 (omega arith),
+        z,
+        room,
+      )
 
   first-room : (d : ℕ) → d < 10 → roomFor false 0 d ≡ true
   unfolding roomFor
@@ -56,9 +64,11 @@ module _ (k a b : ℕ) (K : k < 3) where
   -- a number of one digit
   one-digit : (n : ℕ) → n < 10 → bytesAfter (at k a b false 0) (digits 10 1 n) ≡ at k a b true n
   unfolding digits bytesAfter
-  one-digit n h = rw (mod-eq-of-lt h, glyph n h, digit-read false 0 n h (first-room n h)) (ap (λ (v : ℕ). at k a b true v) (omega arith))
+  one-digit n h = rw (mod-eq-of-lt h, glyph n h, digit-read false 0 n h (first-room n h))
+      (ap (λ (v : ℕ). at k a b true v) (omega arith))
 
-  last-digit : (v d : ℕ) → d < 10 → 1 ≤ v → v * 10 + d < 2 ^ 64 → bytesAfter (at k a b true v) (glyphOf d ∷ []) ≡ at k a b true (v * 10 + d)
+  last-digit : (v d : ℕ) → d < 10 → 1 ≤ v → v * 10 + d < 2 ^ 64
+      → bytesAfter (at k a b true v) (glyphOf d ∷ []) ≡ at k a b true (v * 10 + d)
   unfolding bytesAfter
   last-digit v d h o u = rw (glyph d h, digit-read true v d h (next-room v d o u))
 
@@ -68,7 +78,8 @@ module _ (k a b : ℕ) (K : k < 3) where
   unfolding digits
   longer p n l u e =
       let d : n % 10 < 10 = omega arith in
-      bytes-more (digits 10 p (n / 10)) (at k a b false 0) (glyphOf (n % 10) ∷ []) ∙ ap (λ (r : Reading). bytesAfter r (glyphOf (n % 10) ∷ [])) e
+      bytes-more (digits 10 p (n / 10)) (at k a b false 0) (glyphOf (n % 10) ∷ [])
+      ∙ ap (λ (r : Reading). bytesAfter r (glyphOf (n % 10) ∷ [])) e
       ∙ last-digit (n / 10) (n % 10) d (omega arith) (omega arith)
       ∙ ap (λ (v : ℕ). at k a b true v) (omega arith)
 
@@ -76,12 +87,14 @@ module _ (k a b : ℕ) (K : k < 3) where
   shorter more n h = div-lt-iff-lt-mul {k = 10} {x = n} {y = 10 ^ suc more} (omega arith) .1 (rw pow-suc at h)
 
   -- a number
-  number-read : (more n : ℕ) → n < 10 ^ suc more → n < 2 ^ 64 → bytesAfter (at k a b false 0) (digits 10 (placesOf more n) n) ≡ at k a b true n
+  number-read : (more n : ℕ) → n < 10 ^ suc more → n < 2 ^ 64
+      → bytesAfter (at k a b false 0) (digits 10 (placesOf more n) n) ≡ at k a b true n
   unfolding placesOf
   number-read zero n h u = one-digit n (omega arith)
   number-read (suc more) n h u = elim (lt-or-le n 10) [
     | inl l ↦ rw (lt-ltb n 10 l) (one-digit n l)
-    | inr l ↦ rw (le-ltb n 10 l) (longer (placesOf more (n / 10)) n l u (number-read more (n / 10) (shorter more n h) (omega arith)))
+    | inr l ↦ rw (le-ltb n 10 l) (longer (placesOf more (n / 10)) n l u
+        (number-read more (n / 10) (shorter more n h) (omega arith)))
   ]
 
   pub u64-read : (n : ℕ) → n < 2 ^ 64 → bytesAfter (at k a b false 0) (decimal 19 n) ≡ at k a b true n
@@ -122,7 +135,8 @@ three-back a b c A B C =
 places-enough : (more n : ℕ) → n < 10 ^ suc more → placesOf (suc more) n ≡ placesOf more n
 unfolding placesOf
 places-enough zero n h = rw (lt-ltb n 10 (omega arith))
-places-enough (suc more) n h = ap (λ (p : ℕ). cond (ltb n 10) 1 (suc p)) (places-enough more (n / 10) (shorter 0 0 0 (omega arith) more n h))
+places-enough (suc more) n h = ap (λ (p : ℕ). cond (ltb n 10) 1 (suc p))
+    (places-enough more (n / 10) (shorter 0 0 0 (omega arith) more n h))
 
 decimal-digit : (d : ℕ) → d < 10 → decimal 19 d ≡ (48 + d) ∷ []
 unfolding decimal placesOf digits
@@ -163,7 +177,8 @@ spoilt-read l = bad refl
 
 room-value : (begun : Bool) (v d : ℕ) → roomFor begun v d ≡ true → v * 10 + d < 2 ^ 64
 unfolding roomFor
-room-value begun v d e = ltb→lt (v * 10 + d) (2 ^ 64) (and-r (not (begun && eqb v 0)) (ltb (v * 10 + d) (2 ^ 64)) (subst T (sym e) tt))
+room-value begun v d e = ltb→lt (v * 10 + d) (2 ^ 64) (and-r (not (begun && eqb v 0)) (ltb (v * 10 + d) (2 ^ 64))
+    (subst T (sym e) tt))
 
 room-begun : (v d : ℕ) → roomFor true v d ≡ true → 1 ≤ v
 unfolding roomFor
@@ -174,9 +189,11 @@ part-digit : (begun : Bool) (v d : ℕ) → d < 10 → (begun ≡ false → v �
     → partText begun v ++ ((48 + d) ∷ []) ≡ partText true (v * 10 + d)
 unfolding partText
 part-digit true v d h z room = sym (decimal-more v d (room-begun v d room) h (room-value true v d room))
-part-digit false v d h z room = let e : v * 10 + d ≡ d = omega (arith, z refl) in sym (ap (λ (n : ℕ). decimal 19 n) e ∙ decimal-digit d h)
+part-digit false v d h z room = let e : v * 10 + d ≡ d = omega (arith, z refl) in
+    sym (ap (λ (n : ℕ). decimal 19 n) e ∙ decimal-digit d h)
 
-digit-reads : (k a b : ℕ) (begun : Bool) (v d : ℕ) (l : List ℕ) → k < 3 → d < 10 → l ≡ textOf (at k a b begun v) → (begun ≡ false → v ≡ 0)
+digit-reads : (k a b : ℕ) (begun : Bool) (v d : ℕ) (l : List ℕ) → k < 3 → d < 10 → l ≡ textOf (at k a b begun v)
+    → (begun ≡ false → v ≡ 0)
     → Read (l ++ ((48 + d) ∷ [])) (digitAfter (at k a b begun v) d)
 unfolding digitAfter
 digit-reads k a b begun v d l K h e z = go (roomFor begun v d) refl
@@ -201,12 +218,15 @@ blank-reads k a b true v l K e = go (eqb k 0) (eqb k 1) refl refl
     second : (frontText 1 a b ++ partText true v) ++ 32 ∷ [] ≡ textOf (at 2 a v false 0)
     second = unfold frontText partText in simp (append-assoc, append-nil)
 
-    go : (t u : Bool) → eqb k 0 ≡ t → eqb k 1 ≡ u → Read (l ++ 32 ∷ []) (cond t (at 1 v 0 false 0) (cond u (at 2 a v false 0) spoiltOf))
+    go : (t u : Bool) → eqb k 0 ≡ t → eqb k 1 ≡ u → Read (l ++ 32 ∷ [])
+        (cond t (at 1 v 0 false 0) (cond u (at 2 a v false 0) spoiltOf))
     go true u p q =
-        good (omega arith) (ap (λ (x : List ℕ). x ++ 32 ∷ []) (e ∙ ap (λ (n : ℕ). textOf (at n a b true v)) (eqb-true k 0 p)) ∙ first)
+        good (omega arith) (ap (λ (x : List ℕ). x ++ 32 ∷ []) (e ∙ ap (λ (n : ℕ). textOf (at n a b true v)) (eqb-true k 0 p))
+        ∙ first)
         (omega arith) (λ f. refl)
     go false true p q =
-        good (omega arith) (ap (λ (x : List ℕ). x ++ 32 ∷ []) (e ∙ ap (λ (n : ℕ). textOf (at n a b true v)) (eqb-true k 1 q)) ∙ second)
+        good (omega arith) (ap (λ (x : List ℕ). x ++ 32 ∷ []) (e ∙ ap (λ (n : ℕ). textOf (at n a b true v)) (eqb-true k 1 q))
+        ∙ second)
         (omega arith) (λ f. refl)
     go false false p q = spoilt-read (l ++ 32 ∷ [])
 
@@ -260,7 +280,8 @@ module _ (l : List ℕ) (r : Reading) (h : Read l r) where
       joined = unfold frontText in simp append-assoc
 
       go : (t u v : Bool) → r .begun ≡ t → eqb (r .ended) 0 ≡ u → eqb (r .ended) 2 ≡ v
-          → cond t (cond u (One (r .value)) (cond v (Three (r .first) (r .second) (r .value)) Bad)) Bad ≡ Three a b c → l ≡ threeText a b c
+          → cond t (cond u (One (r .value)) (cond v (Three (r .first) (r .second) (r .value)) Bad)) Bad ≡ Three a b c
+          → l ≡ threeText a b c
       go true true v p q s e = let z : _≡_ {A = ℕ} 0 1 = cc in absurd (omega arith)
       go true false true p q s e =
           let f : r .first ≡ a = cc in

@@ -32,7 +32,8 @@ steps-said-length s l = either (taken (s .known) l) [] badText longestSwing (ome
 
 pub said-length : (s : State) → length (said s) ≤ longestSwing
 unfolding said saidTo
-said-length s = let l = lineOf (s .reading) in either (s .counting) (stepsSaid s l) (swingSaid l) longestSwing (steps-said-length s l) (swing-said-length l)
+said-length s = let l = lineOf (s .reading) in either (s .counting) (stepsSaid s l) (swingSaid l) longestSwing
+    (steps-said-length s l) (swing-said-length l)
 
 pub said-at-length : (s : State) (b : ℕ) → length (saidAt s b) ≤ longestSwing
 unfolding saidAt

@@ -39,7 +39,13 @@ taken known (Three length height gravity) = false
 taken known Bad = false
 
 unfoldable pub noted : State → ℕ → State
-noted s n = record { counting = s .counting; known = true; log = cond (s .known) (logAfter (s .log) n) (logFrom n); reading = startOf }
+noted s n = record {
+  counting = s .counting;
+  known = true;
+  log = cond (s .known) (logAfter (s .log) n) (logFrom n);
+  reading =
+      startOf;
+}
 
 unfoldable pub stepsAfter : State → Line → State
 stepsAfter s (One n) = cond (takes (s .known) n) (noted s n) (fresh s)

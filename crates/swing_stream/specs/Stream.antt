@@ -20,7 +20,13 @@ said s = saidTo s (lineOf (s .reading))
 
 -- ---- one byte: a newline ends the line
 unfoldable pub stateAfter : State → ℕ → State
-stateAfter s b = cond (eqb b 10) (heard s) (record { counting = s .counting; known = s .known; log = s .log; reading = byteAfter (s .reading) b })
+stateAfter s b = cond (eqb b 10) (heard s) (record {
+  counting = s .counting;
+  known = s .known;
+  log = s .log;
+  reading =
+      byteAfter (s .reading) b;
+})
 
 unfoldable pub saidAt : State → ℕ → List ℕ
 saidAt s b = cond (eqb b 10) (said s) []

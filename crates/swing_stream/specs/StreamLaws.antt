@@ -38,7 +38,8 @@ one-said s b = append-nil (saidAt s b)
 -- some bytes, and one more
 pub told-more : (xs : List ℕ) (b : ℕ) (s : State) {m after : State} {o half out : List ℕ} {at h next : ℕ}
     → Told (restOf s xs) (saidOf s xs) m o at half h
-    → Told (stateAfter m b) (saidAt m b) after half h out next → Told (restOf s (xs ++ b ∷ [])) (saidOf s (xs ++ b ∷ [])) after o at out next
+    → Told (stateAfter m b) (saidAt m b) after half h out next
+    → Told (restOf s (xs ++ b ∷ [])) (saidOf s (xs ++ b ∷ [])) after o at out next
 told-more xs b s p q = record {
   state = rw (rest-more xs s (b ∷ []), one-state) (q .state ∙ ap (λ (t : State). stateAfter t b) (p .state));
   words = rw (said-more xs s (b ∷ []), one-said, ← p .state) (put-more (p .words) (q .words));
@@ -76,7 +77,8 @@ after-line s k = go (s .counting) k
 -- ---- the whole input
 at-end : (begun : List ℕ) (s : State) → s .reading ≡ bytesAfter startOf begun → saidLast s ≡ repliesFrom s (lastLine begun)
 unfolding saidLast lastLine repliesFrom said heard readLine
-at-end [] s e = subst (λ (b : Bool). cond b (saidAtEnd s) (said s ++ saidAtEnd (heard s)) ≡ saidAtEnd s) (sym (ap atStart e ∙ nothing-yet)) refl
+at-end [] s e = subst (λ (b : Bool). cond b (saidAtEnd s) (said s ++ saidAtEnd (heard s)) ≡ saidAtEnd s)
+    (sym (ap atStart e ∙ nothing-yet)) refl
 at-end (b ∷ l) s e =
     subst (λ (t : Bool). cond t (saidAtEnd s) (said s ++ saidAtEnd (heard s)) ≡ repliesFrom s ((b ∷ l) ∷ []))
     (sym (ap atStart e ∙ line-begins l b startOf))
@@ -100,7 +102,8 @@ from-begun (b ∷ bs) begun s e = go (eqb b 10) (from-begun bs)
     fresh-line = unfold heard bytesAfter in after-line s (lineOf (s .reading))
 
     go : (t : Bool)
-        → ((l : List ℕ) (u : State) → u .reading ≡ bytesAfter startOf l → saidOf u bs ++ saidLast (restOf u bs) ≡ repliesFrom u (linesFrom l bs))
+        → ((l : List ℕ) (u : State) → u .reading ≡ bytesAfter startOf l
+        → saidOf u bs ++ saidLast (restOf u bs) ≡ repliesFrom u (linesFrom l bs))
         → cond t (said s) [] ++ saidOf (cond t (heard s) on) bs ++ saidLast (restOf (cond t (heard s) on) bs)
         ≡ repliesFrom s (cond t (begun ∷ linesFrom [] bs) (linesFrom (begun ++ b ∷ []) bs))
     go true rest = rw (append-assoc, rest [] (heard s) fresh-line) ends
@@ -109,6 +112,7 @@ from-begun (b ∷ bs) begun s e = go (eqb b 10) (from-begun bs)
         ∙ same-replies (linesFrom (begun ++ b ∷ []) bs) s (byteAfter (s .reading) b)
 
 -- THE LAW: fed whole, an input gives a reply to each of its lines in order, and what is said at its end
-pub whole : (s : State) (input : List ℕ) → s .reading ≡ startOf → saidOf s input ++ saidLast (restOf s input) ≡ repliesFrom s (linesFrom [] input)
+pub whole : (s : State) (input : List ℕ) → s .reading ≡ startOf
+    → saidOf s input ++ saidLast (restOf s input) ≡ repliesFrom s (linesFrom [] input)
 unfolding bytesAfter
 whole s input e = from-begun input [] s e

@@ -6,7 +6,6 @@ pub use crate::lines::State;
 pub use crate::lines::steps_begin;
 pub use crate::lines::swings_begin;
 pub use crate::stream::BLOCK;
-pub use crate::stream::OUT;
 pub use crate::stream::Progress;
 pub use crate::stream::feed;
 pub use crate::stream::finish;

@@ -13,7 +13,18 @@ ghost use Prim.Native.Nat.{_+_, _≤_};
 ghost use lib.ListN.{length};
 ghost use Rattle.writing.specs.Written.{Put};
 ghost use Rattle.swing_write.specs.Replies.{longestSwing};
-ghost use Rattle.swing_stream.specs.Lines.{swingsFrom, stepsFrom, fresh, takes, taken, noted, swingSaid, stepsAfter, afterLine, saidTo};
+ghost use Rattle.swing_stream.specs.Lines.{
+  swingsFrom,
+  stepsFrom,
+  fresh,
+  takes,
+  taken,
+  noted,
+  swingSaid,
+  stepsAfter,
+  afterLine,
+  saidTo,
+};
 
 // Whether the lines are the step log's, whether its total is known, the log, and what is read of a line that has not ended.
 pub struct State {

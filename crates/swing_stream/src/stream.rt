@@ -6,6 +6,7 @@ use swing_read::close;
 use swing_read::nothing;
 use swing_read::step;
 use swing_write::put_total;
+use writing::OUT;
 use writing::least;
 use writing::put_text;
 ghost use Prim.Native.Nat.{_+_, _*_, _≤_};
@@ -16,10 +17,8 @@ ghost use Rattle.swing_write.specs.Replies.{longestSwing, longestTotal};
 ghost use Rattle.swing_stream.specs.Stream.{heard, said, stateAfter, saidAt, restOf, saidOf, saidAtEnd, saidLast, Told};
 ghost use Rattle.swing_stream.specs.Stream.{longestLast};
 
-// So many bytes are read at once, and the replies to them fit into so many.
+// So many bytes are read at once: the replies to them fit, if each ends a line.
 pub const BLOCK: usize = 1024;
-
-pub const OUT: usize = 65536;
 
 // The state now, and how many bytes were written.
 pub struct Progress {
@@ -79,8 +78,8 @@ fn feed_all(block: &[u8], size: usize, s: State, out: &mut [u8]) -> Progress
     Progress { state, used }
 }
 
-// Feeds the block's first bytes, all `size` of them: the replies to the lines that end there are put at the start of `out`. A size
-// beyond the block counts as all of it.
+// Feeds the block's first bytes, all `size` of them: the replies to the lines that end there are put at the start of `out`. A
+// size beyond the block counts as all of it.
 pub fn feed(block: &[u8; BLOCK], size: usize, s: State, out: &mut [u8; OUT]) -> Progress
     ensures { λ r. ⌜ Told (restOf s (take size (now (block .entry)))) (saidOf s (take size (now (block .entry)))) (r .state) (now (out .entry)) 0 (now (out .exit)) (r .used) ⌝ }
     ensures { λ r. ⌜ Counts (r .used) (now (out .exit)) ⌝ }

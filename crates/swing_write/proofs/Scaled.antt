@@ -28,7 +28,8 @@ rest-is lo A h = mod-eq-of-lt (below (lo / A * A) (lo % A) lo (div-add-mod' lo A
     below q r l e h = omega arith
 
 -- the numbers that a period has: m of 53 digits, times 10 ^ 12, over 2 ^ s
-module _ (m s hi lo : ℕ) (M : m < 2 ^ 53) (low : 33 ≤ s) (high : s ≤ 63) (is : hi * 2 ^ 64 + lo ≡ m * 1000000000000) (L : lo < 2 ^ 64) where
+module _ (m s hi lo : ℕ) (M : m < 2 ^ 53) (low : 33 ≤ s) (high : s ≤ 63) (is : hi * 2 ^ 64 + lo ≡ m * 1000000000000)
+    (L : lo < 2 ^ 64) where
   whole : hi * (2 ^ s * 2 ^ (64 - s)) + lo ≡ m * 1000000000000
   whole = ap (λ (z : ℕ). hi * z + lo) (sym (pow-add 2 s (64 - s)) ∙ ap (λ (z : ℕ). 2 ^ z) (back s high)) ∙ is
     where
@@ -50,10 +51,13 @@ module _ (m s hi lo : ℕ) (M : m < 2 ^ 53) (low : 33 ≤ s) (high : s ≤ 63) (
   pub rounds : (q r half : ℕ) → q ≡ hi * 2 ^ (64 - s) + lo / 2 ^ s → r ≡ lo % 2 ^ s → half * 2 ≡ 2 ^ s
       → nearest q (compare r half) ≡ closest (m * 1000000000000) (2 ^ s)
   rounds q r half e f g =
-      let t : r ≡ m * 1000000000000 % 2 ^ s = f ∙ sym (remainder (m * 1000000000000) (2 ^ s) (2 ^ (64 - s)) hi lo (pow-pos s) whole) in
+      let t : r ≡ m * 1000000000000 % 2 ^ s = f ∙ sym (remainder (m * 1000000000000) (2 ^ s) (2 ^ (64 - s)) hi lo (pow-pos s)
+      whole) in
       let o : compare r half ≡ compare (m * 1000000000000 % 2 ^ s * 2) (2 ^ s) =
-      sym (scaled-compare r half 2 (omega arith)) ∙ ap (λ (z : ℕ). compare (r * 2) z) g ∙ ap (λ (z : ℕ). compare (z * 2) (2 ^ s)) t in
-      ap (λ (z : ℕ). nearest z (compare r half)) (e ∙ sym quotient-is) ∙ ap (λ (z : Ordering). nearest (m * 1000000000000 / 2 ^ s) z) o
+      sym (scaled-compare r half 2 (omega arith)) ∙ ap (λ (z : ℕ). compare (r * 2) z) g
+      ∙ ap (λ (z : ℕ). compare (z * 2) (2 ^ s)) t in
+      ap (λ (z : ℕ). nearest z (compare r half)) (e ∙ sym quotient-is)
+      ∙ ap (λ (z : Ordering). nearest (m * 1000000000000 / 2 ^ s) z) o
 
   -- the same, as the code has it: shifts keep the low 64 digits
   pub shifted : hi * 2 ^ (64 - s) % 2 ^ 64 ≡ hi * 2 ^ (64 - s)

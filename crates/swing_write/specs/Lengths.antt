@@ -30,7 +30,8 @@ seconds-length t = rw (length-append, digits-length) (omega (arith, number-lengt
 
 pub period-length : (f : Found) → length (periodText f) ≤ longestPeriod
 unfolding periodText
-period-length f = rw (length-append, length-append, digits-length, length-append) (omega (arith, seconds-length (ticksOf (f .value))))
+period-length f = rw (length-append, length-append, digits-length, length-append)
+    (omega (arith, seconds-length (ticksOf (f .value))))
 
 pub refused-length : (n : ℕ) → length (refusedText n) ≤ longestRefused
 unfolding refusedText

@@ -1,4 +1,5 @@
--- What is answered to a line of the swing and of the step log (document 02, 2026-01; the form is docs/DECISIONS.md's). Definitions only.
+-- What is answered to a line of the swing and of the step log (document 02, 2026-01; the form is docs/DECISIONS.md's).
+-- Definitions only.
 use Prim.Native.Nat.{ℕ, _+_, _*_, _/_}
 use mathlib.Core.List.{List, [], _∷_, _++_}
 use lib.Ieee.{Float, binary64, toBits}

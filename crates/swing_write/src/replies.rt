@@ -13,13 +13,20 @@ use writing::put_text;
 use writing::put_word;
 ghost use Prim.Native.Nat.{_+_, _≤_};
 ghost use lib.ListN.{length};
-ghost use Rattle.swing.specs.Between.{Between};
+ghost use Rattle.between.specs.Between.{Between};
 ghost use Rattle.swing.specs.Ratios.{power};
 ghost use Rattle.swing.specs.Bounded.{Bounded};
 ghost use Rattle.swing.specs.Period.{periodOf};
 ghost use Rattle.writing.specs.Written.{Put, Tried};
 ghost use Rattle.swing_write.specs.Replies.{numberText, secondsText, periodText, refusedText, swingText, totalText};
-ghost use Rattle.swing_write.specs.Replies.{longestNumber, longestSeconds, longestPeriod, longestRefused, longestSwing, longestTotal};
+ghost use Rattle.swing_write.specs.Replies.{
+  longestNumber,
+  longestSeconds,
+  longestPeriod,
+  longestRefused,
+  longestSwing,
+  longestTotal,
+};
 
 // No answer to a swing is longer, and none to a step log.
 pub const LONGEST_SWING: usize = 51;

@@ -1,4 +1,5 @@
-// A period in whole units of 10^-12 s. The f64 is m / 2^s; m * 10^12 takes two words, and the quotient by 2^s is rounded once, half to even.
+// A period in whole units of 10^-12 s. The f64 is m / 2^s; m * 10^12 takes two words, and the quotient by 2^s is rounded once,
+// half to even.
 use binary64::split;
 use words::product;
 ghost use mathlib.Core.Path.{_≡_};
@@ -6,7 +7,7 @@ ghost use Prim.Native.Nat.{_+_, _*_, _<_, _≤_, _^_};
 ghost use Prim.Native.Nat.{compare};
 ghost use lib.Ieee.{nearest};
 ghost use lib.Ieee.Nearest.{closest};
-ghost use Rattle.swing.specs.Between.{Between};
+ghost use Rattle.between.specs.Between.{Between};
 ghost use Rattle.swing.specs.Ratios.{power};
 ghost use Rattle.swing_write.specs.Replies.{ticksOf};
 

@@ -1,4 +1,5 @@
--- From the rules back to the claim: what an entry settles of two runs is alike. And both signs of k: the second way round, the runs change places.
+-- From the rules back to the claim: what an entry settles of two runs is alike. And both signs of k: the second way round, the
+-- runs change places.
 use mathlib.Core.Path.{_≡_, refl, sym, ap, _∙_, subst, subst₂}
 use mathlib.Core.Logic.{inl, inr}
 use Prim.Native.Nat.{ℕ, _+_, _-_, _*_, _^_}
@@ -25,7 +26,8 @@ use Rattle.units.specs.Runs.{Same, both, lost}
 -- ---- what an entry settles
 pub data Pair (k : ℕ) (K : Kind) : Answer → Answer → Type 0 where
   no : {n : ℕ} → Pair k K (Refused n) (Refused n)
-  yes : {v w : Float} {c : Way} → Two binary64 k K v w → Pair k K (Value (record { value = v; way = c })) (Value (record { value = w; way = c }))
+  yes : {v w : Float} {c : Way} → Two binary64 k K v w → Pair k K (Value (record { value = v; way = c }))
+      (Value (record { value = w; way = c }))
 
 finite-is : {x : Float} {s : Bool} {n : ℕ} → Is binary64 x s n → finite x ≡ true
 finite-is {x = nan} a = absurd (a .val)
@@ -37,16 +39,19 @@ unfolding settled
 settled-same {k} {K} n (both {v = v} {w = w} {c = c} a) =
     let f : Found = record { value = v; way = c } in
     let g : Found = record { value = w; way = c } in
-    subst₂ (λ p q. Pair k K (cond p (Value f) (Refused n)) (cond q (Value g) (Refused n))) (sym (finite-is (a .first))) (sym (finite-is (a .second)))
+    subst₂ (λ p q. Pair k K (cond p (Value f) (Refused n)) (cond q (Value g) (Refused n))) (sym (finite-is (a .first)))
+    (sym (finite-is (a .second)))
     (yes a)
 settled-same n lost = no
 
-pub late-same : {k : ℕ} {K : Kind} {f g : Found} (n : ℕ) → Same k K f g → Pair k K (settledLate f false false n) (settledLate g false false n)
+pub late-same : {k : ℕ} {K : Kind} {f g : Found} (n : ℕ) → Same k K f g
+    → Pair k K (settledLate f false false n) (settledLate g false false n)
 unfolding settledLate
 late-same {k} {K} n (both {v = v} {w = w} {c = c} a) =
     let f : Found = record { value = v; way = c } in
     let g : Found = record { value = w; way = c } in
-    subst₂ (λ p q. Pair k K (cond p (Value f) (Refused n)) (cond q (Value g) (Refused n))) (sym (finite-is (a .first))) (sym (finite-is (a .second)))
+    subst₂ (λ p q. Pair k K (cond p (Value f) (Refused n)) (cond q (Value g) (Refused n))) (sym (finite-is (a .first)))
+    (sym (finite-is (a .second)))
     (yes a)
 late-same n lost = no
 
@@ -57,7 +62,8 @@ beside m n p q e h =
     ∙ ring 5 (λ n m p q e. (e times n :* p ≼ m :* q) ∷ [] ⊩ n :* (p :* e) ≈ m :* (q :* e)) tt n m (2 ^ p) (2 ^ q) (2 ^ e) h
     ∙ ap (λ z. m * z) (sym (pow-add 2 q e))
 
-pub times-of : {k : ℕ} {K : Kind} {v w : Float} (u d e : ℕ) → u ≡ k * K .u + e → d ≡ k * K .d + e → Two binary64 k K v w → Times u d v w
+pub times-of : {k : ℕ} {K : Kind} {v w : Float} (u d e : ℕ) → u ≡ k * K .u + e → d ≡ k * K .d + e → Two binary64 k K v w
+    → Times u d v w
 times-of {k} {K} u d e U D a = record {
   finite-first = is-finite (a .first);
   finite-second = is-finite (a .second);
@@ -73,7 +79,13 @@ alike-of u d e U D (yes a) = values (times-of u d e U D a)
 
 -- ---- the other way round
 pub times-back : {u d : ℕ} {x y : Float} → Times u d x y → Times d u y x
-times-back t = record { finite-first = t .finite-second; finite-second = t .finite-first; signs = sym (t .signs); sizes = sym (t .sizes) }
+times-back t = record {
+  finite-first = t .finite-second;
+  finite-second = t .finite-first;
+  signs = sym (t .signs);
+  sizes =
+      sym (t .sizes);
+}
 
 pub alike-back : {u d : ℕ} {r s : Answer} → Alike u d r s → Alike d u s r
 alike-back refused = refused

@@ -1,5 +1,5 @@
--- No argument in range is rescaled (document 01, Rescaling): the largest size is zero, or lies from 2 ^ -64 to 2 ^ 64, far inside the limits.
--- For one run; it is the same in the other.
+-- No argument in range is rescaled (document 01, Rescaling): the largest size is zero, or lies from 2 ^ -64 to 2 ^ 64, far
+-- inside the limits. For one run; it is the same in the other.
 use mathlib.Core.Path.{_≡_, refl, ap₂, _∙_}
 use mathlib.Core.Logic.{_⊎_, inl, inr}
 use Prim.Native.Nat.{ℕ, _^_, _≤_, max}
@@ -38,12 +38,19 @@ pub second-size : {k : ℕ} {x y : Float} → Two binary64 k argumentK x y → S
 second-size a = size-of (a .second) (a .in-second)
 
 pub larger-size : {x y : Float} → Size x → Size y → Size (maximum x y)
-larger-size a b = record { n = max (a .n) (b .n); is = maximum-units (a .is) (b .is); from = go (a .from) (b .from); to = most-of (a .to) (b .to) }
+larger-size a b = record {
+  n = max (a .n) (b .n);
+  is = maximum-units (a .is) (b .is);
+  from = go (a .from) (b .from);
+  to =
+      most-of (a .to) (b .to);
+}
   where
     most-of : {m n h : ℕ} → m ≤ h → n ≤ h → max m n ≤ h
     most-of p q = omega arith
 
-    go : (a .n ≡ 0) ⊎ (2 ^ 1010 ≤ a .n) → (b .n ≡ 0) ⊎ (2 ^ 1010 ≤ b .n) → (max (a .n) (b .n) ≡ 0) ⊎ (2 ^ 1010 ≤ max (a .n) (b .n))
+    go : (a .n ≡ 0) ⊎ (2 ^ 1010 ≤ a .n) → (b .n ≡ 0) ⊎ (2 ^ 1010 ≤ b .n)
+        → (max (a .n) (b .n) ≡ 0) ⊎ (2 ^ 1010 ≤ max (a .n) (b .n))
     go (inl p) (inl q) = inl (ap₂ max p q)
     go (inl p) (inr q) = inr (le-trans q (le-max-right (a .n) (b .n)))
     go (inr p) q = inr (le-trans p (le-max-left (a .n) (b .n)))
@@ -66,7 +73,8 @@ pub within-limits : {s : Float} → Size s → beyondLimits s ≡ false
 unfolding litOk
 within-limits {s} z =
     elim (z .from) [
-      | inl e ↦ none (finite s) (lt zero s) (lt limit s) (lt s reciprocal) (lt-units (zero-is binary64) (z .is) ∙ le-ltb 0 (z .n) (le-of-eq e))
+      | inl e ↦ none (finite s) (lt zero s) (lt limit s) (lt s reciprocal)
+          (lt-units (zero-is binary64) (z .is) ∙ le-ltb 0 (z .n) (le-of-eq e))
       | inr l ↦ neither (finite s) (lt zero s) (lt limit s) (lt s reciprocal)
           (lt-units (lit-is binary64 limit tt) (z .is) ∙ le-ltb _ (z .n) (le-trans (z .to) (lit≤ tt)))
           (lt-units (z .is) (lit-is binary64 reciprocal tt) ∙ le-ltb (z .n) _ (le-trans (lit≤ tt) l))
@@ -79,12 +87,14 @@ pub within3 : (x y z : Float) → Size (absolute x) → Size (absolute y) → Si
 within3 x y z a b c = within-limits (larger-size (larger-size a b) c)
 
 -- so the steps are made at the arguments themselves
-pub unscaled2 : {A : Type 0} (back : A → Float → A) (steps : Float → Float → A) (x y : Float) → Size (absolute x) → Size (absolute y)
+pub unscaled2 : {A : Type 0} (back : A → Float → A) (steps : Float → Float → A) (x y : Float) → Size (absolute x)
+    → Size (absolute y)
     → rescaling2 back steps x y ≡ steps x y
 unfolding rescaling2
 unscaled2 back steps x y a b = rw (within2 x y a b)
 
-pub unscaled3 : {A : Type 0} (back : A → Float → A) (steps : Float → Float → Float → A) (x y z : Float) → Size (absolute x) → Size (absolute y)
+pub unscaled3 : {A : Type 0} (back : A → Float → A) (steps : Float → Float → Float → A) (x y z : Float) → Size (absolute x)
+    → Size (absolute y)
     → Size (absolute z) → rescaling3 back steps x y z ≡ steps x y z
 unfolding rescaling3
 unscaled3 back steps x y z a b c = rw (within3 x y z a b c)

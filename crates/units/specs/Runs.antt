@@ -1,5 +1,5 @@
--- Two runs of an entry's steps: what they find is the same with the counts equal, or neither is a number. And a capped loop in two runs, for every
--- loop of the five entries: of a relation between the states that a pass keeps.
+-- Two runs of an entry's steps: what they find is the same with the counts equal, or neither is a number. And a capped loop in
+-- two runs, for every loop of the five entries: of a relation between the states that a pass keeps.
 use mathlib.Core.Path.{_≡_, refl, sym, subst, subst₂}
 use mathlib.Core.Logic.{_⊎_, inl, inr}
 use Prim.Native.Nat.{ℕ, zero, suc, _<_, _≤_}
@@ -34,8 +34,10 @@ same-way (both a) = refl
 same-way lost = refl
 
 -- ---- of whatever is made with one way
-pub made : {k : ℕ} {K : Kind} {v w : Float} (c : Way) → Fair k K v w → Same k K (record { value = v; way = c }) (record { value = w; way = c })
-made {k} {K} c (inl p) = subst₂ (λ a b. Same k K (record { value = a; way = c }) (record { value = b; way = c })) (sym (p .0)) (sym (p .1)) lost
+pub made : {k : ℕ} {K : Kind} {v w : Float} (c : Way) → Fair k K v w
+    → Same k K (record { value = v; way = c }) (record { value = w; way = c })
+made {k} {K} c (inl p) = subst₂ (λ a b. Same k K (record { value = a; way = c }) (record { value = b; way = c })) (sym (p .0))
+    (sym (p .1)) lost
 made c (inr a) = both a
 
 pub closed : {k : ℕ} {K : Kind} {v w : Float} → Two binary64 k K v w → Same k K (closedAt v) (closedAt w)
@@ -49,7 +51,8 @@ fair a = made (wayOf 0) a
 -- a formula of what was found on ways that are the same
 pub carried : {k : ℕ} {K : Kind} {v w : Float} {c d : Way} → c ≡ d → Fair k K v w → Same k K (carriedAt v c) (carriedAt w d)
 unfolding carriedAt
-carried {k} {K} {v} {w} {c} e a = subst (λ d. Same k K (record { value = v; way = c }) (record { value = w; way = d })) e (made c a)
+carried {k} {K} {v} {w} {c} e a = subst (λ d. Same k K (record { value = v; way = c }) (record { value = w; way = d })) e
+    (made c a)
 
 -- the loops count their passes
 pub mean : {k : ℕ} {K : Kind} {v w : Float} (c : ℕ) → Fair k K v w → Same k K (agmAt v c) (agmAt w c)
@@ -72,7 +75,8 @@ pub wider-fair : {k : ℕ} {K L : Kind} {v w : Float} → Fair k K v w → T (wi
 wider-fair (inl p) ok = inl p
 wider-fair (inr a) ok = inr (widen-two a ok)
 
--- ---- the capped loop, whose step and test may hold what each run began with. `I j` holds between the states of the two runs where j passes are left.
+-- ---- the capped loop, whose step and test may hold what each run began with. `I j` holds between the states of the two runs
+-- where j passes are left.
 module _ {S A : Type 0} (step step' : S → S) (stop stop' : S → Bool) (found spent found' spent' : S → ℕ → A) (R : A → A → Type 0)
     (I : ℕ → S → S → Type 0) (cap : ℕ)
     (pass : (j : ℕ) (s t : S) → j < cap → I (suc j) s t → I j (step s) (step' t))
@@ -87,14 +91,16 @@ module _ {S A : Type 0} (step step' : S → S) (stop stop' : S → Bool) (found 
   loops-two (suc j) true s t n h p i = ends (suc j) s t n h i (p tt)
   loops-two (suc j) false s t n h p i =
       let i' = pass j s t h i in
-      subst (λ b. R (capped step stop found spent j (stop (step s)) (step s) (suc n)) (capped step' stop' found' spent' j b (step' t) (suc n)))
+      subst (λ b. R (capped step stop found spent j (stop (step s)) (step s) (suc n))
+      (capped step' stop' found' spent' j b (step' t) (suc n)))
       (test j (step s) (step' t) h i')
       (loops-two j (stop (step s)) (step s) (step' t) (suc n) (le-of-lt h) (λ q. q) i')
 
 -- of one step and one test
 pub loop-two : {S A : Type 0} (step : S → S) (stop : S → Bool) (found spent found' spent' : S → ℕ → A) (R : A → A → Type 0)
     (I : ℕ → S → S → Type 0) (cap : ℕ)
-    → ((j : ℕ) (s t : S) → j < cap → I (suc j) s t → I j (step s) (step t)) → ((j : ℕ) (s t : S) → j < cap → I j s t → stop s ≡ stop t)
+    → ((j : ℕ) (s t : S) → j < cap → I (suc j) s t → I j (step s) (step t))
+    → ((j : ℕ) (s t : S) → j < cap → I j s t → stop s ≡ stop t)
     → ((j : ℕ) (s t : S) (n : ℕ) → j ≤ cap → I j s t → T (stop s) → R (found s n) (found' t n))
     → ((s t : S) (n : ℕ) → I 0 s t → R (spent s n) (spent' t n))
     → (j : ℕ) (b : Bool) (s t : S) (n : ℕ) → j ≤ cap → (T b → T (stop s)) → I j s t

@@ -1,6 +1,6 @@
--- Demand 3, units drop out exactly, stated of demand 2's definitions as document 01 has it ("How tight the contracts are"). Definitions only:
--- what is claimed of two calls of an entry, the second with every argument multiplied by 4 ^ u / 4 ^ d. As u and d are any natural numbers,
--- their difference is a whole number k of either sign.
+-- Demand 3, units drop out exactly, stated of demand 2's definitions as document 01 has it ("How tight the contracts are").
+-- Definitions only: what is claimed of two calls of an entry, the second with every argument multiplied by 4 ^ u / 4 ^ d. As u
+-- and d are any natural numbers, their difference is a whole number k of either sign.
 use Prim.Native.Nat.{ℕ, _*_, _^_}
 use mathlib.Core.Path.{_≡_}
 use mathlib.Core.Logic.{_⊎_}
@@ -16,7 +16,7 @@ use Rattle.carlson.specs.declared.answer.Way.{Way}
 use Rattle.carlson.specs.declared.answer.Answer.{Answer}
 use Rattle.carlson.specs.declared.answer.Answer.the-variants.{Value, Refused}
 
--- 2 ^ -64 and 2 ^ 64
+-- 2 ^ -64 and 2 ^ 64, by their bits
 abbrev pub least : Float
 least = bits 0x3BF0_0000_0000_0000
 
@@ -40,8 +40,9 @@ pub record Times (u d : ℕ) (x y : Float) : Type 0 where
 abbrev pub TimesFour : ℕ → ℕ → Float → Float → Type 0
 TimesFour u d x y = Times (2 * u) (2 * d) x y
 
--- Two answers are alike: both refused with one number, or both values found on one way, with one round count, the second value being the
--- first times 2 ^ u / 2 ^ d.
+-- Two answers are alike: both refused with one number, or both values found on one way, with one round count, the second value
+-- being the first times 2 ^ u / 2 ^ d.
 pub data Alike (u d : ℕ) : Answer → Answer → Type 0 where
   refused : {n : ℕ} → Alike u d (Refused n) (Refused n)
-  values : {v w : Float} {c : Way} → Times u d v w → Alike u d (Value (record { value = v; way = c })) (Value (record { value = w; way = c }))
+  values : {v w : Float} {c : Way} → Times u d v w → Alike u d (Value (record { value = v; way = c }))
+      (Value (record { value = w; way = c }))

@@ -28,7 +28,8 @@ pub record Fact (A X : ℕ) (s : Bool) (m : ℕ) : Type 0 where
 difference : (A X : ℕ) → Fact A X (addS false A true X) (near binary64 (addN false A true X) 1)
 difference A X = go (ltb A X) (ltb→lt A X) (nltb→le A X)
   where
-    go : (b : Bool) → (T b → A < X) → (T (not b) → X ≤ A) → Fact A X (cond b true (false && ltb X A)) (near binary64 (cond b (X - A) (A - X)) 1)
+    go : (b : Bool) → (T b → A < X) → (T (not b) → X ≤ A)
+        → Fact A X (cond b true (false && ltb X A)) (near binary64 (cond b (X - A) (A - X)) 1)
     go true h k =
         let l = h tt in
         let z : A - X ≡ 0 = omega arith in
@@ -52,7 +53,12 @@ gap {k} m (none z) =
     let w : Nothing binary64 _ _ = record { s = not (z .s); first = neg-units (z .first); second = neg-units (z .second) } in
     let s = skip-last (lit< tt) w m tt tt tt in
     let u = skip-last-units (lit< tt) w m tt tt tt in
-    record { two = widen-two s tt; first = whole (m .m) (s .s) (s .m) (u .0) (u .1); second = whole (m .n) (s .s) (s .n) (u .0) (u .2) }
+    record {
+      two = widen-two s tt;
+      first = whole (m .m) (s .s) (s .m) (u .0) (u .1);
+      second =
+          whole (m .n) (s .s) (s .n) (u .0) (u .2);
+    }
 gap {k} m (some b) =
     let S : m .s ≡ false = m .in-first .sign tt in
     let R : not (b .s) ≡ true = ap not (b .in-first .sign tt) in
@@ -60,17 +66,20 @@ gap {k} m (some b) =
       two = widen-two (sub-two m b tt) tt;
       first = signed (m .m) (b .m) (m .s) (not (b .s)) S R;
       second = subst (λ (s : Bool). Fact (m .n) (b .n) s (near binary64 (addN (m .s) (m .n) (not (b .s)) (b .n)) 1))
-          (addS-cross (2 ^ (k * 0)) (2 ^ (k * 2)) (m .n) (b .n) (m .m) (b .m) (pow-pos (k * 0)) (pow-pos (k * 2)) (m .tie) (b .tie) (m .s)
+          (addS-cross (2 ^ (k * 0)) (2 ^ (k * 2)) (m .n) (b .n) (m .m) (b .m) (pow-pos (k * 0)) (pow-pos (k * 2)) (m .tie)
+          (b .tie) (m .s)
           (not (b .s)))
           (signed (m .n) (b .n) (m .s) (not (b .s)) S R);
     }
 
 -- ---- the bound of a difference below zero, of one run: M is above the parts above zero
-pub bounded : (A X Y Z M G : ℕ) (s t r : Bool) (m n : ℕ) → off * (X + Y + 3 * Z) ≤ (off + 4) * (5 * A) → Fact A X s G → Fact A Y t m → Fact A Z r n
+pub bounded : (A X Y Z M G : ℕ) (s t r : Bool) (m n : ℕ) → off * (X + Y + 3 * Z) ≤ (off + 4) * (5 * A) → Fact A X s G
+    → Fact A Y t m → Fact A Z r n
     → above s G ≤ M → above t m ≤ M → above r n ≤ M → 2 ^ 40 * G ≤ 6 * 2 ^ 40 * M + A
 bounded A X Y Z M G false t r m n law x y z h i j = high-side G M A h
 bounded A X Y Z M G true t r m n law x y z h i j =
-    low-side G (X - A) (A - Y) (A - Z) A M (x .less) (above-mean off X Y Z A law) (le-trans (y .more) (mul-le-mul-left (suc off) i))
+    low-side G (X - A) (A - Y) (A - Z) A M (x .less) (above-mean off X Y Z A law)
+    (le-trans (y .more) (mul-le-mul-left (suc off) i))
     (le-trans (z .more) (mul-le-mul-left (suc off) j))
 
 -- the sum in another order

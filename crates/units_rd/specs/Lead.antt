@@ -1,6 +1,7 @@
--- Why RD's series is taken only at small arguments, though its bound q is of signed differences. All numbers are units: l is the units of 1.
--- M is the largest difference a - x, a - y, a - z above zero, as rounded; q is 64 times that at least, so the differences above zero are small where
--- the loop ends. One below zero is no more than the others' weight in the mean, up to the roundings: G ≤ 6 M + a / 2 ^ 40. Assumes nothing.
+-- Why RD's series is taken only at small arguments, though its bound q is of signed differences. All numbers are units: l is
+-- the units of 1. M is the largest difference a - x, a - y, a - z above zero, as rounded; q is 64 times that at least, so the
+-- differences above zero are small where the loop ends. One below zero is no more than the others' weight in the mean, up to
+-- the roundings: G ≤ 6 M + a / 2 ^ 40. Assumes nothing.
 use mathlib.Core.Path.{_≡_, sym, ap, _∙_}
 use mathlib.Core.Logic.{inl, inr}
 use mathlib.Core.List.{[], _∷_}
@@ -25,7 +26,8 @@ below-mean : Order 6 (λ g p b c a m.
     ⊩ con (2 ^ 104) :* (con (2 ^ 40) :* g) ≈ con (2 ^ 104) :* (con (6 * 2 ^ 40) :* m :+ a))
 below-mean = by-below tt
 
-pub low-side : (g p b c a m : ℕ) → 2 ^ 52 * g ≤ (2 ^ 52 + 1) * p → 2 ^ 52 * p ≤ 2 ^ 52 * (b + 3 * c) + 20 * a → 2 ^ 52 * b ≤ (2 ^ 52 + 1) * m
+pub low-side : (g p b c a m : ℕ) → 2 ^ 52 * g ≤ (2 ^ 52 + 1) * p → 2 ^ 52 * p ≤ 2 ^ 52 * (b + 3 * c) + 20 * a
+    → 2 ^ 52 * b ≤ (2 ^ 52 + 1) * m
     → 2 ^ 52 * c ≤ (2 ^ 52 + 1) * m → 2 ^ 40 * g ≤ 6 * 2 ^ 40 * m + a
 low-side g p b c a m h i j k = le-of-mul-le-mul-left (below-mean .law g p b c a m h i j k) (pow-pos 104)
 
@@ -40,7 +42,8 @@ spare M j p t n e s h =
       | inl g ↦ g
       | inr g ↦
           absurd (not-le-of-lt (lt-of-le-of-lt (le-of-eq e)
-          (lt-of-lt-of-le (mul-lt-mul-of-pos-right s (pow-pos j)) (le-trans (le-of-eq (sym (pow-add 2 p j))) (pow-mono (more p j (le-of-lt g)))))) h)
+          (lt-of-lt-of-le (mul-lt-mul-of-pos-right s (pow-pos j))
+          (le-trans (le-of-eq (sym (pow-add 2 p j))) (pow-mono (more p j (le-of-lt g)))))) h)
     ]
   where
     more : (p j : ℕ) → j ≤ t → p + j ≤ p + t
@@ -80,7 +83,8 @@ ends-small f G M a W A i D e big pos h j k =
     (near-mono f (C * l) A (1 * 2 ^ i * 1) 1 pos (zero-lt-suc 0) (last-step .law C l (2 ^ i) A (le-of-eq s) C-small))
     (le-of-eq (near-exact f 1 i 1 (zero-lt-suc 0) (pow-lt (digits f)) ∙ (let r : 1 * 2 ^ i ≡ 2 ^ i = omega arith in r)))
   where
-    last-step : Order 4 (λ c l i a. (c times l ≼ i :* con 8) ∷ (i times c :* con 8 ≼ a) ∷ [] ⊩ c :* l :* con 1 ≈ con 1 :* i :* con 1 :* a)
+    last-step : Order 4 (λ c l i a. (c times l ≼ i :* con 8) ∷ (i times c :* con 8 ≼ a)
+        ∷ [] ⊩ c :* l :* con 1 ≈ con 1 :* i :* con 1 :* a)
     last-step = by-below tt
 
 -- ---- what a pass keeps
@@ -100,7 +104,8 @@ lead-kept M W Q W' Q' l e g h =
 pub mean-kept : (a W A W' A' l : ℕ) → W' * 4 ≡ W → A ≤ A' * 4 → a * W ≤ A * l → a * W' ≤ A' * l
 mean-kept a W A W' A' l e g h =
     le-of-mul-le-mul-left
-    (le-trans (le-of-eq (left a W' ∙ ap (λ (z : ℕ). a * z) e)) (le-trans h (le-trans (mul-le-mul-right l g) (le-of-eq (right A' l))))) (zero-lt-suc 3)
+    (le-trans (le-of-eq (left a W' ∙ ap (λ (z : ℕ). a * z) e))
+    (le-trans h (le-trans (mul-le-mul-right l g) (le-of-eq (right A' l))))) (zero-lt-suc 3)
   where
     left : (m w : ℕ) → 4 * (m * w) ≡ m * (w * 4)
     left m w = omega arith

@@ -19,7 +19,8 @@ use Rattle.units_rd.specs.Step.{Inv, step-inv}
 use Rattle.units_rd.specs.Start.{m, gx, gy, gz, xy, xyz, largest, largest', started}
 use Rattle.units_rd.specs.Series.{valueK, test-two, ended, correction-two, series-two}
 
-module _ {k : ℕ} {x x' y y' z z' : Float} (a : Arg k x x') (b : Arg k y y') (c : Two binary64 k argK z z') (h : T (some? a || some? b)) where
+module _ {k : ℕ} {x x' y y' z z' : Float} (a : Arg k x x') (b : Arg k y y') (c : Two binary64 k argK z z')
+    (h : T (some? a || some? b)) where
   abbrev pub I : ℕ → Round → Round → Type 0
   I j s t = Inv k j (largest a b c h) (largest' a b c h) (m a b c h .two .m) (m a b c h .two .n) s t
 
@@ -43,24 +44,29 @@ module _ {k : ℕ} {x x' y y' z z' : Float} (a : Arg k x x') (b : Arg k y y') (c
   y-above' = le-trans (xy a b c h .right-second) (xyz a b c h .left-second)
 
   x-bound : 2 ^ 40 * gx a b c h .two .m ≤ 6 * 2 ^ 40 * largest a b c h + A
-  x-bound = bounded A (units a) (units b) (c .m) (largest a b c h) _ _ _ _ _ _ (m a b c h .first) (gx a b c h .first) (gy a b c h .first)
+  x-bound = bounded A (units a) (units b) (c .m) (largest a b c h) _ _ _ _ _ _ (m a b c h .first) (gx a b c h .first)
+      (gy a b c h .first)
       (gz a b c h .first) x-above y-above (xyz a b c h .right)
 
   x-bound' : 2 ^ 40 * gx a b c h .two .n ≤ 6 * 2 ^ 40 * largest' a b c h + A'
-  x-bound' = bounded A' (units' a) (units' b) (c .n) (largest' a b c h) _ _ _ _ _ _ (m a b c h .second) (gx a b c h .second) (gy a b c h .second)
+  x-bound' = bounded A' (units' a) (units' b) (c .n) (largest' a b c h) _ _ _ _ _ _ (m a b c h .second) (gx a b c h .second)
+      (gy a b c h .second)
       (gz a b c h .second) x-above' y-above' (xyz a b c h .right-second)
 
   y-bound : 2 ^ 40 * gy a b c h .two .m ≤ 6 * 2 ^ 40 * largest a b c h + A
-  y-bound = bounded A (units b) (units a) (c .m) (largest a b c h) _ _ _ _ _ _ (turned (units a) (units b) (c .m) A (m a b c h .first))
+  y-bound = bounded A (units b) (units a) (c .m) (largest a b c h) _ _ _ _ _ _
+      (turned (units a) (units b) (c .m) A (m a b c h .first))
       (gy a b c h .first) (gx a b c h .first) (gz a b c h .first) y-above x-above (xyz a b c h .right)
 
   y-bound' : 2 ^ 40 * gy a b c h .two .n ≤ 6 * 2 ^ 40 * largest' a b c h + A'
-  y-bound' = bounded A' (units' b) (units' a) (c .n) (largest' a b c h) _ _ _ _ _ _ (turned (units' a) (units' b) (c .n) A' (m a b c h .second))
+  y-bound' = bounded A' (units' b) (units' a) (c .n) (largest' a b c h) _ _ _ _ _ _
+      (turned (units' a) (units' b) (c .n) A' (m a b c h .second))
       (gy a b c h .second) (gx a b c h .second) (gz a b c h .second) y-above' x-above' (xyz a b c h .right-second)
 
   -- ---- where it ends
   pub value-two : (j : ℕ) (s t : Round) → j ≤ 50 → I j s t → T (rdClose s)
-      → Two binary64 k valueK (rdSeries x y (rdMean x y z) (s .an) (s .fnval) (s .sum)) (rdSeries x' y' (rdMean x' y' z') (t .an) (t .fnval) (t .sum))
+      → Two binary64 k valueK (rdSeries x y (rdMean x y z) (s .an) (s .fnval) (s .sum))
+      (rdSeries x' y' (rdMean x' y' z') (t .an) (t .fnval) (t .sum))
   unfolding rdClose
   value-two j s t l i close =
       let K = i .kept in
@@ -69,10 +75,12 @@ module _ {k : ℕ} {x x' y y' z z' : Float} (a : Arg k x x') (b : Arg k y y') (c
       let lead = le-trans (K .lead) (mul-le-mul-right (2 ^ low binary64) (e .0)) in
       let lead' = le-trans (K .lead') (mul-le-mul-right (2 ^ low binary64) (e .1)) in
       let X =
-      correction-two j (rdMean x y z) (rdMean x' y' z') x x' f (K .a) (K .w) (gx a b c h .two) (largest a b c h) (largest' a b c h) A A'
+      correction-two j (rdMean x y z) (rdMean x' y' z') x x' f (K .a) (K .w) (gx a b c h .two) (largest a b c h)
+      (largest' a b c h) A A'
       x-bound x-bound' lead lead' (K .base) (K .base') in
       let Y =
-      correction-two j (rdMean x y z) (rdMean x' y' z') y y' f (K .a) (K .w) (gy a b c h .two) (largest a b c h) (largest' a b c h) A A'
+      correction-two j (rdMean x y z) (rdMean x' y' z') y y' f (K .a) (K .w) (gy a b c h .two) (largest a b c h)
+      (largest' a b c h) A A'
       y-bound y-bound' lead lead' (K .base) (K .base') in
       series-two j x x' y y' (rdMean x y z) (rdMean x' y' z') f (K .a) (K .w) (K .sum) X Y
 
@@ -93,7 +101,9 @@ module _ {k : ℕ} {x x' y y' z z' : Float} (a : Arg k x x') (b : Arg k y y') (c
       let s = rdStep (rdBegin x y z) in
       let t = rdStep (rdBegin x' y' z') in
       let i = started a b c h in
-      subst (λ (b : Bool). Same k valueK (rdDuplication x y z) (capped rdStep rdClose (rdFound x' y' (rdMean x' y' z')) rdSpent 49 b t 1))
+      subst (λ (b : Bool). Same k valueK (rdDuplication x y z)
+      (capped rdStep rdClose (rdFound x' y' (rdMean x' y' z')) rdSpent 49 b t 1))
       (same-test 49 s t i)
-      (loop-two rdStep rdClose (rdFound x y (rdMean x y z)) rdSpent (rdFound x' y' (rdMean x' y' z')) rdSpent (Same k valueK) I 49 pass
+      (loop-two rdStep rdClose (rdFound x y (rdMean x y z)) rdSpent (rdFound x' y' (rdMean x' y' z')) rdSpent (Same k valueK)
+      I 49 pass
       (λ j s t l i. same-test j s t i) ends (λ s t n i. duplicated n neither) 49 (rdClose s) s t 1 (le-refl 49) (λ q. q) i)

@@ -1,5 +1,5 @@
--- RD's first mean a = (x + y + 3z) / 5 and the differences a - x, a - y, a - z in two runs, and how far their roundings can be off.
--- x or y may be a zero of either sign. Assumes nothing.
+-- RD's first mean a = (x + y + 3z) / 5 and the differences a - x, a - y, a - z in two runs, and how far their roundings can be
+-- off. x or y may be a zero of either sign. Assumes nothing.
 use mathlib.Core.Path.{_≡_, sym, ap, ap₂, _∙_}
 use mathlib.Core.Logic.{inl, inr}
 use Prim.Native.Nat.{ℕ, suc, _+_, _*_, _^_, _≤_, _<_}
@@ -37,7 +37,8 @@ whole-not-less n =
     exact : (n : ℕ) → n < off → near binary64 n 1 ≡ n
     exact n h =
         let one : n * 2 ^ 0 * 1 ≡ n = omega arith in
-        ap (λ (z : ℕ). near binary64 z 1) (sym one) ∙ near-exact binary64 n 0 1 (zero-lt-suc 0) (let r : n < 2 ^ 53 = omega arith in r) ∙ mul-one n
+        ap (λ (z : ℕ). near binary64 z 1) (sym one) ∙ near-exact binary64 n 0 1 (zero-lt-suc 0)
+        (let r : n < 2 ^ 53 = omega arith in r) ∙ mul-one n
 
 pub whole-not-more : (n : ℕ) → off * near binary64 n 1 ≤ suc off * n
 whole-not-more n =
@@ -51,9 +52,11 @@ whole-not-more n =
     exact : (n : ℕ) → n < off → near binary64 n 1 ≡ n
     exact n h =
         let one : n * 2 ^ 0 * 1 ≡ n = omega arith in
-        ap (λ (z : ℕ). near binary64 z 1) (sym one) ∙ near-exact binary64 n 0 1 (zero-lt-suc 0) (let r : n < 2 ^ 53 = omega arith in r) ∙ mul-one n
+        ap (λ (z : ℕ). near binary64 z 1) (sym one) ∙ near-exact binary64 n 0 1 (zero-lt-suc 0)
+        (let r : n < 2 ^ 53 = omega arith in r) ∙ mul-one n
 
--- ---- kinds: an argument above zero, and the running mean and arguments, which a first pass with a zero may take to a quarter of the least
+-- ---- kinds: an argument above zero, and the running mean and arguments, which a first pass with a zero may take to a quarter
+-- of the least
 abbrev pub argK : Kind
 argK = record { any = false; zer = false; lo = 2 ^ 1010; hi = 2 ^ 1138; g = last binary64 (2 ^ 1010); u = 2; d = 0 }
 
@@ -131,7 +134,8 @@ pair (some a) (some b) h =
     }
   where
     plain : (m n : ℕ) (s t : Bool) → s ≡ false → t ≡ false → off * (m + n) ≤ suc off * near binary64 (addN s m t n) 1
-    plain m n s t e g = le-trans (whole-not-less (m + n)) (le-of-eq (ap₂ (λ (s t : Bool). suc off * near binary64 (addN s m t n) 1) (sym e) (sym g)))
+    plain m n s t e g = le-trans (whole-not-less (m + n))
+        (le-of-eq (ap₂ (λ (s t : Bool). suc off * near binary64 (addN s m t n) 1) (sym e) (sym g)))
 
 -- ---- the mean
 pub record Mean {k : ℕ} {x x' y y' z z' : Float} (a : Arg k x x') (b : Arg k y y') (c : Two binary64 k argK z z') : Type 0 where
@@ -153,16 +157,20 @@ fifth t =
 
 -- of one run: P is the units of x + y
 one-run : (X Y Z P : ℕ) (s t : Bool) → s ≡ false → t ≡ false → 2 ^ 60 ≤ P → off * (X + Y) ≤ suc off * P
-    → off * (X + Y + 3 * Z) ≤ (off + 4) * (5 * near binary64 (near binary64 (addN s P t (near binary64 (3 * l * Z) l)) 1 * l) (5 * l))
+    → off * (X + Y + 3 * Z) ≤ (off + 4) * (5 * near binary64 (near binary64 (addN s P t (near binary64 (3 * l * Z) l)) 1 * l)
+    (5 * l))
 one-run X Y Z P s t e g big h =
     let v = near binary64 (3 * l * Z) l in
     let w = near binary64 (addN s P t v) 1 in
-    let V-law : off * (3 * Z) ≤ suc off * v = le-trans (whole-not-less (3 * Z)) (le-of-eq (ap (λ (n : ℕ). suc off * n) (sym (triple Z)))) in
+    let V-law : off * (3 * Z) ≤ suc off * v = le-trans (whole-not-less (3 * Z))
+    (le-of-eq (ap (λ (n : ℕ). suc off * n) (sym (triple Z)))) in
     let W-law : off * (P + v) ≤ suc off * w =
-    le-trans (whole-not-less (P + v)) (le-of-eq (ap₂ (λ (s t : Bool). suc off * near binary64 (addN s P t v) 1) (sym e) (sym g))) in
+    le-trans (whole-not-less (P + v)) (le-of-eq (ap₂ (λ (s t : Bool). suc off * near binary64 (addN s P t v) 1) (sym e)
+    (sym g))) in
     let normal : off * 5 ≤ w = enough P v w big W-law in
     let last : off * w ≤ suc off * (near binary64 w 5 * 5) = near-not-less binary64 w 5 (zero-lt-suc 4) normal in
-    le-trans (mean-not-less off X Y (3 * Z) P v w (near binary64 w 5) (lit≤ tt) h V-law W-law (le-trans last (le-of-eq (turned (near binary64 w 5)))))
+    le-trans (mean-not-less off X Y (3 * Z) P v w (near binary64 w 5) (lit≤ tt) h V-law W-law
+    (le-trans last (le-of-eq (turned (near binary64 w 5)))))
     (le-of-eq (ap (λ (n : ℕ). (off + 4) * (5 * n)) (sym (fifth w))))
   where
     enough : (P v w : ℕ) → 2 ^ 60 ≤ P → off * (P + v) ≤ suc off * w → off * 5 ≤ w
@@ -171,7 +179,8 @@ one-run X Y Z P s t e g big h =
     turned : (n : ℕ) → suc off * (n * 5) ≡ suc off * (5 * n)
     turned n = omega arith
 
-pub mean : {k : ℕ} {x x' y y' z z' : Float} (a : Arg k x x') (b : Arg k y y') (c : Two binary64 k argK z z') → T (some? a || some? b) → Mean a b c
+pub mean : {k : ℕ} {x x' y y' z z' : Float} (a : Arg k x x') (b : Arg k y y') (c : Two binary64 k argK z z')
+    → T (some? a || some? b) → Mean a b c
 unfolding rdMean mulK mulOk divK divOk plusK plusOk within mul-two div-two plus-two summed widen-two lit-two litOk ofBits
 mean a b c h =
     let p = pair a b h in
@@ -181,6 +190,8 @@ mean a b c h =
     let big : (n : ℕ) → 2 ^ 1010 ≤ n → 2 ^ 60 ≤ n = λ n g. le-trans (pow-mono {i = 60} {j = 1010} (lit≤ tt)) g in
     record {
       two = widen-two (div-two (plus-two (p .two) w tt) (lit-two (bits 0x4014_0000_0000_0000) tt) tt) tt;
-      first = one-run (units a) (units b) (c .m) (p .two .m) (p .two .s) (w .s) S W (big (p .two .m) (floor-le (p .two .in-first))) (p .first);
-      second = one-run (units' a) (units' b) (c .n) (p .two .n) (p .two .s) (w .s) S W (big (p .two .n) (floor-le (p .two .in-second))) (p .second);
+      first = one-run (units a) (units b) (c .m) (p .two .m) (p .two .s) (w .s) S W
+          (big (p .two .m) (floor-le (p .two .in-first))) (p .first);
+      second = one-run (units' a) (units' b) (c .n) (p .two .n) (p .two .s) (w .s) S W
+          (big (p .two .n) (floor-le (p .two .in-second))) (p .second);
     }

@@ -32,7 +32,16 @@ abbrev pub sideK : Kind
 sideK = record { any = false; zer = false; lo = 2 ^ 1042; hi = 2 ^ 1106; g = last binary64 (2 ^ 1042); u = 1; d = 0 }
 
 abbrev pub doubleK : ℕ → Kind
-doubleK j = record { any = false; zer = false; lo = 2 ^ (1112 - j); hi = 2 ^ (1112 - j); g = last binary64 (2 ^ (1112 - j)); u = 0; d = 0 }
+doubleK j = record {
+  any = false;
+  zer = false;
+  lo = 2 ^ (1112 - j);
+  hi = 2 ^ (1112 - j);
+  g = last binary64 (2 ^ (1112 - j));
+  u =
+      0;
+  d = 0;
+}
 
 abbrev pub anyDoubleK : Kind
 anyDoubleK = record { any = false; zer = false; lo = 2 ^ 1072; hi = 2 ^ 1112; g = last binary64 (2 ^ 1072); u = 0; d = 0 }
@@ -82,7 +91,8 @@ unfolding all within
 any-squares = every 41 (λ j. within (squaresK j) (squaresK 0)) tt
 
 -- the power of two doubles
-pub double-two : {k j : ℕ} {p p' : Float} → j < 40 → Two binary64 k (doubleK (suc j)) p p' → Two binary64 k (doubleK j) (p ⊗ two) (p' ⊗ two)
+pub double-two : {k j : ℕ} {p p' : Float} → j < 40 → Two binary64 k (doubleK (suc j)) p p'
+    → Two binary64 k (doubleK j) (p ⊗ two) (p' ⊗ two)
 unfolding doubleOk twoK litOk ofBits
 double-two {j = j} h p =
     let o = mulOk binary64 (doubleK (suc j)) twoK in
@@ -111,10 +121,12 @@ module _ {k : ℕ} {x x' y y' : Float} (X : Two binary64 k sideK x x') (Y : Two 
 
   pub apart-two : apart x y ≡ apart x' y'
   unfolding apart mulK mulOk sumK sumOk litOk ofBits
-  apart-two = le-two (mul-two (mul-two (lit-two (bits 0x4005_9999_9999_999A) tt) (lit-two (bits 0x3CB0_0000_0000_0000) tt) tt) (abs-two X) tt)
+  apart-two = le-two (mul-two (mul-two (lit-two (bits 0x4005_9999_9999_999A) tt) (lit-two (bits 0x3CB0_0000_0000_0000) tt) tt)
+      (abs-two X) tt)
       (abs-two (sub-two X Y tt)) tt
 
-pub square-two : {k : ℕ} {p p' x x' y y' : Float} → Two binary64 k anyDoubleK p p' → Two binary64 k sideK x x' → Two binary64 k sideK y y'
+pub square-two : {k : ℕ} {p p' x x' y y' : Float} → Two binary64 k anyDoubleK p p' → Two binary64 k sideK x x'
+    → Two binary64 k sideK y y'
     → Two binary64 k squareK (p ⊗ (x ⊖ y) ⊗ (x ⊖ y)) (p' ⊗ (x' ⊖ y') ⊗ (x' ⊖ y'))
 unfolding mulK mulOk sumK sumOk within
 square-two p x y = let d = sub-two x y tt in widen-two (mul-two (mul-two p d tt) d tt) tt
@@ -144,7 +156,8 @@ value-two : {k : ℕ} {x x' y y' u u' v v' w w' q q' s s' : Float} → Two binar
     (((x' ⊕ three ⊗ y') ⊘ (four ⊗ v' ⊗ (x' ⊕ y')) ⊖ s' ⊘ (v' ⊗ (u' ⊖ v'))) ⊗ (pi ⊘ (w' ⊕ q')) ⊗ three)
 unfolding mulK mulOk divK divOk plusK plusOk sumK sumOk distinctK within litOk ofBits
 value-two x y u v h w q s =
-    let first = div-two (plus-two x (mul-two (lit-two three tt) y tt) tt) (mul-two (mul-two (lit-two four tt) v tt) (plus-two x y tt) tt) tt in
+    let first = div-two (plus-two x (mul-two (lit-two three tt) y tt) tt)
+    (mul-two (mul-two (lit-two four tt) v tt) (plus-two x y tt) tt) tt in
     let second = div-two s (mul-two v (distinct-two u v h tt tt tt) tt) tt in
     let rest = sub-two (widen-two {B = firstK} first tt) (widen-two {B = secondK} second tt) tt in
     widen-two (mul-two (mul-two rest (div-two (lit-two pi tt) (plus-two w q tt) tt) tt) (lit-two three tt) tt) tt
@@ -175,9 +188,12 @@ module _ {k : ℕ} {y y' z z' : Float} (Y : Two binary64 k argK y y') (Z : Two b
   agm-two =
       let s = rdAgmStart y z in
       let t = rdAgmStart y' z' in
-      subst (λ (b : Bool). Ran k agmK (rdAgmOf y z) (capped sumsOf rdTogether (rdAgmFound (root y') (root z') y' z') rdAgmSpent 40 b t 0))
+      subst (λ (b : Bool). Ran k agmK (rdAgmOf y z) (capped sumsOf rdTogether (rdAgmFound (root y') (root z') y' z')
+      rdAgmSpent 40 b t 0))
       (same-test 40 s t begun)
-      (loop-two sumsOf rdTogether (rdAgmFound (root y) (root z) y z) rdAgmSpent (rdAgmFound (root y') (root z') y' z') rdAgmSpent (Ran k agmK)
+      (loop-two sumsOf rdTogether (rdAgmFound (root y) (root z) y z) rdAgmSpent (rdAgmFound (root y') (root z') y' z')
+      rdAgmSpent (Ran k agmK)
       (Inv k) 40
-      (pass k) (λ j s t l i. same-test j s t i) (λ j s t n l i q. ends j s t n l i) (λ s t n i. refusal) 40 (rdTogether s) s t 0 (le-refl 40)
+      (pass k) (λ j s t l i. same-test j s t i) (λ j s t n l i q. ends j s t n l i) (λ s t n i. refusal) 40 (rdTogether s) s t 0
+      (le-refl 40)
       (λ q. q) begun)

@@ -1,5 +1,6 @@
--- DEMAND 3 FOR RD (document 01): with every argument zero or of size from 2 ^ -64 to 2 ^ 64, before and after all are multiplied by 4 ^ k, both calls
--- are refused alike, or have one round count and the second value is the first times exactly 2 ^ -3k. Assumes nothing.
+-- DEMAND 3 FOR RD (document 01): with every argument zero or of size from 2 ^ -64 to 2 ^ 64, before and after all are
+-- multiplied by 4 ^ k, both calls are refused alike, or have one round count and the second value is the first times exactly 2
+-- ^ -3k. Assumes nothing.
 use mathlib.Core.Path.{_≡_, sym, ap, ap₂, subst, subst₂}
 use Prim.Native.Nat.{ℕ, _+_, _*_}
 use native.Mathlib.Omega.{arith}
@@ -61,7 +62,8 @@ module _ {k : ℕ} {x x' y y' z z' : Float} (X : Two binary64 k argumentK x x') 
       (sym (unscaled x' y' z' (second-size X) (second-size Y) (second-size Z))) (settle r))
 
   -- RD as RJ calls it, with z above zero
-  pub unchecked-ran : T (not (lt x zero)) → T (not (lt y zero)) → T (not (eq x zero && eq y zero)) → T (not (lt z zero)) → T (not (eq z zero))
+  pub unchecked-ran : T (not (lt x zero)) → T (not (lt y zero)) → T (not (eq x zero && eq y zero)) → T (not (lt z zero))
+      → T (not (eq z zero))
       → Ran k agmK (rdUnchecked x y z) (rdUnchecked x' y' z')
   unchecked-ran hx hy nz hz n =
       subst₂ (Ran k agmK) (sym (unscaled x y z (first-size X) (first-size Y) (first-size Z)))
@@ -77,7 +79,8 @@ module _ {k : ℕ} {x x' y y' z z' : Float} (X : Two binary64 k argumentK x x') 
       choose (Pair k agmK) (le z zero) (le z' zero) (ap₂ _||_ (lt-zero-two Z) (zero-two Z)) (λ v. no)
       (λ v.
       let n = neither-below (X .first) (Y .first) t in
-      steps-pair (steps-two (above-two Z (nor-first (lt z zero) (eq z zero) v) (nor-second (lt z zero) (eq z zero) v)) X Y (n .0) (n .1) u))))
+      steps-pair (steps-two (above-two Z (nor-first (lt z zero) (eq z zero) v) (nor-second (lt z zero) (eq z zero) v)) X Y
+      (n .0) (n .1) u))))
     where
       nor-first : (a b : Bool) → T (not (a || b)) → T (not a)
       nor-first true b t = t
@@ -88,9 +91,11 @@ module _ {k : ℕ} {x x' y y' z z' : Float} (X : Two binary64 k argumentK x x') 
       nor-second false b t = t
 
 upward : (k d : ℕ) {x y z x' y' z' : Float} → InRange x → InRange y → InRange z → InRange x' → InRange y' → InRange z'
-    → TimesFour (k + d) d x x' → TimesFour (k + d) d y y' → TimesFour (k + d) d z z' → Alike (3 * d) (3 * (k + d)) (rd x y z) (rd x' y' z')
+    → TimesFour (k + d) d x x' → TimesFour (k + d) d y y' → TimesFour (k + d) d z z'
+    → Alike (3 * d) (3 * (k + d)) (rd x y z) (rd x' y' z')
 upward k d X Y Z X' Y' Z' p q r =
-    alike-of (3 * d) (3 * (k + d)) (3 * d) (none k d) (more k d) (rd-pair (argument k d X X' p) (argument k d Y Y' q) (argument k d Z Z' r))
+    alike-of (3 * d) (3 * (k + d)) (3 * d) (none k d) (more k d)
+    (rd-pair (argument k d X X' p) (argument k d Y Y' q) (argument k d Z Z' r))
   where
     none : (k d : ℕ) → 3 * d ≡ k * 0 + 3 * d
     none k d = omega arith
@@ -105,9 +110,11 @@ rd-scales u d {x} {y} {z} {x'} {y'} {z'} X Y Z X' Y' Z' p q r =
     either-way u d
     (λ k e.
     subst (λ n. Alike (3 * d) (3 * n) (rd x y z) (rd x' y' z')) (sym e)
-    (upward k d X Y Z X' Y' Z' (subst (λ n. TimesFour n d x x') e p) (subst (λ n. TimesFour n d y y') e q) (subst (λ n. TimesFour n d z z') e r)))
+    (upward k d X Y Z X' Y' Z' (subst (λ n. TimesFour n d x x') e p) (subst (λ n. TimesFour n d y y') e q)
+    (subst (λ n. TimesFour n d z z') e r)))
     (λ k e.
     alike-back
     (subst (λ n. Alike (3 * u) (3 * n) (rd x' y' z') (rd x y z)) (sym e)
-    (upward k u X' Y' Z' X Y Z (subst (λ n. TimesFour n u x' x) e (times-back p)) (subst (λ n. TimesFour n u y' y) e (times-back q))
+    (upward k u X' Y' Z' X Y Z (subst (λ n. TimesFour n u x' x) e (times-back p))
+    (subst (λ n. TimesFour n u y' y) e (times-back q))
     (subst (λ n. TimesFour n u z' z) e (times-back r)))))

@@ -1,5 +1,5 @@
--- RD's series in two runs: its corrections are the same in both and at most an eighth, so its factor lies between a half and two, and the value is
--- divided by 2 ^ 3k. Assumes nothing.
+-- RD's series in two runs: its corrections are the same in both and at most an eighth, so its factor lies between a half and
+-- two, and the value is divided by 2 ^ 3k. Assumes nothing.
 use mathlib.Core.Path.{_≡_, refl, _∙_, subst}
 use Prim.Native.Nat.{ℕ, _+_, _*_, _^_, _≤_, _<_}
 use native.Mathlib.Nat.{le-trans, lt-of-lt-of-le}
@@ -35,7 +35,8 @@ valueK = record { any = false; zer = false; lo = 2 ^ 850; hi = 2 ^ 1260; g = las
 
 -- ---- the factor
 -- what is subtracted from one is less than it
-less-two : {k : ℕ} {A B : Kind} {x x' y y' : Float} → Two binary64 k A x x' → Two binary64 k B y y' → T (nudgeOk binary64 A (negK B))
+less-two : {k : ℕ} {A B : Kind} {x x' y y' : Float} → Two binary64 k A x x' → Two binary64 k B y y'
+    → T (nudgeOk binary64 A (negK B))
     → Two binary64 k (nudgeK binary64 A (negK B)) (x ⊖ y) (x' ⊖ y')
 unfolding sub
 less-two a b ok = nudge-two a (neg-two b) ok
@@ -62,7 +63,8 @@ third-two e2 e3 e4 e5 =
     let t9 = nudge-two t8 (div-two (mul-two (mul-two three e2 tt) e4 tt) (lit-two (bits 0x4034_0000_0000_0000) tt) tt) tt in
     let t10 = nudge-two t9 (div-two (mul-two (mul-two (mul-two (lit-two (bits 0x4046_8000_0000_0000) tt) e2 tt) e2 tt) e3 tt)
     (lit-two (bits 0x4071_0000_0000_0000) tt) tt) tt in
-    let t11 = div-two (mul-two nine (sum-two (mul-two e3 e4 tt) (mul-two e2 e5 tt) tt) tt) (lit-two (bits 0x4051_0000_0000_0000) tt) tt in
+    let t11 = div-two (mul-two nine (sum-two (mul-two e3 e4 tt) (mul-two e2 e5 tt) tt) tt)
+    (lit-two (bits 0x4051_0000_0000_0000) tt) tt in
     widen-two (less-two t10 t11 tt) tt
 
 pub factor-two : {k : ℕ} {x x' y y' : Float} → Two binary64 k smallK x x' → Two binary64 k smallK y y'
@@ -112,7 +114,8 @@ correction-two j d d' x x' h A W G M M' B B' g g' lead lead' base base' =
     widen-two
     (clip-two (2 ^ 1071) (div-two (mul-two F G tt) A tt)
     (ends-small binary64 (G .m) M B (W .m) (A .m) 1071 (digits-of (A .first)) refl (far (A .m) l) (pos (A .m) l) g lead base)
-    (ends-small binary64 (G .n) M' B' (W .n) (A .n) 1071 (digits-of (A .second)) refl (far (A .n) l') (pos (A .n) l') g' lead' base'))
+    (ends-small binary64 (G .n) M' B' (W .n) (A .n) 1071 (digits-of (A .second)) refl (far (A .n) l') (pos (A .n) l')
+    g' lead' base'))
     tt
 
 sums-first : (j : ℕ) → j < 51 → T (within (sumsK j) (sumsK 0))

@@ -58,7 +58,8 @@ ahead-above : (C D : ℕ) (s : Bool) (M : ℕ) → Digits binary64 M → 64 * l 
 ahead-above C D true M G c d = zero-le
 ahead-above C D false M G c d = mul-le-mul-right l (ahead C D M G c d)
 
-module _ {k : ℕ} {x x' y y' z z' : Float} (a : Arg k x x') (b : Arg k y y') (c : Two binary64 k argK z z') (h : T (some? a || some? b)) where
+module _ {k : ℕ} {x x' y y' z z' : Float} (a : Arg k x x') (b : Arg k y y') (c : Two binary64 k argK z z')
+    (h : T (some? a || some? b)) where
   abbrev pub m : Mean a b c
   m = mean a b c h
 
@@ -95,12 +96,15 @@ module _ {k : ℕ} {x x' y y' z z' : Float} (a : Arg k x x') (b : Arg k y y') (c
   begun = record {
     z = argument;
     a = m .two;
-    q = widen-two (mul-two (mul-two (lit-two (bits 0x405A_E89F_995A_D3AD) tt) (xyz .two) tt) (lit-two (bits 0x3FF3_3333_3333_3333) tt) tt) tt;
+    q = widen-two (mul-two (mul-two (lit-two (bits 0x405A_E89F_995A_D3AD) tt) (xyz .two) tt)
+        (lit-two (bits 0x3FF3_3333_3333_3333) tt) tt) tt;
     w = widen-two (lit-two one tt) tt;
     sum = nothing-two (sumsK 50) (record { s = false; first = zero-is binary64; second = zero-is binary64 }) refl tt;
-    lead = ahead-above (litN binary64 (bits 0x405A_E89F_995A_D3AD)) (litN binary64 (bits 0x3FF3_3333_3333_3333)) (xyz .two .s) (xyz .two .m)
+    lead = ahead-above (litN binary64 (bits 0x405A_E89F_995A_D3AD)) (litN binary64 (bits 0x3FF3_3333_3333_3333)) (xyz .two .s)
+        (xyz .two .m)
         (digits-of (xyz .two .first)) (lit≤ tt) (lit≤ tt);
-    lead' = ahead-above (litN binary64 (bits 0x405A_E89F_995A_D3AD)) (litN binary64 (bits 0x3FF3_3333_3333_3333)) (xyz .two .s) (xyz .two .n)
+    lead' = ahead-above (litN binary64 (bits 0x405A_E89F_995A_D3AD)) (litN binary64 (bits 0x3FF3_3333_3333_3333)) (xyz .two .s)
+        (xyz .two .n)
         (digits-of (xyz .two .second)) (lit≤ tt) (lit≤ tt);
     base = le-refl _;
     base' = le-refl _;
@@ -120,14 +124,17 @@ unfolding rootK mulK mulOk within
 product x y = widen-two (mul-two (first-roots x) (first-roots y) tt) tt
 
 -- the zero's own next value
-next-two : {k : ℕ} {x x' v v' : Float} → Nothing binary64 x x' → Two binary64 k firstK v v' → Two binary64 k meanK ((x ⊕ v) ⊘ four) ((x' ⊕ v') ⊘ four)
+next-two : {k : ℕ} {x x' v v' : Float} → Nothing binary64 x x' → Two binary64 k firstK v v'
+    → Two binary64 k meanK ((x ⊕ v) ⊘ four) ((x' ⊕ v') ⊘ four)
 unfolding divK divOk within litOk ofBits
 next-two z v = widen-two (div-two (skip-first (lit< tt) z v tt tt tt) (lit-two four tt) tt) tt
 
 pub record First (k : ℕ) (x x' y y' z z' : Float) : Type 0 where
   pub lambda : Two binary64 k lambdaK (lambdaOf (root x) (root y) (root z)) (lambdaOf (root x') (root y') (root z'))
-  pub nextx : Two binary64 k meanK ((x ⊕ lambdaOf (root x) (root y) (root z)) ⊘ four) ((x' ⊕ lambdaOf (root x') (root y') (root z')) ⊘ four)
-  pub nexty : Two binary64 k meanK ((y ⊕ lambdaOf (root x) (root y) (root z)) ⊘ four) ((y' ⊕ lambdaOf (root x') (root y') (root z')) ⊘ four)
+  pub nextx : Two binary64 k meanK ((x ⊕ lambdaOf (root x) (root y) (root z)) ⊘ four)
+      ((x' ⊕ lambdaOf (root x') (root y') (root z')) ⊘ four)
+  pub nexty : Two binary64 k meanK ((y ⊕ lambdaOf (root x) (root y) (root z)) ⊘ four)
+      ((y' ⊕ lambdaOf (root x') (root y') (root z')) ⊘ four)
 
 wide : {k : ℕ} {x x' : Float} → Two binary64 k argK x x' → Two binary64 k meanK x x'
 unfolding within
@@ -137,7 +144,8 @@ wide-lambda : {k : ℕ} {x x' : Float} → Two binary64 k firstK x x' → Two bi
 unfolding within
 wide-lambda x = widen-two x tt
 
-pub first : {k : ℕ} {x x' y y' z z' : Float} (a : Arg k x x') (b : Arg k y y') (c : Two binary64 k argK z z') → T (some? a || some? b)
+pub first : {k : ℕ} {x x' y y' z z' : Float} (a : Arg k x x') (b : Arg k y y') (c : Two binary64 k argK z z')
+    → T (some? a || some? b)
     → First k x x' y y' z z'
 unfolding lambdaOf rootK
 first (none u) (none w) c h = absurd h
@@ -155,8 +163,10 @@ first (some a) (some b) c h =
     let L = lambda-two (roots-two (wide a)) (roots-two (wide b)) (roots-two (wide c)) in
     record { lambda = L; nextx = quarter-two (wide a) L; nexty = quarter-two (wide b) L }
 
-pub started : {k : ℕ} {x x' y y' z z' : Float} (a : Arg k x x') (b : Arg k y y') (c : Two binary64 k argK z z') (h : T (some? a || some? b))
-    → Inv k 49 (largest a b c h) (largest' a b c h) (m a b c h .two .m) (m a b c h .two .n) (rdStep (rdBegin x y z)) (rdStep (rdBegin x' y' z'))
+pub started : {k : ℕ} {x x' y y' z z' : Float} (a : Arg k x x') (b : Arg k y y') (c : Two binary64 k argK z z')
+    (h : T (some? a || some? b))
+    → Inv k 49 (largest a b c h) (largest' a b c h) (m a b c h .two .m) (m a b c h .two .n) (rdStep (rdBegin x y z))
+    (rdStep (rdBegin x' y' z'))
 unfolding rdStep rdMoved rdBegin
 started a b c h =
     let f = first a b c h in

@@ -31,15 +31,42 @@ use Rattle.units_rd.specs.Mean.{meanK}
 -- ---- kinds, with j passes left
 -- lambda: three products of two roots
 abbrev pub lambdaK : Kind
-lambdaK = record { any = false; zer = false; lo = 3 * 2 ^ 1008; hi = 3 * 2 ^ 1138; g = last binary64 (3 * 2 ^ 1008); u = 2; d = 0 }
+lambdaK = record {
+  any = false;
+  zer = false;
+  lo = 3 * 2 ^ 1008;
+  hi = 3 * 2 ^ 1138;
+  g = last binary64 (3 * 2 ^ 1008);
+  u = 2;
+  d =
+      0;
+}
 
 -- the bound q, a quarter of the last one
 abbrev pub boundK : ℕ → Kind
-boundK j = record { any = true; zer = true; lo = 2 ^ (850 + 2 * j); hi = 2 ^ 1200; g = last binary64 (2 ^ (850 + 2 * j)); u = 2; d = 0 }
+boundK j = record {
+  any = true;
+  zer = true;
+  lo = 2 ^ (850 + 2 * j);
+  hi = 2 ^ 1200;
+  g = last binary64 (2 ^ (850 + 2 * j));
+  u =
+      2;
+  d = 0;
+}
 
 -- the power of four
 abbrev pub fourthK : ℕ → Kind
-fourthK j = record { any = false; zer = false; lo = 2 ^ (974 + 2 * j); hi = 2 ^ (974 + 2 * j); g = last binary64 (2 ^ (974 + 2 * j)); u = 0; d = 0 }
+fourthK j = record {
+  any = false;
+  zer = false;
+  lo = 2 ^ (974 + 2 * j);
+  hi = 2 ^ (974 + 2 * j);
+  g =
+      last binary64 (2 ^ (974 + 2 * j));
+  u = 0;
+  d = 0;
+}
 
 abbrev pub anyFourthK : Kind
 anyFourthK = record { any = false; zer = false; lo = 2 ^ 974; hi = 2 ^ 1074; g = last binary64 (2 ^ 974); u = 0; d = 0 }
@@ -153,13 +180,15 @@ unfoldable pub quarter-two : {k : ℕ} {x x' v v' : Float} → Two binary64 k me
 unfolding divK divOk plusK plusOk within litOk ofBits
 quarter-two x v = widen-two (div-two (plus-two x v tt) (lit-two four tt) tt) tt
 
-term-two : {k : ℕ} {w w' r r' z z' v v' : Float} → Two binary64 k anyFourthK w w' → Two binary64 k rootsK r r' → Two binary64 k meanK z z'
+term-two : {k : ℕ} {w w' r r' z z' v v' : Float} → Two binary64 k anyFourthK w w' → Two binary64 k rootsK r r'
+    → Two binary64 k meanK z z'
     → Two binary64 k lambdaK v v'
     → Two binary64 k termK (w ⊘ (r ⊗ (z ⊕ v))) (w' ⊘ (r' ⊗ (z' ⊕ v')))
 unfolding mulK mulOk divK divOk plusK plusOk within
 term-two w r z v = widen-two (div-two w (mul-two r (plus-two z v tt) tt) tt) tt
 
-module _ {k j M M' A A' : ℕ} {s s' : Round} (h : j < 50) (i : Kept k (suc j) M M' A A' s s') {v v' : Float} (L : Two binary64 k lambdaK v v') where
+module _ {k j M M' A A' : ℕ} {s s' : Round} (h : j < 50) (i : Kept k (suc j) M M' A A' s s') {v v' : Float}
+    (L : Two binary64 k lambdaK v v') where
   abbrev j₁ : suc j < 51
   j₁ = let r : suc j < 51 = omega arith in r
 
@@ -190,7 +219,8 @@ module _ {k j M M' A A' : ℕ} {s s' : Round} (h : j < 50) (i : Kept k (suc j) M
     sum = widen-two (plus-two (i .sum) (term-two (widen-two (i .w) (any-fourth (suc j) j₁)) r (i .z) L)
         (and-l (plusOk binary64 (sumsK (suc j)) termK) _ (sums j h)))
         (and-r (plusOk binary64 (sumsK (suc j)) termK) _ (sums j h));
-    lead = lead-kept M (i .w .m) (above (i .q .s) (i .q .m)) _ _ l (fourth (i .w .m) (digits-of (i .w .first)) (few-or-many (i .w .in-first) big-w))
+    lead = lead-kept M (i .w .m) (above (i .q .s) (i .q .m)) _ _ l
+        (fourth (i .w .m) (digits-of (i .w .first)) (few-or-many (i .w .in-first) big-w))
         (fourth-above (i .q .s) (i .q .m) (digits-of (i .q .first)) (few-or-many (i .q .in-first) big-q)) (i .lead);
     lead' = lead-kept M' (i .w .n) (above (i .q .s) (i .q .n)) _ _ l
         (fourth (i .w .n) (digits-of (i .w .second)) (few-or-many (i .w .in-second) big-w))
@@ -198,7 +228,8 @@ module _ {k j M M' A A' : ℕ} {s s' : Round} (h : j < 50) (i : Kept k (suc j) M
     base = mean-kept A (i .w .m) (i .a .m) _ _ l (fourth (i .w .m) (digits-of (i .w .first)) (few-or-many (i .w .in-first) big-w))
         (mean-fourth (i .a .m) (L .m) (i .a .s) (L .s) (i .a .in-first .sign tt) (L .in-first .sign tt) (digits-of (i .a .first))
         (far (i .a .m) (floor-le (i .a .in-first)))) (i .base);
-    base' = mean-kept A' (i .w .n) (i .a .n) _ _ l (fourth (i .w .n) (digits-of (i .w .second)) (few-or-many (i .w .in-second) big-w))
+    base' = mean-kept A' (i .w .n) (i .a .n) _ _ l (fourth (i .w .n) (digits-of (i .w .second))
+        (few-or-many (i .w .in-second) big-w))
         (mean-fourth (i .a .n) (L .n) (i .a .s) (L .s) (i .a .in-first .sign tt) (L .in-first .sign tt) (digits-of (i .a .second))
         (far (i .a .n) (floor-le (i .a .in-second)))) (i .base');
   }
@@ -208,12 +239,14 @@ pub roots-two : {k : ℕ} {x x' : Float} → Two binary64 k meanK x x' → Two b
 unfolding rootK rootOk within
 roots-two x = widen-two (root-two x tt) tt
 
-pub lambda-two : {k : ℕ} {x x' y y' z z' : Float} → Two binary64 k rootsK x x' → Two binary64 k rootsK y y' → Two binary64 k rootsK z z'
+pub lambda-two : {k : ℕ} {x x' y y' z z' : Float} → Two binary64 k rootsK x x' → Two binary64 k rootsK y y'
+    → Two binary64 k rootsK z z'
     → Two binary64 k lambdaK (lambdaOf x y z) (lambdaOf x' y' z')
 unfolding lambdaOf mulK mulOk plusK plusOk within
 lambda-two x y z = widen-two (plus-two (plus-two (mul-two x y tt) (mul-two x z tt) tt) (mul-two y z tt) tt) tt
 
-pub step-inv : {k j M M' A A' : ℕ} {s s' : Round} → j < 50 → Inv k (suc j) M M' A A' s s' → Inv k j M M' A A' (rdStep s) (rdStep s')
+pub step-inv : {k j M M' A A' : ℕ} {s s' : Round} → j < 50 → Inv k (suc j) M M' A A' s s'
+    → Inv k j M M' A A' (rdStep s) (rdStep s')
 unfolding rdStep rdMoved
 step-inv h i =
     let x = roots-two (i .x) in

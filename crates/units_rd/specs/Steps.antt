@@ -40,7 +40,8 @@ arg-at : {k : ℕ} {x x' : Float} → Two binary64 k argumentK x x' → T (not (
 arg-at a h true p q = none (nothing a (p tt))
 arg-at a h false p q = some (above-two a h (q tt))
 
-some-at : {k : ℕ} {x x' : Float} (a : Two binary64 k argumentK x x') (h : T (not (lt x zero))) (b : Bool) (p : T b → T (eq x zero))
+some-at : {k : ℕ} {x x' : Float} (a : Two binary64 k argumentK x x') (h : T (not (lt x zero))) (b : Bool) (p : T b
+    → T (eq x zero))
     (q : T (not b) → T (not (eq x zero)))
     → some? (arg-at a h b p q) ≡ not b
 unfolding arg-at
@@ -50,11 +51,13 @@ some-at a h false p q = refl
 pub arg-of : {k : ℕ} {x x' : Float} → Two binary64 k argumentK x x' → T (not (lt x zero)) → Arg k x x'
 arg-of {x = x} a h = arg-at a h (eq x zero) (λ t. t) (λ t. t)
 
-pub arg-some : {k : ℕ} {x x' : Float} (a : Two binary64 k argumentK x x') (h : T (not (lt x zero))) → some? (arg-of a h) ≡ not (eq x zero)
+pub arg-some : {k : ℕ} {x x' : Float} (a : Two binary64 k argumentK x x') (h : T (not (lt x zero)))
+    → some? (arg-of a h) ≡ not (eq x zero)
 unfolding arg-of
 arg-some {x = x} a h = some-at a h (eq x zero) (λ t. t) (λ t. t)
 
-pub some-of : {k : ℕ} {x x' y y' : Float} (a : Two binary64 k argumentK x x') (h : T (not (lt x zero))) (b : Two binary64 k argumentK y y')
+pub some-of : {k : ℕ} {x x' y y' : Float} (a : Two binary64 k argumentK x x') (h : T (not (lt x zero)))
+    (b : Two binary64 k argumentK y y')
     (g : T (not (lt y zero)))
     → T (not (eq x zero && eq y zero)) → T (some? (arg-of a h) || some? (arg-of b g))
 unfolding arg-of
@@ -99,7 +102,8 @@ both-zero s t m n h e =
     at false = tt
 
 -- an equal of a zero is one
-pub equal-zero : {x y : Float} {s t : Bool} {m n : ℕ} → Is binary64 x s m → Is binary64 y t n → T (eq x y) → T (eq x zero) → T (eq y zero)
+pub equal-zero : {x y : Float} {s t : Bool} {m n : ℕ} → Is binary64 x s m → Is binary64 y t n → T (eq x y) → T (eq x zero)
+    → T (eq y zero)
 equal-zero {x} {y} {s} {t} {m} {n} X Y e z = subst T (sym (eq-units Y (zero-is binary64)))
     (both-zero s t m n (subst T (eq-units X Y) e) (no-units-of X z))
 
@@ -117,7 +121,8 @@ module _ {k : ℕ} {z z' : Float} (Z : Two binary64 k argK z z') where
         choose (Ran k agmK) (eq x zero) (eq x' zero) (zero-two X)
         (λ t. choose (Ran k agmK) (le y (bits 0x4030_0000_0000_0000 ⊗ z)) (le y' (bits 0x4030_0000_0000_0000 ⊗ z'))
         (le-two Y (mul-two (lit-two (bits 0x4030_0000_0000_0000) tt) Z tt) tt)
-        (λ l. agm-two (above-two Y hy (no-second (eq x zero) (eq y zero) some t)) Z (apart t)) (λ l. duplicate-two)) (λ t. duplicate-two)
+        (λ l. agm-two (above-two Y hy (no-second (eq x zero) (eq y zero) some t)) Z (apart t)) (λ l. duplicate-two))
+        (λ t. duplicate-two)
 
     pub ordered-two : Ran k agmK (rdOrdered x y z) (rdOrdered x' y' z')
     unfolding rdOrdered
@@ -131,7 +136,8 @@ module _ {k : ℕ} {z z' : Float} (Z : Two binary64 k argK z z') where
         (λ t. general-two (λ q. absurd (T-not (eq x zero) t q)))))
         (λ e. general-two (λ q. e))
 
-  pub steps-two : {x x' y y' : Float} (X : Two binary64 k argumentK x x') (Y : Two binary64 k argumentK y y') → T (not (lt x zero))
+  pub steps-two : {x x' y y' : Float} (X : Two binary64 k argumentK x x') (Y : Two binary64 k argumentK y y')
+      → T (not (lt x zero))
       → T (not (lt y zero))
       → T (not (eq x zero && eq y zero)) → Ran k agmK (rdSteps x y z) (rdSteps x' y' z')
   unfolding rdSteps

@@ -1,5 +1,5 @@
--- The claims at given numbers: the premises compute, so a reader sees that they can be met. With both signs of k, a zero with a sign, and a y below
--- zero.
+-- The claims at given numbers: the premises compute, so a reader sees that they can be met. With both signs of k, a zero with a
+-- sign, and a y below zero.
 use mathlib.Core.Path.{refl}
 use mathlib.Core.Logic.{inl, inr}
 use lib.Ieee.{fits, eq, le, ofBits}
@@ -13,7 +13,8 @@ use Rattle.units_rf.specs.Rc.{rc-scales}
 use Rattle.units_rf.specs.Rf.{rf-scales}
 
 -- RF(1, 1/2, -0) and RF(4, 2, -0): k = 1, the second value is half the first
-pub rf-up : Alike 0 1 (rf one half (bits 0x8000_0000_0000_0000)) (rf four (bits 0x4000_0000_0000_0000) (bits 0x8000_0000_0000_0000))
+pub rf-up : Alike 0 1 (rf one half (bits 0x8000_0000_0000_0000))
+    (rf four (bits 0x4000_0000_0000_0000) (bits 0x8000_0000_0000_0000))
 unfolding fits eq le ofBits absolute
 rf-up =
     rf-scales 1 0 _ _ _ _ _ _

@@ -52,14 +52,17 @@ module _ {k : ℕ} where
       (le-two (mul-two (mul-two (lit-two (bits 0x4005_9999_9999_999A) tt) (lit-two epsilon tt) tt) (abs-two (i .xn)) tt)
       (abs-two (sub-two (i .xn) (i .yn) tt)) tt)
 
-  pub agm-same : {x y x' y' : Float} → Two binary64 k meanK x x' → Two binary64 k meanK y y' → Same k resultK (agmOf x y) (agmOf x' y')
+  pub agm-same : {x y x' y' : Float} → Two binary64 k meanK x x' → Two binary64 k meanK y y'
+      → Same k resultK (agmOf x y) (agmOf x' y')
   unfolding agmOf agmStart
   agm-same {x} {y} {x'} {y'} X Y =
       let s = agmStart x y in
       let t = agmStart x' y' in
       let i : Inv k 11 s t = record { xn = side-two X; yn = side-two Y } in
-      subst (λ b. Same k resultK (capped meansOf together agmCount agmCount 11 (together s) s 0) (capped meansOf together agmCount agmCount 11 b t 0))
+      subst (λ b. Same k resultK (capped meansOf together agmCount agmCount 11 (together s) s 0)
+      (capped meansOf together agmCount agmCount 11 b t 0))
       (test 11 s t i)
       (loop-two meansOf together agmCount agmCount agmCount agmCount (Same k resultK) (Inv k) 11 (λ j s t h i. pass j s t i)
       (λ j s t h i. test j s t i)
-      (λ j s t n h i p. mean n (inr (value-two j s t i))) (λ s t n i. mean n (inr (value-two 0 s t i))) 11 (together s) s t 0 (lit≤ tt) (λ p. p) i)
+      (λ j s t n h i p. mean n (inr (value-two j s t i))) (λ s t n i. mean n (inr (value-two 0 s t i))) 11 (together s) s t 0
+      (lit≤ tt) (λ p. p) i)

@@ -1,6 +1,5 @@
--- Units drop out of RC: every argument in range before and after all are multiplied by 4 ^ k, both calls refuse alike, or the second value is the
--- first
--- times 2 ^ -k. y may be negative.
+-- Units drop out of RC: every argument in range before and after all are multiplied by 4 ^ k, both calls refuse alike, or the
+-- second value is the first times 2 ^ -k. y may be negative.
 use mathlib.Core.Path.{_≡_, refl, sym, ap, _∙_, subst, subst₂}
 use Prim.Native.Nat.{ℕ, zero, _+_, _-_, _*_, _^_, _<_}
 use native.Mathlib.Nat.{lt-of-lt-of-le, zero-mul}
@@ -61,15 +60,27 @@ rcK = record { any = true; zer = true; lo = 2 ^ 800; hi = 2 ^ 1280; g = last bin
 module _ (k : ℕ) where
   carries-one : Carries k oneK resultK
   unfolding mulK mulOk divK divOk within
-  carries-one = record { over = λ p v w. widen-two (div-two (mul-two p v tt) w tt) tt; alone = λ p w. widen-two (div-two p w tt) tt }
+  carries-one = record {
+    over = λ p v w. widen-two (div-two (mul-two p v tt) w tt) tt;
+    alone =
+        λ p w. widen-two (div-two p w tt) tt;
+  }
 
   carries-prefix : Carries k prefixK rcK
   unfolding mulK mulOk divK divOk within
-  carries-prefix = record { over = λ p v w. widen-two (div-two (mul-two p v tt) w tt) tt; alone = λ p w. widen-two (div-two p w tt) tt }
+  carries-prefix = record {
+    over = λ p v w. widen-two (div-two (mul-two p v tt) w tt) tt;
+    alone =
+        λ p w. widen-two (div-two p w tt) tt;
+  }
 
   carries-nothing : Carries k nothingK rcK
   unfolding mulK mulOk divK divOk within
-  carries-nothing = record { over = λ p v w. widen-two (div-two (mul-two p v tt) w tt) tt; alone = λ p w. widen-two (div-two p w tt) tt }
+  carries-nothing = record {
+    over = λ p v w. widen-two (div-two (mul-two p v tt) w tt) tt;
+    alone =
+        λ p w. widen-two (div-two p w tt) tt;
+  }
 
 -- ---- a zero x, and a y below zero
 from-zero : {x y : Float} {s : Bool} {n : ℕ} → Is binary64 x s 0 → Is binary64 y true n → 0 < n → x ⊖ y ≡ neg y
@@ -130,12 +141,15 @@ module _ {k : ℕ} where
       let e' = from-zero X₀' (subst (λ t. Is binary64 y' t (Y .n)) s (Y .second)) h' in
       let Q : Two binary64 k nothingK (x ⊘ neg y) (x' ⊘ neg y') = widen-two (div-two X N tt) tt in
       let none : (m w : ℕ) → 0 < w → m ≡ 0 → near binary64 (m * 2 ^ low binary64) w ≡ 0 =
-      λ m w W i. ap (λ a. near binary64 a w) (ap (λ a. a * 2 ^ low binary64) i ∙ zero-mul (2 ^ low binary64)) ∙ near-zero binary64 w W in
+      λ m w W i. ap (λ a. near binary64 a w) (ap (λ a. a * 2 ^ low binary64) i ∙ zero-mul (2 ^ low binary64))
+      ∙ near-zero binary64 w W in
       let D = div-two X N tt in
       let r =
-      root-itself (subst (Is binary64 (x ⊘ neg y) (D .s)) (none (X .m) (N .m) (lt-of-lt-of-le (lit< tt) (floor-le (N .in-first))) z) (D .first)) in
+      root-itself (subst (Is binary64 (x ⊘ neg y) (D .s))
+      (none (X .m) (N .m) (lt-of-lt-of-le (lit< tt) (floor-le (N .in-first))) z) (D .first)) in
       let r' =
-      root-itself (subst (Is binary64 (x' ⊘ neg y') (D .s)) (none (X .n) (N .n) (lt-of-lt-of-le (lit< tt) (floor-le (N .in-second))) z')
+      root-itself (subst (Is binary64 (x' ⊘ neg y') (D .s))
+      (none (X .n) (N .n) (lt-of-lt-of-le (lit< tt) (floor-le (N .in-second))) z')
       (D .second)) in
       let W : Two binary64 k wideK (neg y) (neg y') = widen-two N tt in
       subst₂ (λ a b. Fair k rcK (rcCases (root (x ⊘ a)) a (neg y)) (rcCases (root (x' ⊘ b)) b (neg y'))) (sym e) (sym e')
@@ -149,7 +163,8 @@ module _ {k : ℕ} where
       let N = opposite-two Y b z in
       let n = no-units Y z in
       split (eq x constant.zero)
-      (λ e. empty-fair X Y (no-units-of (X .first) e) (no-units-of (X .second) (subst T (zero-two X) e)) N (minus Y b) (some (Y .m) (n .0))
+      (λ e. empty-fair X Y (no-units-of (X .first) e) (no-units-of (X .second) (subst T (zero-two X) e)) N (minus Y b)
+      (some (Y .m) (n .0))
       (some (Y .n) (n .1)))
       (λ e. proper-fair y y' (above-two X t e) N)
     where
@@ -160,7 +175,8 @@ module _ {k : ℕ} where
       split true f g = f tt
       split false f g = g tt
 
-  pub steps-fair : {x y x' y' : Float} → Two binary64 k argumentK x x' → T (not (lt x constant.zero)) → Two binary64 k argumentK y y'
+  pub steps-fair : {x y x' y' : Float} → Two binary64 k argumentK x x' → T (not (lt x constant.zero))
+      → Two binary64 k argumentK y y'
       → T (not (eq y constant.zero)) → Fair k rcK (rcSteps x y) (rcSteps x' y')
   unfolding rcSteps within
   steps-fair {x} {y} {x'} {y'} X t Y z =
@@ -184,30 +200,35 @@ module _ {k : ℕ} where
   unchecked-fair X Y z = value-fair (rc-same X Y z)
 
   -- ---- the entry
-  pub rc-pair : {x y x' y' : Float} → Two binary64 k argumentK x x' → Two binary64 k argumentK y y' → Pair k rcK (rc x y) (rc x' y')
+  pub rc-pair : {x y x' y' : Float} → Two binary64 k argumentK x x' → Two binary64 k argumentK y y'
+      → Pair k rcK (rc x y) (rc x' y')
   unfolding rc rcFound
   rc-pair {x} {y} {x'} {y'} X Y =
       choose (Pair k rcK) (lt x constant.zero) (lt x' constant.zero) (lt-zero-two X) (λ t. no)
       (λ t.
       choose (Pair k rcK) (eq y constant.zero) (eq y' constant.zero) (zero-two Y) (λ z. no)
       (λ z.
-      subst₂ (λ a b. Pair k rcK (late x y a b) (late x' y' (anyNan2 x' y') (anyInfinite2 x' y'))) (sym (numbers2 (X .first) (Y .first)))
+      subst₂ (λ a b. Pair k rcK (late x y a b) (late x' y' (anyNan2 x' y') (anyInfinite2 x' y')))
+      (sym (numbers2 (X .first) (Y .first)))
       (sym (finite2 (X .first) (Y .first)))
       (subst₂ (λ a b. Pair k rcK (late x y false false) (late x' y' a b)) (sym (numbers2 (X .second) (Y .second)))
       (sym (finite2 (X .second) (Y .second)))
       (late-same 7 (subst₂ (Same k rcK) (sym (unscaled x y (first-size X) (first-size Y)))
       (sym (unscaled x' y' (second-size X) (second-size Y))) (fair (steps-fair X t Y z)))))))
 
-upward : (k d : ℕ) (x y x' y' : Float) → InRange x → InRange y → InRange x' → InRange y' → TimesFour (k + d) d x x' → TimesFour (k + d) d y y'
+upward : (k d : ℕ) (x y x' y' : Float) → InRange x → InRange y → InRange x' → InRange y' → TimesFour (k + d) d x x'
+    → TimesFour (k + d) d y y'
     → Alike d (k + d) (rc x y) (rc x' y')
 upward k d x y x' y' X Y X' Y' s t =
     alike-of d (k + d) d (let r : d ≡ k * 0 + d = omega arith in r) (let r : k + d ≡ k * 1 + d = omega arith in r)
     (rc-pair (argument k d X X' s) (argument k d Y Y' t))
 
 -- THE CLAIM FOR RC: its weight is 2 ^ -k
-pub rc-scales : (u d : ℕ) (x y x' y' : Float) → InRange x → InRange y → InRange x' → InRange y' → TimesFour u d x x' → TimesFour u d y y'
+pub rc-scales : (u d : ℕ) (x y x' y' : Float) → InRange x → InRange y → InRange x' → InRange y' → TimesFour u d x x'
+    → TimesFour u d y y'
     → Alike d u (rc x y) (rc x' y')
 rc-scales u d x y x' y' X Y X' Y' s t =
     either-way u d
     (λ k e. subst (λ i. Alike d i (rc x y) (rc x' y')) (sym e) (upward k d x y x' y' X Y X' Y' (onward k d e s) (onward k d e t)))
-    (λ k e. subst (λ i. Alike i u (rc x y) (rc x' y')) (sym e) (alike-back (upward k u x' y' x y X' Y' X Y (backward k u e s) (backward k u e t))))
+    (λ k e. subst (λ i. Alike i u (rc x y) (rc x' y')) (sym e)
+    (alike-back (upward k u x' y' x y X' Y' X Y (backward k u e s) (backward k u e t))))

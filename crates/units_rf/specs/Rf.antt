@@ -1,6 +1,5 @@
--- Units drop out of RF: every argument in range before and after all are multiplied by 4 ^ k, both calls refuse alike, or they have one round count
--- and the
--- second value is the first times 2 ^ -k.
+-- Units drop out of RF: every argument in range before and after all are multiplied by 4 ^ k, both calls refuse alike, or they
+-- have one round count and the second value is the first times 2 ^ -k.
 use mathlib.Core.Path.{_≡_, sym, ap, subst, subst₂}
 use Prim.Native.Nat.{ℕ, _+_, _*_}
 use native.Mathlib.Omega.{arith}
@@ -54,41 +53,45 @@ module _ {k : ℕ} where
   one-zero x = closed (widen-two (div-two (lit-two pi tt) (mul-two (lit-two two tt) (root-two x tt) tt) tt) tt)
 
 module _ {k : ℕ} where
-  two-equal : {x y x' y' : Float} → Argument k x x' → Argument k y y' → T (not (eq y zero)) → Same k resultK (twoEqual x y) (twoEqual x' y')
+  two-equal : {x y x' y' : Float} → Argument k x x' → Argument k y y' → T (not (eq y zero))
+      → Same k resultK (twoEqual x y) (twoEqual x' y')
   unfolding twoEqual
   two-equal X Y z = rc-same X Y z
 
   module _ {x y z x' y' z' : Float} (X : Argument k x x') (Y : Argument k y y') (Z : Argument k z z')
-      (xy : T (not (eq x zero && eq y zero))) (xz : T (not (eq x zero && eq z zero))) (yz : T (not (eq y zero && eq z zero))) where
-    general-same : Same k resultK (rfGeneral x y z) (rfGeneral x' y' z')
-    unfolding rfGeneral
-    general-same =
-        choose (Same k resultK) (eq x zero) (eq x' zero) (zero-two (X .two))
-        (λ s. agm-same (above Z (other (eq x zero) (eq z zero) xz s)) (above Y (other (eq x zero) (eq y zero) xy s)))
-        (λ s.
-        choose (Same k resultK) (eq y zero) (eq y' zero) (zero-two (Y .two))
-        (λ t. agm-same (above X s) (above Z (other (eq y zero) (eq z zero) yz t)))
-        (λ t.
-        choose (Same k resultK) (eq z zero) (eq z' zero) (zero-two (Z .two)) (λ u. agm-same (above X s) (above Y t))
-        (λ u. duplication-same (above X s) (above Y t) (above Z u))))
+      (xy : T (not (eq x zero && eq y zero))) (xz : T (not (eq x zero && eq z zero))) (yz : T (not (eq y zero && eq z zero)))
+    where
+      general-same : Same k resultK (rfGeneral x y z) (rfGeneral x' y' z')
+      unfolding rfGeneral
+      general-same =
+          choose (Same k resultK) (eq x zero) (eq x' zero) (zero-two (X .two))
+          (λ s. agm-same (above Z (other (eq x zero) (eq z zero) xz s)) (above Y (other (eq x zero) (eq y zero) xy s)))
+          (λ s.
+          choose (Same k resultK) (eq y zero) (eq y' zero) (zero-two (Y .two))
+          (λ t. agm-same (above X s) (above Z (other (eq y zero) (eq z zero) yz t)))
+          (λ t.
+          choose (Same k resultK) (eq z zero) (eq z' zero) (zero-two (Z .two)) (λ u. agm-same (above X s) (above Y t))
+          (λ u. duplication-same (above X s) (above Y t) (above Z u))))
 
-    -- two are equal and the third differs
-    pair-same : {p q p' q' : Float} → Argument k p p' → Argument k q q' → T (not (eq q zero))
-        → Same k resultK (cond (eq p zero) (oneZero q) (twoEqual p q)) (cond (eq p' zero) (oneZero q') (twoEqual p' q'))
-    pair-same {p} {q} {p'} {q'} P Q n =
-        choose (Same k resultK) (eq p zero) (eq p' zero) (zero-two (P .two)) (λ s. one-zero (above Q n)) (λ s. two-equal P Q n)
+      -- two are equal and the third differs
+      pair-same : {p q p' q' : Float} → Argument k p p' → Argument k q q' → T (not (eq q zero))
+          → Same k resultK (cond (eq p zero) (oneZero q) (twoEqual p q)) (cond (eq p' zero) (oneZero q') (twoEqual p' q'))
+      pair-same {p} {q} {p'} {q'} P Q n =
+          choose (Same k resultK) (eq p zero) (eq p' zero) (zero-two (P .two)) (λ s. one-zero (above Q n)) (λ s. two-equal P Q n)
 
-    pub steps-same : Same k resultK (rfSteps x y z) (rfSteps x' y' z')
-    unfolding rfSteps
-    steps-same =
-        choose (Same k resultK) (eq x y) (eq x' y') (eq-two (X .two) (Y .two) tt)
-        (λ p.
-        let n = distinct X Y p xy in
-        choose (Same k resultK) (eq x z) (eq x' z') (eq-two (X .two) (Z .two) tt) (λ q. all-equal (above X n)) (λ q. pair-same Z X n))
-        (λ p.
-        choose (Same k resultK) (eq x z) (eq x' z') (eq-two (X .two) (Z .two) tt) (λ q. pair-same Y X (distinct X Z q xz))
-        (λ q.
-        choose (Same k resultK) (eq y z) (eq y' z') (eq-two (Y .two) (Z .two) tt) (λ r. pair-same X Y (distinct Y Z r yz)) (λ r. general-same)))
+      pub steps-same : Same k resultK (rfSteps x y z) (rfSteps x' y' z')
+      unfolding rfSteps
+      steps-same =
+          choose (Same k resultK) (eq x y) (eq x' y') (eq-two (X .two) (Y .two) tt)
+          (λ p.
+          let n = distinct X Y p xy in
+          choose (Same k resultK) (eq x z) (eq x' z') (eq-two (X .two) (Z .two) tt) (λ q. all-equal (above X n))
+          (λ q. pair-same Z X n))
+          (λ p.
+          choose (Same k resultK) (eq x z) (eq x' z') (eq-two (X .two) (Z .two) tt) (λ q. pair-same Y X (distinct X Z q xz))
+          (λ q.
+          choose (Same k resultK) (eq y z) (eq y' z') (eq-two (Y .two) (Z .two) tt) (λ r. pair-same X Y (distinct Y Z r yz))
+          (λ r. general-same)))
 
   -- ---- RF as RG and RJ call it
   pub unchecked-same : {x y z x' y' z' : Float} → Argument k x x' → Argument k y y' → Argument k z z' → T (not (zerosOf3 x y z))
@@ -96,10 +99,12 @@ module _ {k : ℕ} where
   unchecked-same {x} {y} {z} {x'} {y'} {z'} X Y Z n =
       let h = zeros-apart (eq x zero) (eq y zero) (eq z zero) n in
       subst₂ (Same k resultK) (sym (unscaled x y z (first-size (X .two)) (first-size (Y .two)) (first-size (Z .two))))
-      (sym (unscaled x' y' z' (second-size (X .two)) (second-size (Y .two)) (second-size (Z .two)))) (steps-same X Y Z (h .0) (h .1) (h .2))
+      (sym (unscaled x' y' z' (second-size (X .two)) (second-size (Y .two)) (second-size (Z .two))))
+      (steps-same X Y Z (h .0) (h .1) (h .2))
 
   -- ---- the entry
-  pub rf-pair : {x y z x' y' z' : Float} → Two binary64 k argumentK x x' → Two binary64 k argumentK y y' → Two binary64 k argumentK z z'
+  pub rf-pair : {x y z x' y' z' : Float} → Two binary64 k argumentK x x' → Two binary64 k argumentK y y'
+      → Two binary64 k argumentK z z'
       → Pair k resultK (rf x y z) (rf x' y' z')
   unfolding rf
   rf-pair {x} {y} {z} {x'} {y'} {z'} X Y Z =
@@ -110,7 +115,8 @@ module _ {k : ℕ} where
       let a = above3 X Y Z t in
       choose (Pair k resultK) (zerosOf3 x y z) (zerosOf3 x' y' z') (zeros3-two X Y Z) (λ n. no)
       (λ n.
-      subst₂ (λ a b. Pair k resultK (cond a infiniteAt (settled (rfUnchecked x y z) 6)) (cond b infiniteAt (settled (rfUnchecked x' y' z') 6)))
+      subst₂ (λ a b. Pair k resultK (cond a infiniteAt (settled (rfUnchecked x y z) 6))
+      (cond b infiniteAt (settled (rfUnchecked x' y' z') 6)))
       (sym (finite3 (X .first) (Y .first) (Z .first))) (sym (finite3 (X .second) (Y .second) (Z .second)))
       (settled-same 6 (unchecked-same (a .0) (a .1) (a .2) n)))))
 

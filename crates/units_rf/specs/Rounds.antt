@@ -1,6 +1,6 @@
--- RF's duplication in two runs, the second with x, y and z multiplied by 4 ^ k: the same number of passes, and the second result is the first
--- divided by 2 ^ k. What a pass keeps: all means from 2 ^ -64 to 2 ^ 64, and the bound q times the power of four ahead of the first differences. The
--- kinds allow fifty passes, as RG's joint loop does, which makes the same steps.
+-- RF's duplication in two runs, the second with x, y and z multiplied by 4 ^ k: the same number of passes, and the second
+-- result is the first divided by 2 ^ k. What a pass keeps: all means from 2 ^ -64 to 2 ^ 64, and the bound q times the power of
+-- four ahead of the first differences. The kinds allow fifty passes, as RG's joint loop does, which makes the same steps.
 use mathlib.Core.Path.{_≡_, refl, ap, _∙_, subst}
 use Prim.Native.Nat.{ℕ, suc, _+_, _-_, _*_, _^_, _≤_, _<_, max}
 use native.Mathlib.Nat.{le-trans, le-of-lt, lt-of-lt-of-le, mul-le-mul-left, mul-le-mul-right, le-max-left, le-max-right}
@@ -31,7 +31,16 @@ use Rattle.units_rf.specs.Series.{smallK, lambda-two, quarter-two, mean-
 
 -- the bound q and the power of four with j passes left: q is divided by four in a pass, and the power multiplied
 abbrev pub boundK : ℕ → Kind
-boundK j = record { any = false; zer = false; lo = 2 ^ (900 + 2 * j); hi = 2 ^ 1200; g = last binary64 (2 ^ (900 + 2 * j)); u = 2; d = 0 }
+boundK j = record {
+  any = false;
+  zer = false;
+  lo = 2 ^ (900 + 2 * j);
+  hi = 2 ^ 1200;
+  g = last binary64 (2 ^ (900 + 2 * j));
+  u =
+      2;
+  d = 0;
+}
 
 abbrev pub powerK : ℕ → Kind
 powerK j = record { any = false; zer = false; lo = 2 ^ 1074; hi = 2 ^ (1174 - 2 * j); g = last binary64 (2 ^ 1074); u = 0; d = 0 }
@@ -102,7 +111,8 @@ module _ {k : ℕ} where
       let e = fours j h in
       let A = divOk binary64 (boundK (suc j)) fourK in
       let B = mulOk binary64 (powerK (suc j)) fourK in
-      let big : (n : ℕ) → 2 ^ (900 + 2 * suc j) ≤ n → 2 ^ 55 ≤ n = λ n g. le-trans (pow-mono (let r : 55 ≤ 900 + 2 * suc j = omega arith in r)) g in
+      let big : (n : ℕ) → 2 ^ (900 + 2 * suc j) ≤ n → 2 ^ 55 ≤ n =
+      λ n g. le-trans (pow-mono (let r : 55 ≤ 900 + 2 * suc j = omega arith in r)) g in
       record {
         an = quarter-two (i .an) l;
         xn = quarter-two (i .xn) l;
@@ -119,16 +129,19 @@ module _ {k : ℕ} where
       }
 
   -- ---- the test at a pass's end says the same in both runs, and what it says
-  pub test : (j : ℕ) {a q a' q' : Float} → Two binary64 k meanK a a' → Two binary64 k (boundK j) q q' → lt q (absolute a) ≡ lt q' (absolute a')
+  pub test : (j : ℕ) {a q a' q' : Float} → Two binary64 k meanK a a' → Two binary64 k (boundK j) q q'
+      → lt q (absolute a) ≡ lt q' (absolute a')
   test j A Q = lt-two Q (abs-two A) tt
 
-  closer : (j : ℕ) {a q a' q' : Float} (A : Two binary64 k meanK a a') (Q : Two binary64 k (boundK j) q q') → T (lt q (absolute a))
+  closer : (j : ℕ) {a q a' q' : Float} (A : Two binary64 k meanK a a') (Q : Two binary64 k (boundK j) q q')
+      → T (lt q (absolute a))
       → (Q .m < A .m) × (Q .n < A .n)
   unfolding abs-two
   closer j A Q t =
       let s : Q .s ≡ false = Q .in-first .sign tt in (
         ltb→lt (Q .m) (A .m) (subst T (lt-units (Q .first) (abs-two A .first) ∙ ap (λ s. below s (Q .m) false (A .m)) s) t),
-        ltb→lt (Q .n) (A .n) (subst T (test j A Q ∙ lt-units (Q .second) (abs-two A .second) ∙ ap (λ s. below s (Q .n) false (A .n)) s) t),
+        ltb→lt (Q .n) (A .n) (subst T (test j A Q ∙ lt-units (Q .second) (abs-two A .second)
+            ∙ ap (λ s. below s (Q .n) false (A .n)) s) t),
       )
 
   -- ---- a correction: a first difference over the mean times the power is the same in both runs, and small
@@ -169,7 +182,8 @@ module _ {k : ℕ} where
   -- ---- the start, and the whole
   pub begin : (j : ℕ) {x y z x' y' z' : Float} → j < 51
       → (X : Two binary64 k meanK x x') (Y : Two binary64 k meanK y y') (Z : Two binary64 k meanK z z')
-      → (G : Two binary64 k gapK (meanOf x y z ⊖ x) (meanOf x' y' z' ⊖ x')) (H : Two binary64 k gapK (meanOf x y z ⊖ y) (meanOf x' y' z' ⊖ y'))
+      → (G : Two binary64 k gapK (meanOf x y z ⊖ x) (meanOf x' y' z' ⊖ x'))
+      (H : Two binary64 k gapK (meanOf x y z ⊖ y) (meanOf x' y' z' ⊖ y'))
       → Inv k (max (G .m) (H .m)) (max (G .n) (H .n)) j (rfBegin x y z) (rfBegin x' y' z')
   unfolding rfBegin rfStart startOk gapK sumK sumOk mulK mulOk within litOk abs-two max-two mul-two lit-two widen-two
   begin j h X Y Z G H =
@@ -186,17 +200,20 @@ module _ {k : ℕ} where
         q = widen-two (widen-two {B = boundK 50} (mul-two (lit-two factor tt) M tt) tt) (and-l P _ o);
         fnval = widen-two (widen-two {B = powerK 50} (lit-two one tt) tt) (and-r P _ o);
         ahead =
-            ahead-start binary64 (litN binary64 factor) (M .m) (max (G .m) (H .m)) (digits-of (M .first)) (within-max (A .m) (G .m) (H .m) _)
+            ahead-start binary64 (litN binary64 factor) (M .m) (max (G .m) (H .m)) (digits-of (M .first))
+            (within-max (A .m) (G .m) (H .m) _)
             (lit≤ tt);
         ahead' =
-            ahead-start binary64 (litN binary64 factor) (M .n) (max (G .n) (H .n)) (digits-of (M .second)) (within-max (A .n) (G .n) (H .n) _)
+            ahead-start binary64 (litN binary64 factor) (M .n) (max (G .n) (H .n)) (digits-of (M .second))
+            (within-max (A .n) (G .n) (H .n) _)
             (lit≤ tt);
       }
     where
       within-max : (a g h z : ℕ) → max g h ≤ max (max (max a g) h) z
       within-max a g h z = omega arith
 
-  pub duplication-same : {x y z x' y' z' : Float} → Two binary64 k meanK x x' → Two binary64 k meanK y y' → Two binary64 k meanK z z'
+  pub duplication-same : {x y z x' y' z' : Float} → Two binary64 k meanK x x' → Two binary64 k meanK y y'
+      → Two binary64 k meanK z z'
       → Same k resultK (rfDuplication x y z) (rfDuplication x' y' z')
   unfolding rfDuplication rfBegin gapK sumK sumOk
   duplication-same {x} {y} {z} {x'} {y'} {z'} X Y Z =
@@ -205,7 +222,8 @@ module _ {k : ℕ} where
       let H = sub-two A Y tt in
       let a₀ = meanOf x y z in
       let a₀' = meanOf x' y' z' in
-      loop-two rfStep rfClose (rfFound x y a₀) rfSpent (rfFound x' y' a₀') rfSpent (Same k resultK) (Inv k (max (G .m) (H .m)) (max (G .n) (H .n))) 11
+      loop-two rfStep rfClose (rfFound x y a₀) rfSpent (rfFound x' y' a₀') rfSpent (Same k resultK)
+      (Inv k (max (G .m) (H .m)) (max (G .n) (H .n))) 11
       (λ j s t h. pass j s t (fifty j h)) closes
       (λ j s t n h i p. duplicated n (inr (series-two j a₀ x y a₀' x' y' s t G H (more j h) i p)))
       (λ s t n i. duplicated n neither)

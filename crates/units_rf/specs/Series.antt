@@ -1,5 +1,5 @@
--- RF's steps in two runs: its mean, lambda, the quarter of a sum, and the series, which lies between a half and two because it is taken at small
--- corrections only. Each proof has the shape of the step.
+-- RF's steps in two runs: its mean, lambda, the quarter of a sum, and the series, which lies between a half and two because it
+-- is taken at small corrections only. Each proof has the shape of the step.
 use Prim.Native.Nat.{ℕ, _*_, _^_}
 use mathlib.Core.Bool.{true, false}
 use lib.Ieee.{Float, binary64}
@@ -24,7 +24,16 @@ factorK = record { any = false; zer = false; lo = 2 ^ 1073; hi = 2 ^ 1075; g = l
 
 -- lambda: up to three times an argument
 abbrev pub lambdaK : Kind
-lambdaK = record { any = false; zer = false; lo = 3 * 2 ^ 1010; hi = 3 * 2 ^ 1138; g = last binary64 (3 * 2 ^ 1010); u = 2; d = 0 }
+lambdaK = record {
+  any = false;
+  zer = false;
+  lo = 3 * 2 ^ 1010;
+  hi = 3 * 2 ^ 1138;
+  g = last binary64 (3 * 2 ^ 1010);
+  u = 2;
+  d =
+      0;
+}
 
 module _ {k : ℕ} where
   pub factor-two : {x y x' y' : Float} → Two binary64 k smallK x x' → Two binary64 k smallK y y'
@@ -38,7 +47,8 @@ module _ {k : ℕ} where
       let a =
       sum-two (div-two (lit-two one tt) (lit-two (bits 0x402C_0000_0000_0000) tt) tt)
       (div-two threefold (lit-two (bits 0x405A_0000_0000_0000) tt) tt) tt in
-      let b = sum-two (neg-two (lit-two (bits 0x3FB9_9999_9999_999A) tt)) (div-two e2 (lit-two (bits 0x4038_0000_0000_0000) tt) tt) tt in
+      let b = sum-two (neg-two (lit-two (bits 0x3FB9_9999_9999_999A) tt))
+      (div-two e2 (lit-two (bits 0x4038_0000_0000_0000) tt) tt) tt in
       let c = sub-two b (div-two threefold (lit-two (bits 0x4046_0000_0000_0000) tt) tt) tt in
       let five = mul-two (mul-two (lit-two (bits 0x4014_0000_0000_0000) tt) e2 tt) e2 tt in
       let d = sub-two c (div-two five (lit-two (bits 0x406A_0000_0000_0000) tt) tt) tt in

@@ -1,5 +1,5 @@
--- The claim at given numbers: the premises compute, so a reader sees that they can be met. With both signs of k, zeros with a sign, and a road each
--- through the mean, the joint loop and a special case.
+-- The claim at given numbers: the premises compute, so a reader sees that they can be met. With both signs of k, zeros with a
+-- sign, and a road each through the mean, the joint loop and a special case.
 use mathlib.Core.Path.{refl}
 use mathlib.Core.Logic.{inl, inr}
 use lib.Ieee.{fits, eq, le, ofBits}
@@ -26,8 +26,10 @@ pub joint-down : Alike 0 1 (rg four two (bits 0x43F0_0000_0000_0000)) (rg one ha
 unfolding fits eq le ofBits absolute
 joint-down =
     rg-scales 0 1
-    (record { fit = tt; size = inr (tt, tt) }) (record { fit = tt; size = inr (tt, tt) }) (record { fit = tt; size = inr (tt, tt) })
-    (record { fit = tt; size = inr (tt, tt) }) (record { fit = tt; size = inr (tt, tt) }) (record { fit = tt; size = inr (tt, tt) })
+    (record { fit = tt; size = inr (tt, tt) }) (record { fit = tt; size = inr (tt, tt) })
+    (record { fit = tt; size = inr (tt, tt) })
+    (record { fit = tt; size = inr (tt, tt) }) (record { fit = tt; size = inr (tt, tt) })
+    (record { fit = tt; size = inr (tt, tt) })
     (record { finite-first = tt; finite-second = tt; signs = refl; sizes = refl })
     (record { finite-first = tt; finite-second = tt; signs = refl; sizes = refl })
     (record { finite-first = tt; finite-second = tt; signs = refl; sizes = refl })

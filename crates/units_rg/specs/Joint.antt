@@ -1,5 +1,5 @@
--- RG's joint loop of RF and RD in two runs, and the value made of both: as many passes, and the second value is the first times 2 ^ k. What is not
--- done when the cap is spent is NaN in both. Assumes nothing.
+-- RG's joint loop of RF and RD in two runs, and the value made of both: as many passes, and the second value is the first times
+-- 2 ^ k. What is not done when the cap is spent is NaN in both. Assumes nothing.
 use mathlib.Core.Path.{_≡_, refl, sym, ap, ap₂, _∙_, subst, subst₂}
 use mathlib.Core.Logic.{inl, inr}
 use Prim.Native.Nat.{ℕ, suc, _^_, _<_, max}
@@ -36,7 +36,8 @@ record Ended (k : ℕ) (r r' : RfRd) : Type 0 where
   rd : Fair k rd.valueK (r .rd) (r' .rd)
   rounds : r .rounds ≡ r' .rounds
 
-module _ {k : ℕ} {x y z x' y' z' : Float} (X : Two binary64 k meanK x x') (Y : Two binary64 k meanK y y') (Z : Two binary64 k meanK z z') where
+module _ {k : ℕ} {x y z x' y' z' : Float} (X : Two binary64 k meanK x x') (Y : Two binary64 k meanK y y')
+    (Z : Two binary64 k meanK z z') where
   -- RF's first differences
   gap-x : Two binary64 k gapK (meanOf x y z ⊖ x) (meanOf x' y' z' ⊖ x')
   unfolding gapK sumK sumOk
@@ -47,7 +48,8 @@ module _ {k : ℕ} {x y z x' y' z' : Float} (X : Two binary64 k meanK x x') (Y :
   gap-y = sub-two (mean-two X Y Z) Y tt
 
   record Inv (j : ℕ) (s t : Joint) : Type 0 where
-    rf : rf-share.Share k (max (gap-x .m) (gap-y .m)) (max (gap-x .n) (gap-y .n)) j (s .xn) (s .yn) (s .zn) (t .xn) (t .yn) (t .zn) (s .rf) (t .rf)
+    rf : rf-share.Share k (max (gap-x .m) (gap-y .m)) (max (gap-x .n) (gap-y .n)) j (s .xn) (s .yn) (s .zn) (t .xn) (t .yn)
+        (t .zn) (s .rf) (t .rf)
     rd : rd-share.Share X Y Z j (s .xn) (s .yn) (s .zn) (t .xn) (t .yn) (t .zn) (s .rd) (t .rd)
 
   pass : (j : ℕ) (s t : Joint) → j < 50 → Inv (suc j) s t
@@ -69,7 +71,8 @@ module _ {k : ℕ} {x y z x' y' z' : Float} (X : Two binary64 k meanK x x') (Y :
   joint-two : Ended k (jointOf x y z) (jointOf x' y' z')
   unfolding jointOf jointBegun
   joint-two =
-      loops-two (jointNext x y (meanOf x y z) (rdMean x y z)) (jointNext x' y' (meanOf x' y' z') (rdMean x' y' z')) allDone allDone
+      loops-two (jointNext x y (meanOf x y z) (rdMean x y z)) (jointNext x' y' (meanOf x' y' z') (rdMean x' y' z'))
+      allDone allDone
       rfRdOf rfRdOf rfRdOf rfRdOf (Ended k) Inv 50 pass
       (λ j s t l i. same-test j s t i) (λ j s t n l i p. ends j s t n i) (λ s t n i. ends 0 s t n i) 50 false
       (jointBegun x y z) (jointBegun x' y' z') 0 (le-refl 50) (λ p. absurd p)
@@ -84,13 +87,15 @@ partK = record { any = true; zer = true; lo = 2 ^ 600; hi = 2 ^ 1400; g = last b
 abbrev quotientK : Kind
 quotientK = record { any = false; zer = false; lo = 2 ^ 880; hi = 2 ^ 1268; g = last binary64 (2 ^ 880); u = 2; d = 0 }
 
-module _ {k : ℕ} {x y z x' y' z' : Float} (X : Two binary64 k meanK x x') (Y : Two binary64 k meanK y y') (Z : Two binary64 k meanK z z') where
+module _ {k : ℕ} {x y z x' y' z' : Float} (X : Two binary64 k meanK x x') (Y : Two binary64 k meanK y y')
+    (Z : Two binary64 k meanK z z') where
   number-two : {f d f' d' : Float} → Two binary64 k resultK f f' → Two binary64 k rd.valueK d d'
       → Two binary64 k valueK (rgValue x y z f d) (rgValue x' y' z' f' d')
   unfolding rgValue mulK mulOk divK divOk sumK sumOk rootK rootOk within litOk ofBits
   number-two f d =
       let first = widen-two {B = partK} (mul-two Z f tt) tt in
-      let second = widen-two {B = partK} (div-two (mul-two (mul-two (sub-two X Z tt) (sub-two Y Z tt) tt) d tt) (lit-two three tt) tt) tt in
+      let second = widen-two {B = partK} (div-two (mul-two (mul-two (sub-two X Z tt) (sub-two Y Z tt) tt) d tt)
+      (lit-two three tt) tt) tt in
       let third = widen-two {B = partK} (root-two (widen-two {B = quotientK} (div-two (mul-two X Y tt) Z tt) tt) tt) tt in
       widen-two (div-two (sum-two (sub-two first second tt) third tt) (lit-two two tt) tt) tt
 
@@ -99,18 +104,22 @@ unfolding rgValue
 no-rf x y z d =
     let p = (x ⊖ z) ⊗ (y ⊖ z) ⊗ d ⊘ three in
     let q = root (x ⊗ y ⊘ z) in
-    ap (λ a. (a ⊖ p ⊕ q) ⊘ two) (mul-nan binary64 z) ∙ ap (λ a. (a ⊕ q) ⊘ two) (nan-sub binary64 p) ∙ ap (λ a. a ⊘ two) (nan-add binary64 q)
+    ap (λ a. (a ⊖ p ⊕ q) ⊘ two) (mul-nan binary64 z) ∙ ap (λ a. (a ⊕ q) ⊘ two) (nan-sub binary64 p)
+    ∙ ap (λ a. a ⊘ two) (nan-add binary64 q)
     ∙ nan-div binary64 two
 
 no-rd : (x y z f : Float) → rgValue x y z f nan ≡ nan
 unfolding rgValue
 no-rd x y z f =
     let q = root (x ⊗ y ⊘ z) in
-    ap (λ a. (z ⊗ f ⊖ a ⊘ three ⊕ q) ⊘ two) (mul-nan binary64 ((x ⊖ z) ⊗ (y ⊖ z))) ∙ ap (λ a. (z ⊗ f ⊖ a ⊕ q) ⊘ two) (nan-div binary64 three)
+    ap (λ a. (z ⊗ f ⊖ a ⊘ three ⊕ q) ⊘ two) (mul-nan binary64 ((x ⊖ z) ⊗ (y ⊖ z)))
+    ∙ ap (λ a. (z ⊗ f ⊖ a ⊕ q) ⊘ two) (nan-div binary64 three)
     ∙ ap (λ a. (a ⊕ q) ⊘ two) (sub-nan binary64 (z ⊗ f)) ∙ ap (λ a. a ⊘ two) (nan-add binary64 q) ∙ nan-div binary64 two
 
-module _ {k : ℕ} {x y z x' y' z' : Float} (X : Two binary64 k meanK x x') (Y : Two binary64 k meanK y y') (Z : Two binary64 k meanK z z') where
-  value-two : (f d f' d' : Float) → Fair k resultK f f' → Fair k rd.valueK d d' → Fair k valueK (rgValue x y z f d) (rgValue x' y' z' f' d')
+module _ {k : ℕ} {x y z x' y' z' : Float} (X : Two binary64 k meanK x x') (Y : Two binary64 k meanK y y')
+    (Z : Two binary64 k meanK z z') where
+  value-two : (f d f' d' : Float) → Fair k resultK f f' → Fair k rd.valueK d d'
+      → Fair k valueK (rgValue x y z f d) (rgValue x' y' z' f' d')
   value-two f d f' d' (inl e) D =
       inl (ap (λ a. rgValue x y z a d) (e .0) ∙ no-rf x y z d, ap (λ a. rgValue x' y' z' a d') (e .1) ∙ no-rf x' y' z' d')
   value-two f d f' d' (inr F) (inl e) =

@@ -1,5 +1,6 @@
--- RG with one zero, by the compensated arithmetic-geometric mean, in two runs. The sums may have any sign and cancel to zero, but all are multiples
--- of one power of two, so no step is rounded below the normal range; a pass makes them at most 16 times as large. Assumes nothing.
+-- RG with one zero, by the compensated arithmetic-geometric mean, in two runs. The sums may have any sign and cancel to zero,
+-- but all are multiples of one power of two, so no step is rounded below the normal range; a pass makes them at most 16 times
+-- as large. Assumes nothing.
 use mathlib.Core.Path.{_≡_, ap, subst}
 use Prim.Native.Nat.{ℕ, suc, _+_, _-_, _*_, _^_, _≤_, _<_}
 use native.Mathlib.Nat.{le-refl}
@@ -55,7 +56,8 @@ lessOk A B C = sumOk binary64 A (negK B) && within (sumK binary64 A (negK B)) C
 less-two : {k : ℕ} {A B C : Kind} {x x' y y' : Float} → Two binary64 k A x x' → Two binary64 k B y y' → T (lessOk A B C)
     → Two binary64 k C (x ⊖ y) (x' ⊖ y')
 unfolding lessOk
-less-two {A = A} {B} a b ok = widen-two (sub-two a b (and-l (sumOk binary64 A (negK B)) _ ok)) (and-r (sumOk binary64 A (negK B)) _ ok)
+less-two {A = A} {B} a b ok = widen-two (sub-two a b (and-l (sumOk binary64 A (negK B)) _ ok))
+    (and-r (sumOk binary64 A (negK B)) _ ok)
 
 passOk : ℕ → Bool
 unfolding lessOk
@@ -90,13 +92,15 @@ pass k j s t h i =
     let a = lessOk squareK (lostK (suc j)) (correctionK j) in
     let b = lessOk (totalK (suc j)) (correctionK j) (totalK j) in
     let c = lessOk (totalK (suc j)) (totalK j) (movedK j) in
-    let C = less-two {C = correctionK j} (square-two (widen-two p (any-double j f)) x y) (i .lost) (and-l a b (and-l (a && b) _ o)) in
+    let C = less-two {C = correctionK j} (square-two (widen-two p (any-double j f)) x y) (i .lost)
+    (and-l a b (and-l (a && b) _ o)) in
     let N = less-two {C = totalK j} (i .total) C (and-r a b (and-l (a && b) _ o)) in
     let M = less-two {C = movedK j} (i .total) N (and-l c _ (and-r (a && b) _ o)) in
     record { x = x; y = y; total = N; lost = less-two M C (and-r c _ (and-r (a && b) _ o)); power = p }
 
 -- ---- the start, where the fused step gives what the square lost; and the value
-begun : {k : ℕ} {x x' y y' : Float} → Two binary64 k sideK x x' → Two binary64 k sideK y y' → Inv k 40 (rgBegin x y) (rgBegin x' y')
+begun : {k : ℕ} {x x' y y' : Float} → Two binary64 k sideK x x' → Two binary64 k sideK y y'
+    → Inv k 40 (rgBegin x y) (rgBegin x' y')
 unfolding rgBegin mulK mulOk fusedK fusedOk within litOk ofBits
 begun x y =
     let m = half-two x y in
@@ -109,7 +113,8 @@ begun x y =
       power = widen-two (lit-two (bits 0x3FD0_0000_0000_0000) tt) tt;
     }
 
-value-two : {k : ℕ} {x x' y y' r r' : Float} → Two binary64 k sideK x x' → Two binary64 k sideK y y' → Two binary64 k (totalK 0) r r'
+value-two : {k : ℕ} {x x' y y' r r' : Float} → Two binary64 k sideK x x' → Two binary64 k sideK y y'
+    → Two binary64 k (totalK 0) r r'
     → Two binary64 k valueK (r ⊗ (pi ⊘ (x ⊕ y)) ⊘ two) (r' ⊗ (pi ⊘ (x' ⊕ y')) ⊘ two)
 unfolding mulK mulOk divK divOk plusK plusOk within litOk ofBits
 value-two x y r = widen-two (div-two (mul-two r (div-two (lit-two pi tt) (plus-two x y tt) tt) tt) (lit-two two tt) tt) tt
@@ -120,9 +125,11 @@ same-test j s t i = ap not (apart-two (i .x) (i .y))
 
 ends : {k : ℕ} (j : ℕ) (s t : Sums) (n : ℕ) → j ≤ 40 → Inv k j s t → Ran k valueK (rgAgmFound s n) (rgAgmFound t n)
 unfolding rgMeanValue
-ends j s t n l i = let f : j < 41 = omega arith in result (mean n (inr (value-two (i .x) (i .y) (widen-two (i .total) (any-total j f)))))
+ends j s t n l i = let f : j < 41 = omega arith in result
+    (mean n (inr (value-two (i .x) (i .y) (widen-two (i .total) (any-total j f)))))
 
-pub agm-two : {k : ℕ} {x x' z z' : Float} → Two binary64 k meanK x x' → Two binary64 k meanK z z' → Ran k valueK (rgAgmOf x z) (rgAgmOf x' z')
+pub agm-two : {k : ℕ} {x x' z z' : Float} → Two binary64 k meanK x x' → Two binary64 k meanK z z'
+    → Ran k valueK (rgAgmOf x z) (rgAgmOf x' z')
 unfolding rgAgmOf
 agm-two {k} {x} {x'} {z} {z'} X Z =
     let s = rgBegin (root x) (root z) in
@@ -130,4 +137,5 @@ agm-two {k} {x} {x'} {z} {z'} X Z =
     let i = begun (side-two X) (side-two Z) in
     subst (λ b. Ran k valueK (rgAgmOf x z) (capped rgNext rgTogether rgAgmFound rgAgmSpent 40 b t 0)) (same-test 40 s t i)
     (loop-two rgNext rgTogether rgAgmFound rgAgmSpent rgAgmFound rgAgmSpent (Ran k valueK) (Inv k) 40 (pass k)
-    (λ j s t l i. same-test j s t i) (λ j s t n l i q. ends j s t n l i) (λ s t n i. refusal) 40 (rgTogether s) s t 0 (le-refl 40) (λ q. q) i)
+    (λ j s t l i. same-test j s t i) (λ j s t n l i q. ends j s t n l i) (λ s t n i. refusal) 40 (rgTogether s) s t 0
+    (le-refl 40) (λ q. q) i)

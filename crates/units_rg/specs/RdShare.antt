@@ -1,5 +1,5 @@
--- RD's share of RG's joint loop in two runs: it is RD's own loop until it is done, and then stays as it is. Both runs are done in the same pass.
--- Assumes nothing.
+-- RD's share of RG's joint loop in two runs: it is RD's own loop until it is done, and then stays as it is. Both runs are done
+-- in the same pass. Assumes nothing.
 use mathlib.Core.Path.{_≡_, refl, sym, ap, _∙_, subst₂}
 use mathlib.Core.Logic.{inl, inr}
 use Prim.Native.Nat.{ℕ, suc, _≤_, _<_}
@@ -29,28 +29,34 @@ abbrev state : RdPart → Float → Float → Float → Round
 state p x y z = record { an = p .an; xn = x; yn = y; zn = z; q = p .q; fnval = p .fnval; sum = p .sum }
 
 -- ---- what is kept: x, y and z are the first arguments, a, b and c the arguments now
-pub data Share {k : ℕ} {x x' y y' z z' : Float} (X : Two binary64 k argK x x') (Y : Two binary64 k argK y y') (Z : Two binary64 k argK z z') (j : ℕ)
+pub data Share {k : ℕ} {x x' y y' z z' : Float} (X : Two binary64 k argK x x') (Y : Two binary64 k argK y y')
+    (Z : Two binary64 k argK z z') (j : ℕ)
     (a b c a' b' c' : Float) (p p' : RdPart) : Type 0 where
-  on : p .done ≡ false → p' .done ≡ false → p .res ≡ nan → p' .res ≡ nan → I (some X) (some Y) Z tt j (state p a b c) (state p' a' b' c')
+  on : p .done ≡ false → p' .done ≡ false → p .res ≡ nan → p' .res ≡ nan
+      → I (some X) (some Y) Z tt j (state p a b c) (state p' a' b' c')
       → Share X Y Z j a b c a' b' c' p p'
   off : p .done ≡ true → p' .done ≡ true → Two binary64 k valueK (p .res) (p' .res) → Share X Y Z j a b c a' b' c' p p'
 
 -- ---- a pass
-by-flag : {b : Bool} (p : RdPart) (l r c x y a : Float) → p .done ≡ b → rdNext p l r c x y a ≡ cond b p (rdEnded (rdMoved p l r c) x y a)
+by-flag : {b : Bool} (p : RdPart) (l r c x y a : Float) → p .done ≡ b
+    → rdNext p l r c x y a ≡ cond b p (rdEnded (rdMoved p l r c) x y a)
 unfolding rdNext
 by-flag p l r c x y a e = ap (λ (b : Bool). cond b p (rdEnded (rdMoved p l r c) x y a)) e
 
-module _ {k : ℕ} {x x' y y' z z' : Float} (X : Two binary64 k argK x x') (Y : Two binary64 k argK y y') (Z : Two binary64 k argK z z') where
+module _ {k : ℕ} {x x' y y' z z' : Float} (X : Two binary64 k argK x x') (Y : Two binary64 k argK y y')
+    (Z : Two binary64 k argK z z') where
   pub same-done : {j : ℕ} {a b c a' b' c' : Float} {p p' : RdPart} → Share X Y Z j a b c a' b' c' p p' → p .done ≡ p' .done
   same-done (on d d' n n' i) = d ∙ sym d'
   same-done (off d d' r) = d ∙ sym d'
 
-  pub found : {j : ℕ} {a b c a' b' c' : Float} {p p' : RdPart} → Share X Y Z j a b c a' b' c' p p' → Fair k valueK (p .res) (p' .res)
+  pub found : {j : ℕ} {a b c a' b' c' : Float} {p p' : RdPart} → Share X Y Z j a b c a' b' c' p p'
+      → Fair k valueK (p .res) (p' .res)
   found (on d d' n n' i) = inl (n, n')
   found (off d d' r) = inr r
 
   -- where it goes on, or ends
-  ended : (j : ℕ) (a b c a' b' c' : Float) (p p' : RdPart) → j < 50 → p .done ≡ false → p' .done ≡ false → p .res ≡ nan → p' .res ≡ nan
+  ended : (j : ℕ) (a b c a' b' c' : Float) (p p' : RdPart) → j < 50 → p .done ≡ false → p' .done ≡ false → p .res ≡ nan
+      → p' .res ≡ nan
       → I (some X) (some Y) Z tt j (state p a b c) (state p' a' b' c')
       → Share X Y Z j a b c a' b' c' (rdEnded p x y (rd.rdMean x y z)) (rdEnded p' x' y' (rd.rdMean x' y' z'))
   unfolding rdEnded rd.rdClose
@@ -71,14 +77,17 @@ module _ {k : ℕ} {x x' y y' z z' : Float} (X : Two binary64 k argK x x') (Y : 
   share-pass j a b c a' b' c' p p' h (on d d' n n' i) =
       let l = lambdaOf (root a) (root b) (root c) in
       let l' = lambdaOf (root a') (root b') (root c') in
-      subst₂ (Share X Y Z j (moved a b c a) (moved a b c b) (moved a b c c) (moved a' b' c' a') (moved a' b' c' b') (moved a' b' c' c'))
+      subst₂ (Share X Y Z j (moved a b c a) (moved a b c b) (moved a b c c) (moved a' b' c' a') (moved a' b' c' b')
+      (moved a' b' c' c'))
       (sym (by-flag p l (root c) c x y (rd.rdMean x y z) d)) (sym (by-flag p' l' (root c') c' x' y' (rd.rdMean x' y' z') d'))
       (ended j _ _ _ _ _ _ (rdMoved p l (root c) c) (rdMoved p' l' (root c') c') h d d' n n' (step-inv h i))
   share-pass j a b c a' b' c' p p' h (off d d' r) =
       let l = lambdaOf (root a) (root b) (root c) in
       let l' = lambdaOf (root a') (root b') (root c') in
-      subst₂ (Share X Y Z j (moved a b c a) (moved a b c b) (moved a b c c) (moved a' b' c' a') (moved a' b' c' b') (moved a' b' c' c'))
-      (sym (by-flag p l (root c) c x y (rd.rdMean x y z) d)) (sym (by-flag p' l' (root c') c' x' y' (rd.rdMean x' y' z') d')) (off d d' r)
+      subst₂ (Share X Y Z j (moved a b c a) (moved a b c b) (moved a b c c) (moved a' b' c' a') (moved a' b' c' b')
+      (moved a' b' c' c'))
+      (sym (by-flag p l (root c) c x y (rd.rdMean x y z) d)) (sym (by-flag p' l' (root c') c' x' y' (rd.rdMean x' y' z') d'))
+      (off d d' r)
 
   pub share-begun : Share X Y Z 50 x y z x' y' z' (rdBegun x y z) (rdBegun x' y' z')
   unfolding rdBegun rd.rdBegin within

@@ -1,5 +1,5 @@
--- RF's share of RG's joint loop in two runs: it is RF's own loop until it is done, and then stays as it is. Both runs are done in the same pass.
--- Assumes nothing.
+-- RF's share of RG's joint loop in two runs: it is RF's own loop until it is done, and then stays as it is. Both runs are done
+-- in the same pass. Assumes nothing.
 use mathlib.Core.Path.{_≡_, refl, sym, ap, _∙_, subst₂}
 use mathlib.Core.Logic.{inl, inr}
 use Prim.Native.Nat.{ℕ, suc, _<_, max}
@@ -42,7 +42,8 @@ pub same-done : {k D D' j : ℕ} {a b c a' b' c' : Float} {p p' : RfPart} → Sh
 same-done (on d d' n n' i) = d ∙ sym d'
 same-done (off d d' r) = d ∙ sym d'
 
-pub found : {k D D' j : ℕ} {a b c a' b' c' : Float} {p p' : RfPart} → Share k D D' j a b c a' b' c' p p' → Fair k resultK (p .res) (p' .res)
+pub found : {k D D' j : ℕ} {a b c a' b' c' : Float} {p p' : RfPart} → Share k D D' j a b c a' b' c' p p'
+    → Fair k resultK (p .res) (p' .res)
 found (on d d' n n' i) = inl (n, n')
 found (off d d' r) = inr r
 
@@ -60,13 +61,16 @@ module _ {k : ℕ} (x y z x' y' z' : Float) (G : Two binary64 k gapK (meanOf x y
   D' = max (G .n) (H .n)
 
   -- where it goes on, or ends
-  ended : (j : ℕ) (a b c a' b' c' : Float) (p p' : RfPart) → j < 50 → p .done ≡ false → p' .done ≡ false → p .res ≡ nan → p' .res ≡ nan
+  ended : (j : ℕ) (a b c a' b' c' : Float) (p p' : RfPart) → j < 50 → p .done ≡ false → p' .done ≡ false → p .res ≡ nan
+      → p' .res ≡ nan
       → Inv k D D' j (state p a b c) (state p' a' b' c')
       → Share k D D' j a b c a' b' c' (rfEnded p x y (meanOf x y z)) (rfEnded p' x' y' (meanOf x' y' z'))
   unfolding rfEnded rfClose
   ended j a b c a' b' c' p p' h d d' n n' i =
-      choose (Share k D D' j a b c a' b' c') (lt (p .q) (absolute (p .an))) (lt (p' .q) (absolute (p' .an))) (test j (i .an) (i .q))
-      (λ t. off refl refl (series-two j (meanOf x y z) x y (meanOf x' y' z') x' y' (state p a b c) (state p' a' b' c') G H (more j h) i t))
+      choose (Share k D D' j a b c a' b' c') (lt (p .q) (absolute (p .an))) (lt (p' .q) (absolute (p' .an)))
+      (test j (i .an) (i .q))
+      (λ t. off refl refl (series-two j (meanOf x y z) x y (meanOf x' y' z') x' y' (state p a b c) (state p' a' b' c') G H
+      (more j h) i t))
       (λ t. on d d' n n' i)
     where
       more : (j : ℕ) → j < 50 → j < 51
@@ -80,13 +84,15 @@ module _ {k : ℕ} (x y z x' y' z' : Float) (G : Two binary64 k gapK (meanOf x y
   share-pass j a b c a' b' c' p p' h (on d d' n n' i) =
       let l = lambdaOf (root a) (root b) (root c) in
       let l' = lambdaOf (root a') (root b') (root c') in
-      subst₂ (Share k D D' j (moved a b c a) (moved a b c b) (moved a b c c) (moved a' b' c' a') (moved a' b' c' b') (moved a' b' c' c'))
+      subst₂ (Share k D D' j (moved a b c a) (moved a b c b) (moved a b c c) (moved a' b' c' a') (moved a' b' c' b')
+      (moved a' b' c' c'))
       (sym (by-flag p l x y (meanOf x y z) d)) (sym (by-flag p' l' x' y' (meanOf x' y' z') d'))
       (ended j _ _ _ _ _ _ (rfMoved p l) (rfMoved p' l') h d d' n n' (pass j (state p a b c) (state p' a' b' c') h i))
   share-pass j a b c a' b' c' p p' h (off d d' r) =
       let l = lambdaOf (root a) (root b) (root c) in
       let l' = lambdaOf (root a') (root b') (root c') in
-      subst₂ (Share k D D' j (moved a b c a) (moved a b c b) (moved a b c c) (moved a' b' c' a') (moved a' b' c' b') (moved a' b' c' c'))
+      subst₂ (Share k D D' j (moved a b c a) (moved a b c b) (moved a b c c) (moved a' b' c' a') (moved a' b' c' b')
+      (moved a' b' c' c'))
       (sym (by-flag p l x y (meanOf x y z) d)) (sym (by-flag p' l' x' y' (meanOf x' y' z') d')) (off d d' r)
 
   pub share-begun : Two binary64 k meanK x x' → Two binary64 k meanK y y' → Two binary64 k meanK z z'

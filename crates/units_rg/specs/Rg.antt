@@ -1,5 +1,6 @@
--- DEMAND 3 FOR RG (document 01): with every argument zero or of size from 2 ^ -64 to 2 ^ 64, before and after all are multiplied by 4 ^ k, both calls
--- are refused alike, or have one round count and the second value is the first times exactly 2 ^ k. Assumes nothing.
+-- DEMAND 3 FOR RG (document 01): with every argument zero or of size from 2 ^ -64 to 2 ^ 64, before and after all are
+-- multiplied by 4 ^ k, both calls are refused alike, or have one round count and the second value is the first times exactly 2
+-- ^ k. Assumes nothing.
 use mathlib.Core.Path.{_≡_, sym, ap, subst, subst₂}
 use Prim.Native.Nat.{ℕ, _+_, _*_}
 use native.Mathlib.Omega.{arith}
@@ -34,7 +35,8 @@ settle refusal = no
 settle (result s) = late-same rg-no-result s
 
 -- ---- the entry
-pub rg-pair : {k : ℕ} {x y z x' y' z' : Float} → Two binary64 k argumentK x x' → Two binary64 k argumentK y y' → Two binary64 k argumentK z z'
+pub rg-pair : {k : ℕ} {x y z x' y' z' : Float} → Two binary64 k argumentK x x' → Two binary64 k argumentK y y'
+    → Two binary64 k argumentK z z'
     → Pair k valueK (rg x y z) (rg x' y' z')
 unfolding rg
 rg-pair {k} {x} {y} {z} {x'} {y'} {z'} X Y Z =
@@ -43,7 +45,8 @@ rg-pair {k} {x} {y} {z} {x'} {y'} {z'} X Y Z =
     let a = above3 X Y Z t in
     subst₂ (λ p q. Pair k valueK (rgSettled (rgUnchecked x y z) p) (rgSettled (rgUnchecked x' y' z') q))
     (sym (numbers3 (X .first) (Y .first) (Z .first))) (sym (numbers3 (X .second) (Y .second) (Z .second)))
-    (subst₂ (λ p q. Pair k valueK (rgSettled p false) (rgSettled q false)) (sym (unscaled x y z (first-size X) (first-size Y) (first-size Z)))
+    (subst₂ (λ p q. Pair k valueK (rgSettled p false) (rgSettled q false))
+    (sym (unscaled x y z (first-size X) (first-size Y) (first-size Z)))
     (sym (unscaled x' y' z' (second-size X) (second-size Y) (second-size Z))) (settle (steps-two (a .0) (a .1) (a .2)))))
 
 upward : (k d : ℕ) {x y z x' y' z' : Float} → InRange x → InRange y → InRange z → InRange x' → InRange y' → InRange z'
@@ -58,7 +61,8 @@ pub rg-scales : (u d : ℕ) {x y z x' y' z' : Float} → InRange x → InRange y
 rg-scales u d {x} {y} {z} {x'} {y'} {z'} X Y Z X' Y' Z' p q r =
     either-way u d
     (λ k e.
-    subst (λ i. Alike i d (rg x y z) (rg x' y' z')) (sym e) (upward k d X Y Z X' Y' Z' (onward k d e p) (onward k d e q) (onward k d e r)))
+    subst (λ i. Alike i d (rg x y z) (rg x' y' z')) (sym e)
+    (upward k d X Y Z X' Y' Z' (onward k d e p) (onward k d e q) (onward k d e r)))
     (λ k e.
     subst (λ i. Alike u i (rg x y z) (rg x' y' z')) (sym e)
     (alike-back (upward k u X' Y' Z' X Y Z (backward k u e p) (backward k u e q) (backward k u e r))))

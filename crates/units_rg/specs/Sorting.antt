@@ -1,5 +1,5 @@
--- RG's order of its arguments in two runs: both choose alike, zeros of both signs included. What its order gives is kept as far as zeros go: of the
--- sorted three z is no zero if y is none, and x is none if z is none. Assumes nothing.
+-- RG's order of its arguments in two runs: both choose alike, zeros of both signs included. What its order gives is kept as far
+-- as zeros go: of the sorted three z is no zero if y is none, and x is none if z is none. Assumes nothing.
 use mathlib.Core.Path.{_≡_, sym, ap, _∙_, subst}
 use Prim.Native.Nat.{ℕ, _+_, _<_}
 use native.Mathlib.Omega.{arith}
@@ -34,7 +34,8 @@ module _ {k : ℕ} {x x' y y' : Float} (X : Argument k x x') (Y : Argument k y y
       not-T (eq y zero)
       (λ z.
       nothing-below (X .two .s) (Y .two .s) (X .two .m) (Y .two .m) (no-units-of (Y .two .first) z)
-      (subst (λ b. T (not b)) (lt-units (X .two .first) (zero-is binary64)) (X .plus)) (subst T (lt-units (X .two .first) (Y .two .first)) h))
+      (subst (λ b. T (not b)) (lt-units (X .two .first) (zero-is binary64)) (X .plus))
+      (subst T (lt-units (X .two .first) (Y .two .first)) h))
 
   -- what is not below one that is no zero is none
   rest-some : T (not (lt x y)) → T (not (eq y zero)) → T (not (eq x zero))
@@ -42,8 +43,10 @@ module _ {k : ℕ} {x x' y y' : Float} (X : Argument k x x') (Y : Argument k y y
       not-T (eq x zero)
       (λ z.
       T-not (lt x y) h
-      (subst T (sym (lt-units (X .two .first) (Y .two .first) ∙ ap (λ t. below (X .two .s) (X .two .m) t (Y .two .m)) (plus (Y .two) (Y .plus) n)))
-      (zero-below (X .two .s) (X .two .m) (Y .two .m) (no-units-of (X .two .first) z) (some (Y .two .m) (no-units (Y .two) n .0)))))
+      (subst T (sym (lt-units (X .two .first) (Y .two .first)
+      ∙ ap (λ t. below (X .two .s) (X .two .m) t (Y .two .m)) (plus (Y .two) (Y .plus) n)))
+      (zero-below (X .two .s) (X .two .m) (Y .two .m) (no-units-of (X .two .first) z)
+      (some (Y .two .m) (no-units (Y .two) n .0)))))
     where
       some : (m : ℕ) → (m ≡ 0 → ⊥) → 0 < m
       some m h = omega arith
@@ -85,7 +88,12 @@ unfolding fallXZ
 second {k} t t' f =
     let a = f .three in
     choose (Second k) (lt (t .x) (t .z)) (lt (t' .x) (t' .z)) (lt-two (a .x .two) (a .z .two) tt)
-    (λ h. record { three = record { x = a .z; y = a .y; z = a .x }; xy = λ n. larger-some (a .x) (a .z) h; xz = λ n. larger-some (a .x) (a .z) h })
+    (λ h. record {
+      three = record { x = a .z; y = a .y; z = a .x };
+      xy = λ n. larger-some (a .x) (a .z) h;
+      xz =
+          λ n. larger-some (a .x) (a .z) h;
+    })
     (λ h. record { three = a; xy = f .xy; xz = rest-some (a .x) (a .z) h })
 
 third : {k : ℕ} (t t' : Triple) → Second k t t' → Sorted k (riseYZ t) (riseYZ t')
@@ -99,4 +107,5 @@ third {k} t t' f =
 pub sorted-two : {k : ℕ} (t t' : Triple) → Argument k (t .x) (t' .x) → Argument k (t .y) (t' .y) → Argument k (t .z) (t' .z)
     → Sorted k (largestFirst t) (largestFirst t')
 unfolding largestFirst
-sorted-two t t' x y z = third (fallXZ (fallXY t)) (fallXZ (fallXY t')) (second (fallXY t) (fallXY t') (first t t' (record { x = x; y = y; z = z })))
+sorted-two t t' x y z = third (fallXZ (fallXY t)) (fallXZ (fallXY t'))
+    (second (fallXY t) (fallXY t') (first t t' (record { x = x; y = y; z = z })))

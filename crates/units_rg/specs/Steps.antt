@@ -32,7 +32,8 @@ use Rattle.units_rg.specs.Means.{valueK, agm-two}
 use Rattle.units_rg.specs.Joint.{rg-joint-two}
 
 -- ---- zeros: two of them are equal, whatever their signs
-zeros-equal : {x y : Float} {s t : Bool} {m n : ℕ} → Is binary64 x s m → Is binary64 y t n → T (eq x zero) → T (eq y zero) → T (eq x y)
+zeros-equal : {x y : Float} {s t : Bool} {m n : ℕ} → Is binary64 x s m → Is binary64 y t n → T (eq x zero) → T (eq y zero)
+    → T (eq x y)
 zeros-equal {s = s} {t} {m} {n} X Y a b =
     subst T (sym (eq-units X Y)) (subst₂ (λ i j. T (level s i t j)) (sym (no-units-of X a)) (sym (no-units-of Y b)) (at s t))
   where
@@ -43,10 +44,12 @@ zeros-equal {s = s} {t} {m} {n} X Y a b =
     at false false = tt
 
 -- so what differs from a zero is none
-other-some : {k : ℕ} {x y x' y' : Float} → Argument k x x' → Argument k y y' → T (not (eq x y)) → T (eq x zero) → T (not (eq y zero))
+other-some : {k : ℕ} {x y x' y' : Float} → Argument k x x' → Argument k y y' → T (not (eq x y)) → T (eq x zero)
+    → T (not (eq y zero))
 other-some {x = x} {y} X Y n z = not-T (eq y zero) (λ t. T-not (eq x y) n (zeros-equal (X .two .first) (Y .two .first) z t))
 
-one-some : {k : ℕ} {x y x' y' : Float} → Argument k x x' → Argument k y y' → T (not (eq x y)) → T (eq y zero) → T (not (eq x zero))
+one-some : {k : ℕ} {x y x' y' : Float} → Argument k x x' → Argument k y y' → T (not (eq x y)) → T (eq y zero)
+    → T (not (eq x zero))
 one-some {x = x} {y} X Y n z = not-T (eq x zero) (λ t. T-not (eq x y) n (zeros-equal (X .two .first) (Y .two .first) t z))
 
 -- ---- closed forms
@@ -82,7 +85,8 @@ module _ {k : ℕ} where
     where
       none : (x y v : Float) → v ≡ nan → (y ⊗ v ⊕ root x) ⊘ two ≡ nan
       none x y v e =
-          ap (λ a. (y ⊗ a ⊕ root x) ⊘ two) e ∙ ap (λ a. (a ⊕ root x) ⊘ two) (mul-nan binary64 y) ∙ ap (λ a. a ⊘ two) (nan-add binary64 (root x))
+          ap (λ a. (y ⊗ a ⊕ root x) ⊘ two) e ∙ ap (λ a. (a ⊕ root x) ⊘ two) (mul-nan binary64 y)
+          ∙ ap (λ a. a ⊘ two) (nan-add binary64 (root x))
           ∙ nan-div binary64 two
   with-rc v v' X Y (inr c) =
       let s = plus-two (widen-two {B = sideK} (mul-two Y c tt) tt) (widen-two {B = sideK} (root-two X tt) tt) tt in
@@ -93,7 +97,8 @@ module _ {k : ℕ} where
   unfolding rgTwo
   two-equal {x} {x'} {y} {y'} X Y p q =
       let S = rc-same X Y q in
-      result (carried (same-way S) (with-rc (rcUnchecked x y .value) (rcUnchecked x' y' .value) (above X p) (above Y q) (value-fair S)))
+      result (carried (same-way S) (with-rc (rcUnchecked x y .value) (rcUnchecked x' y' .value) (above X p) (above Y q)
+      (value-fair S)))
 
   -- ---- which road
   module _ (t t' : Triple) (S : Sorted k t t') where
@@ -124,7 +129,8 @@ module _ {k : ℕ} where
         (λ n. let z = other-some (S .y) (S .z) q n in agm-two (above (S .x) (S .xz z)) (above (S .z) z))
         (λ n. result (rg-joint-two (above (S .x) (S .xz (S .zy n))) (above (S .y) n) (above (S .z) (S .zy n))))))
 
-  pub steps-two : {x x' y y' z z' : Float} → Argument k x x' → Argument k y y' → Argument k z z' → Ran k valueK (rgSteps x y z) (rgSteps x' y' z')
+  pub steps-two : {x x' y y' z z' : Float} → Argument k x x' → Argument k y y' → Argument k z z'
+      → Ran k valueK (rgSteps x y z) (rgSteps x' y' z')
   unfolding rgSteps
   steps-two {x} {x'} {y} {y'} {z} {z'} X Y Z =
       let t : Triple = record { x = x; y = y; z = z } in

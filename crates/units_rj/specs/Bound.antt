@@ -1,6 +1,7 @@
--- Two quantities of a pass of RJ that have no dimension, bounded from the roots they are made of; all numbers are units, and l is the units of 1.
--- With d = (√p + √x)(√p + √y)(√p + √z): the product of the differences p - x, p - y, p - z is at most d², and 2 √p (p + √x √y + √x √z + √y
--- √z) at most 2 d. Each rounding costs less than a factor of two, so the quotients are at most 2 ^ 16 and 2 ^ 12. Assumes nothing.
+-- Two quantities of a pass of RJ that have no dimension, bounded from the roots they are made of; all numbers are units, and l
+-- is the units of 1. With d = (√p + √x)(√p + √y)(√p + √z): the product of the differences p - x, p - y, p - z is at most d²,
+-- and 2 √p (p + √x √y + √x √z + √y √z) at most 2 d. Each rounding costs less than a factor of two, so the quotients are at most
+-- 2 ^ 16 and 2 ^ 12. Assumes nothing.
 use mathlib.Core.Path.{_≡_, sym, ap, _∙_}
 use mathlib.Core.List.{[], _∷_}
 use Prim.Native.Nat.{ℕ, _+_, _-_, _*_, _/_, _^_, _≤_, _<_}
@@ -21,19 +22,22 @@ root-square n p h =
     let few : z ≤ 1200 = size-le n 1200 h in
     let low : 2 * j < z = omega arith in
     let cap : j ≤ 1049 = omega arith in
-    let least : 2 ^ (537 + j) ≤ rootUnits n = le-trans (le-of-eq (sym (root-at j cap))) (root-mono (2 ^ (2 * j)) n (size-reaches n (2 * j) low)) in
+    let least : 2 ^ (537 + j) ≤ rootUnits n = le-trans (le-of-eq (sym (root-at j cap)))
+    (root-mono (2 ^ (2 * j)) n (size-reaches n (2 * j) low)) in
     let top : z ≤ 2 + 2 * j = omega arith in
     let most : n ≤ 2 ^ (2 + 2 * j) = le-trans (le-of-lt (size-lt n)) (pow-mono top) in
     let square : 2 ^ (537 + j) * 2 ^ (537 + j) ≤ rootUnits n * rootUnits n = mul-le-mul least least in
     let e : 2 ^ (2 + 2 * j) * 2 ^ 1074 ≡ 4 * (2 ^ (537 + j) * 2 ^ (537 + j)) =
-    sym (pow-add 2 (2 + 2 * j) 1074) ∙ ap (λ (i : ℕ). 2 ^ i) (let r : 2 + 2 * j + 1074 ≡ 2 + (537 + j + (537 + j)) = omega arith in r)
+    sym (pow-add 2 (2 + 2 * j) 1074) ∙ ap (λ (i : ℕ). 2 ^ i)
+    (let r : 2 + 2 * j + 1074 ≡ 2 + (537 + j + (537 + j)) = omega arith in r)
     ∙ pow-add 2 2 (537 + j + (537 + j))
     ∙ ap (λ (i : ℕ). 2 ^ 2 * i) (pow-add 2 (537 + j) (537 + j)) in
     le-trans (mul-le-mul-right (2 ^ 1074) most) (le-trans (le-of-eq e) (mul-le-mul-left 4 square))
 
 -- ---- the sum R of two roots: p and x are r² and s² over l up to a factor of four
 sum-square : Order 5 (λ p x r s R.
-    (con 1 times p ≼ con 4 :* (r :* r)) ∷ (con 1 times x ≼ con 4 :* (s :* s)) ∷ (con 4 :* r times r ≼ R) ∷ (con 4 :* R times r ≼ R)
+    (con 1 times p ≼ con 4 :* (r :* r)) ∷ (con 1 times x ≼ con 4 :* (s :* s)) ∷ (con 4 :* r times r ≼ R) ∷
+    (con 4 :* R times r ≼ R)
     ∷ (con 4 :* s times s ≼ R) ∷ (con 4 :* R times s ≼ R) ∷ []
     ⊩ p :+ x ≈ con 8 :* (R :* R))
 sum-square = by-below tt
@@ -45,7 +49,8 @@ pair-square p x r s R l h i j k = le-trans (le-of-eq (spread .law p x l)) (sum-s
     spread = by-ring tt
 
 -- ---- the product of three sums, rounded twice
-product-of-three : Order 6 (λ a b c e d l. (c times a :* b ≼ con 2 :* (e :* l)) ∷ (con 2 :* l times e :* c ≼ con 2 :* (d :* l)) ∷ []
+product-of-three : Order 6 (λ a b c e d l. (c times a :* b ≼ con 2 :* (e :* l)) ∷ (con 2 :* l times e :* c ≼ con 2 :* (d :* l))
+    ∷ []
     ⊩ a :* b :* c ≈ con 4 :* d :* (l :* l))
 product-of-three = by-below tt
 
@@ -59,7 +64,8 @@ pub ratio-bound : (m1 m2 m3 a b c d q D l : ℕ) → 0 < l → m1 * l ≤ 8 * (a
 ratio-bound m1 m2 m3 a b c d q D l pos h i j big square delta =
     let three : m1 * l * (m2 * l) * (m3 * l) ≤ 8 * (a * a) * (8 * (b * b)) * (8 * (c * c)) = mul-le-mul (mul-le-mul h i) j in
     let squared : a * b * c * (a * b * c) ≤ 4 * d * (l * l) * (4 * d * (l * l)) = mul-le-mul big big in
-    le-of-mul-le-mul-left (chain .law m1 m2 m3 a b c d q D l three squared square delta) (mul-pos (mul-pos pos pos) (mul-pos (mul-pos pos pos) pos))
+    le-of-mul-le-mul-left (chain .law m1 m2 m3 a b c d q D l three squared square delta)
+    (mul-pos (mul-pos pos pos) (mul-pos (mul-pos pos pos) pos))
   where
     chain : Order 10 (λ m1 m2 m3 a b c d q D l.
         (con 4 times m1 :* l :* (m2 :* l) :* (m3 :* l) ≼ con 8 :* (a :* a) :* (con 8 :* (b :* b)) :* (con 8 :* (c :* c)))
@@ -72,12 +78,14 @@ ratio-bound m1 m2 m3 a b c d q D l pos h i j big square delta =
 
 -- ---- the middle: r, s, t, u are the roots of p, x, y, z; the rest are sums and products as they come
 pub middle-bound : (r s t u P y m a n N v T a1 b1 c1 d l : ℕ) → 0 < l
-    → y ≤ 2 * (t + u) → m * l ≤ 2 * (s * y) → a ≤ 2 * (P + m) → n * l ≤ 2 * (t * u) → N ≤ 2 * (a + n) → v ≤ 4 * r → T * l ≤ 2 * (v * N)
+    → y ≤ 2 * (t + u) → m * l ≤ 2 * (s * y) → a ≤ 2 * (P + m) → n * l ≤ 2 * (t * u) → N ≤ 2 * (a + n) → v ≤ 4 * r
+    → T * l ≤ 2 * (v * N)
     → P * l ≤ 4 * (r * r) → r + s ≤ 2 * a1 → r + t ≤ 2 * b1 → r + u ≤ 2 * c1 → a1 * b1 * c1 ≤ 4 * d * (l * l) → T ≤ 2 ^ 12 * d
 middle-bound r s t u P y m a n N v T a1 b1 c1 d l pos hy hm ha hn hN hv hT hP h1 h2 h3 big =
     let sums : (r + s) * (r + t) * (r + u) ≤ 2 * a1 * (2 * b1) * (2 * c1) = mul-le-mul (mul-le-mul h1 h2) h3 in
     let inner : N * l ≤ 16 * (r * r + s * t + s * u + t * u) = parts .law s t u r P y m a n N l hN ha hm hy hn hP in
-    let outer : T * l * l ≤ 128 * (r * (r * r + s * t + s * u + t * u)) = whole .law r v N T l (r * r + s * t + s * u + t * u) hT hv inner in
+    let outer : T * l * l ≤ 128 * (r * (r * r + s * t + s * u + t * u)) =
+    whole .law r v N T l (r * r + s * t + s * u + t * u) hT hv inner in
     le-of-mul-le-mul-left (chain .law r s t u T a1 b1 c1 d l outer sums big) (mul-pos pos pos)
   where
     parts : Order 11 (λ s t u r P y m a n N l.

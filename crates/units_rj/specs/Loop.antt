@@ -1,4 +1,5 @@
--- RJ's duplication whole, in two runs: as many passes, and the second value is the first divided by 2 ^ 3k, or neither is a number. Assumes nothing.
+-- RJ's duplication whole, in two runs: as many passes, and the second value is the first divided by 2 ^ 3k, or neither is a
+-- number. Assumes nothing.
 use mathlib.Core.Path.{_≡_, sym, subst, subst₂}
 use mathlib.Core.Logic.{inl, inr}
 use Prim.Native.Nat.{ℕ, suc, _≤_, _<_}
@@ -30,7 +31,8 @@ module _ {k : ℕ} {x x' y y' z z' p p' : Float} (a : Arg k x x') (b : Arg k y y
   abbrev S : Start k x x' y y' z z' p p' A₀ A₀' (gap (mean a b c P t) a .two .m) (gap (mean a b c P t) a .two .n)
       (gap (mean a b c P t) b .two .m) (gap (mean a b c P t) b .two .n)
       (gap (mean a b c P t) c .two .m) (gap (mean a b c P t) c .two .n)
-  S = start-two x x' y y' z z' p p' A₀ A₀' (gap (mean a b c P t) a .two) (gap (mean a b c P t) b .two) (gap (mean a b c P t) c .two)
+  S = start-two x x' y y' z z' p p' A₀ A₀' (gap (mean a b c P t) a .two) (gap (mean a b c P t) b .two)
+      (gap (mean a b c P t) c .two)
       (gap (mean a b c P t) (some P) .two)
 
   abbrev q : Float
@@ -43,15 +45,19 @@ module _ {k : ℕ} {x x' y y' z z' p p' : Float} (a : Arg k x x') (b : Arg k y y
   unfolding rjClose
   same-test j s s' h w = test-two j h (w .inv .a) (w .inv .w) (S .q)
 
-  ends : (j : ℕ) (s s' : Round) (n : ℕ) → j ≤ 99 → Whole k j s s' → T (rjClose q s) → Same k valueK (rjFound x y z A₀ s n) (rjFound x' y' z' A₀' s' n)
+  ends : (j : ℕ) (s s' : Round) (n : ℕ) → j ≤ 99 → Whole k j s s' → T (rjClose q s)
+      → Same k valueK (rjFound x y z A₀ s n) (rjFound x' y' z' A₀' s' n)
   unfolding rjClose
   ends j s s' n l w close =
       let i = w .inv in
       let h : j < 101 = omega arith in
       let e = ended j h (i .a) (i .w) (S .q) (S .M) (S .M') (S .lead) (S .lead') close in
-      let X = correction-two j A₀ A₀' x x' h (i .a) (i .w) (gap (mean a b c P t) a .two) (S .M) (S .M') (S .first) (S .first') (e .0) (e .1) in
-      let Y = correction-two j A₀ A₀' y y' h (i .a) (i .w) (gap (mean a b c P t) b .two) (S .M) (S .M') (S .second) (S .second') (e .0) (e .1) in
-      let Z = correction-two j A₀ A₀' z z' h (i .a) (i .w) (gap (mean a b c P t) c .two) (S .M) (S .M') (S .third) (S .third') (e .0) (e .1) in
+      let X = correction-two j A₀ A₀' x x' h (i .a) (i .w) (gap (mean a b c P t) a .two) (S .M) (S .M') (S .first) (S .first')
+      (e .0) (e .1) in
+      let Y = correction-two j A₀ A₀' y y' h (i .a) (i .w) (gap (mean a b c P t) b .two) (S .M) (S .M') (S .second) (S .second')
+      (e .0) (e .1) in
+      let Z = correction-two j A₀ A₀' z z' h (i .a) (i .w) (gap (mean a b c P t) c .two) (S .M) (S .M') (S .third) (S .third')
+      (e .0) (e .1) in
       duplicated n (series-fair j s s' x x' y y' z z' A₀ A₀' h (i .a) (i .w) (i .sum) X Y Z)
 
   pass : (j : ℕ) (s s' : Round) → j < 99 → Whole k (suc j) s s' → Whole k j (rjStep s) (rjStep s')
@@ -63,8 +69,11 @@ module _ {k : ℕ} {x x' y y' z z' p p' : Float} (a : Arg k x x') (b : Arg k y y
       let s = rjStep (rjBegin x y z p) in
       let s' = rjStep (rjBegin x' y' z' p') in
       let i = started a b c P t in
-      subst (λ (b : Bool). Same k valueK (rjDuplication x y z p) (capped rjStep (rjClose q') (rjFound x' y' z' A₀') rjSpent 99 b s' 1))
+      subst (λ (b : Bool). Same k valueK (rjDuplication x y z p)
+      (capped rjStep (rjClose q') (rjFound x' y' z' A₀') rjSpent 99 b s' 1))
       (same-test 99 s s' (lit< tt) i)
-      (loops-two rjStep rjStep (rjClose q) (rjClose q') (rjFound x y z A₀) rjSpent (rjFound x' y' z' A₀') rjSpent (Same k valueK) (Whole k) 99 pass
-      (λ j s s' l w. same-test j s s' (let r : j < 101 = omega arith in r) w) ends (λ s s' n w. duplicated n neither) 99 (rjClose q s) s s' 1
+      (loops-two rjStep rjStep (rjClose q) (rjClose q') (rjFound x y z A₀) rjSpent (rjFound x' y' z' A₀') rjSpent
+      (Same k valueK) (Whole k) 99 pass
+      (λ j s s' l w. same-test j s s' (let r : j < 101 = omega arith in r) w) ends (λ s s' n w. duplicated n neither) 99
+      (rjClose q s) s s' 1
       (le-refl 99) (λ u. u) i)

@@ -1,5 +1,5 @@
--- One pass of RJ in two runs: the roots, their sums and the denominator, and the two quantities without dimension that RC is asked at. At most one of
--- x, y, z is a zero, in the first pass. Assumes nothing.
+-- One pass of RJ in two runs: the roots, their sums and the denominator, and the two quantities without dimension that RC is
+-- asked at. At most one of x, y, z is a zero, in the first pass. Assumes nothing.
 use mathlib.Core.Path.{_≡_, refl, sym, ap, subst}
 use Prim.Native.Nat.{ℕ, _+_, _*_, _^_, _≤_, _<_, zero-le}
 use native.Mathlib.Nat.{le-trans, le-of-eq, lt-of-lt-of-le, lt-of-le-of-lt, zero-mul}
@@ -41,7 +41,8 @@ roots-square {x = x} {x' = x'} a =
   where
     square : (n r : ℕ) → 2 ^ 1008 ≤ n → n ≤ 2 ^ 1138 → r ≡ rootUnits n → n * l ≤ 4 * (r * r)
     square n r h i e =
-        le-trans (root-square n (lt-of-lt-of-le (lit< tt) h) (lt-of-le-of-lt i (lit< tt))) (le-of-eq (ap (λ (z : ℕ). 4 * (z * z)) (sym e)))
+        le-trans (root-square n (lt-of-lt-of-le (lit< tt) h) (lt-of-le-of-lt i (lit< tt)))
+        (le-of-eq (ap (λ (z : ℕ). 4 * (z * z)) (sym e)))
 
 pub roots-maybe : {k : ℕ} {x x' : Float} → Maybe binary64 k meanK x x' → Maybe binary64 k rootsK (root x) (root x')
 roots-maybe (none z) = none (root-nothing z)
@@ -53,7 +54,8 @@ roots-some (none z) = refl
 roots-some (some a) = refl
 
 maybe-square : {k : ℕ} {x x' : Float} (a : Maybe binary64 k meanK x x')
-    → (units a * l ≤ 4 * (units (roots-maybe a) * units (roots-maybe a))) × (units' a * l ≤ 4 * (units' (roots-maybe a) * units' (roots-maybe a)))
+    → (units a * l ≤ 4 * (units (roots-maybe a) * units (roots-maybe a)))
+    × (units' a * l ≤ 4 * (units' (roots-maybe a) * units' (roots-maybe a)))
 unfolding roots-maybe
 maybe-square (none z) = (le-trans (le-of-eq (zero-mul l)) zero-le, le-trans (le-of-eq (zero-mul l)) zero-le)
 maybe-square (some a) = roots-square a
@@ -86,8 +88,10 @@ pair {k} {p} {p'} {x} {x'} P X =
     made : (c : Maybe binary64 k pairK (root p ⊕ root x) (root p' ⊕ root x')) → T (some? c)
         → Sum (roots-two P .m) (units (roots-maybe X)) (units c) → Sum (roots-two P .n) (units' (roots-maybe X)) (units' c)
         → P .m * l ≤ 4 * (roots-two P .m * roots-two P .m) → P .n * l ≤ 4 * (roots-two P .n * roots-two P .n)
-        → units X * l ≤ 4 * (units (roots-maybe X) * units (roots-maybe X)) → units' X * l ≤ 4 * (units' (roots-maybe X) * units' (roots-maybe X))
-        → Pair k (P .m) (P .n) (units X) (units' X) (roots-two P .m) (roots-two P .n) (units (roots-maybe X)) (units' (roots-maybe X))
+        → units X * l ≤ 4 * (units (roots-maybe X) * units (roots-maybe X))
+        → units' X * l ≤ 4 * (units' (roots-maybe X) * units' (roots-maybe X))
+        → Pair k (P .m) (P .n) (units X) (units' X) (roots-two P .m) (roots-two P .n) (units (roots-maybe X))
+        (units' (roots-maybe X))
         (root p ⊕ root x) (root p' ⊕ root x')
     made (none z) t a b q q' w w' = absurd t
     made (some c) t a b q q' w w' = record {

@@ -66,21 +66,25 @@ module _ {k : ℕ} {x x' : Float} (X : Two binary64 k argK x x') where
       where
         gone : (v : Float) → v ≡ nan → (u w : Float) → u ⊗ (v ⊖ w) ≡ nan
         gone v e u w = ap (λ a. u ⊗ (a ⊖ w)) e ∙ ap (λ a. u ⊗ a) (nan-sub binary64 w) ∙ mul-nan binary64 u
-    three-fair v v' n (inr R) = inr (widen-two (mul-two (div-two (lit-two three tt) (distinct-two X P n tt tt tt) tt) (sub-two R over-root tt) tt) tt)
+    three-fair v v' n (inr R) = inr (widen-two (mul-two (div-two (lit-two three tt) (distinct-two X P n tt tt tt) tt)
+        (sub-two R over-root tt) tt) tt)
 
-two-fair : {k : ℕ} {y y' p p' : Float} (u u' v v' : Float) (Y : Two binary64 k argK y y') (P : Two binary64 k argK p p') → T (not (eq p y))
+two-fair : {k : ℕ} {y y' p p' : Float} (u u' v v' : Float) (Y : Two binary64 k argK y y') (P : Two binary64 k argK p p')
+    → T (not (eq p y))
     → Fair k resultK u u' → Fair k resultK v v'
     → Fair k rjK (three ⊗ (u ⊖ v) ⊘ (p ⊖ y)) (three ⊗ (u' ⊖ v') ⊘ (p' ⊖ y'))
 unfolding mulK mulOk divK divOk sumK sumOk distinctK within litOk ofBits
 two-fair {y = y} {y'} {p} {p'} u u' v v' Y P n (inl e) b = inl (gone u (e .0) v (p ⊖ y), gone u' (e .1) v' (p' ⊖ y'))
   where
     gone : (u : Float) → u ≡ nan → (v w : Float) → three ⊗ (u ⊖ v) ⊘ w ≡ nan
-    gone u e v w = ap (λ a. three ⊗ (a ⊖ v) ⊘ w) e ∙ ap (λ a. three ⊗ a ⊘ w) (nan-sub binary64 v) ∙ ap (λ a. a ⊘ w) (mul-nan binary64 three)
+    gone u e v w = ap (λ a. three ⊗ (a ⊖ v) ⊘ w) e ∙ ap (λ a. three ⊗ a ⊘ w) (nan-sub binary64 v)
+        ∙ ap (λ a. a ⊘ w) (mul-nan binary64 three)
         ∙ nan-div binary64 w
 two-fair {y = y} {y'} {p} {p'} u u' v v' Y P n (inr a) (inl e) = inl (gone v (e .0) u (p ⊖ y), gone v' (e .1) u' (p' ⊖ y'))
   where
     gone : (v : Float) → v ≡ nan → (u w : Float) → three ⊗ (u ⊖ v) ⊘ w ≡ nan
-    gone v e u w = ap (λ a. three ⊗ (u ⊖ a) ⊘ w) e ∙ ap (λ a. three ⊗ a ⊘ w) (sub-nan binary64 u) ∙ ap (λ a. a ⊘ w) (mul-nan binary64 three)
+    gone v e u w = ap (λ a. three ⊗ (u ⊖ a) ⊘ w) e ∙ ap (λ a. three ⊗ a ⊘ w) (sub-nan binary64 u)
+        ∙ ap (λ a. a ⊘ w) (mul-nan binary64 three)
         ∙ nan-div binary64 w
 two-fair u u' v v' Y P n (inr a) (inr b) = inr (widen-two
     (div-two (mul-two (lit-two three tt) (sub-two a b tt) tt) (distinct-two P Y n tt tt tt) tt) tt)
@@ -95,7 +99,8 @@ apart-test P X = lt-two (lit-two (bits 0x3FF3_3333_3333_3333) tt)
     (widen-two {B = quotientK} (div-two (larger-two P X tt) (smaller-two P X tt) tt) tt) tt
 
 -- equal either way round
-other-way : {k : ℕ} {u u' v v' : Float} → Two binary64 k argK u u' → Two binary64 k argK v v' → T (not (eq u v)) → T (not (eq v u))
+other-way : {k : ℕ} {u u' v v' : Float} → Two binary64 k argK u u' → Two binary64 k argK v v' → T (not (eq u v))
+    → T (not (eq v u))
 other-way {u = u} {v = v} a b h =
     not-T (eq v u)
     (λ t.
@@ -129,7 +134,8 @@ module _ {k : ℕ} {p p' : Float} (P : Argument k p p') (P⁺ : T (not (eq p zer
   like-p : {x x' : Float} → Argument k x x' → T (eq x p) → T (not (eq x zero))
   like-p {x} X e = not-T (eq x zero) (λ z. T-not (eq p zero) P⁺ (equal-zero (X .two .first) (P .two .first) e z))
 
-  module _ {x x' y y' z z' : Float} (X : Argument k x x') (Y : Argument k y y') (Z : Argument k z z') (xy : T (not (eq x zero && eq y zero)))
+  module _ {x x' y y' z z' : Float} (X : Argument k x x') (Y : Argument k y y') (Z : Argument k z z')
+      (xy : T (not (eq x zero && eq y zero)))
       (xz : T (not (eq x zero && eq z zero))) (yz : T (not (eq y zero && eq z zero))) where
     duplicated : Ran k rjK (Value (rjDuplication x y z p)) (Value (rjDuplication x' y' z' p'))
     unfolding within
@@ -138,7 +144,8 @@ module _ {k : ℕ} {p p' : Float} (P : Argument k p p') (P⁺ : T (not (eq p zer
         let b = arg-of (Y .two) (Y .plus) in
         let c = arg-of (Z .two) (Z .plus) in
         let e = ap₃ atMostOne (arg-some (X .two) (X .plus)) (arg-some (Y .two) (Y .plus)) (arg-some (Z .two) (Z .plus)) in
-        result (wider-same (duplication-two a b c Q (subst T (sym e) (at-most-one (eq x zero) (eq y zero) (eq z zero) xy xz yz))) tt)
+        result (wider-same (duplication-two a b c Q (subst T (sym e)
+        (at-most-one (eq x zero) (eq y zero) (eq z zero) xy xz yz))) tt)
       where
         ap₃ : (f : Bool → Bool → Bool → Bool) {a a' b b' c c' : Bool} → a ≡ a' → b ≡ b' → c ≡ c' → f a b c ≡ f a' b' c'
         ap₃ f {a' = a'} {b = b} {b' = b'} {c = c} h i j = ap (λ v. f v b c) h ∙ ap (λ v. f a' v c) i ∙ ap (λ v. f a' b' v) j
@@ -160,7 +167,8 @@ module _ {k : ℕ} {p p' : Float} (P : Argument k p p') (P⁺ : T (not (eq p zer
         (λ f. choose (Ran k rjK) (wellApart p y) (wellApart p' y') (apart-test Q Y⁺)
         (λ g. choose (Ran k rjK) (le x (maximum y p)) (le x' (maximum y' p')) (le-two (X .two) (larger-two Y⁺ Q tt) tt)
         (λ h. result (carried (ap₂ bothWays (same-way (rc-same X Y y⁺)) (same-way (rc-same X P P⁺)))
-        (two-fair (rcUnchecked x y .value) (rcUnchecked x' y' .value) (rcUnchecked x p .value) (rcUnchecked x' p' .value) Y⁺ Q (other-way Y⁺ Q f)
+        (two-fair (rcUnchecked x y .value) (rcUnchecked x' y' .value) (rcUnchecked x p .value) (rcUnchecked x' p' .value) Y⁺ Q
+        (other-way Y⁺ Q f)
         (unchecked-fair X Y y⁺) (unchecked-fair X P P⁺))))
         (λ h. last-two)) (λ g. last-two))
 
@@ -168,8 +176,10 @@ module _ {k : ℕ} {p p' : Float} (P : Argument k p p') (P⁺ : T (not (eq p zer
     unfolding rjCases
     cases-two = choose (Ran k rjK) (eq y z) (eq y' z') (eq-two (Y .two) (Z .two) tt) pair-two (λ e. last-two)
 
-  pub positive-two : {x x' y y' z z' : Float} (X : Argument k x x') (Y : Argument k y y') (Z : Argument k z z') → T (not (eq x zero && eq y zero))
-      → T (not (eq x zero && eq z zero)) → T (not (eq y zero && eq z zero)) → Ran k rjK (rjPositive x y z p) (rjPositive x' y' z' p')
+  pub positive-two : {x x' y y' z z' : Float} (X : Argument k x x') (Y : Argument k y y') (Z : Argument k z z')
+      → T (not (eq x zero && eq y zero))
+      → T (not (eq x zero && eq z zero)) → T (not (eq y zero && eq z zero))
+      → Ran k rjK (rjPositive x y z p) (rjPositive x' y' z' p')
   unfolding rjPositive rjThree
   positive-two {x} {x'} {y} {y'} {z} {z'} X Y Z xy xz yz =
       choose (Ran k rjK) (eq x y) (eq x' y') (eq-two (X .two) (Y .two) tt)
@@ -179,6 +189,8 @@ module _ {k : ℕ} {p p' : Float} (P : Argument k p p') (P⁺ : T (not (eq p zer
       choose (Ran k rjK) (eq x z) (eq x' z') (eq-two (X .two) (Z .two) tt)
       (λ f. choose (Ran k rjK) (eq x p) (eq x' p') (eq-two (X .two) (P .two) tt) (λ g. all-two X⁺)
       (λ g. choose (Ran k rjK) (wellApart p x) (wellApart p' x') (apart-test Q X⁺)
-      (λ h. result (carried (same-way (rc-same X P P⁺)) (three-fair X⁺ Q _ _ g (unchecked-fair X P P⁺)))) (λ h. cases-two X Y Z xy xz yz)))
-      (λ f. cases-two Z Y X (turned (eq y zero) (eq z zero) yz) (turned (eq x zero) (eq z zero) xz) (turned (eq x zero) (eq y zero) xy)))
+      (λ h. result (carried (same-way (rc-same X P P⁺)) (three-fair X⁺ Q _ _ g (unchecked-fair X P P⁺))))
+      (λ h. cases-two X Y Z xy xz yz)))
+      (λ f. cases-two Z Y X (turned (eq y zero) (eq z zero) yz) (turned (eq x zero) (eq z zero) xz)
+      (turned (eq x zero) (eq y zero) xy)))
       (λ e. cases-two X Y Z xy xz yz)

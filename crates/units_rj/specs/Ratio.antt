@@ -1,5 +1,5 @@
--- The denominator of RJ's pass in two runs, the ratio of the differences' product to its square, and the middle: neither has a dimension, so both are
--- the same float in both runs, and both are bounded. Assumes nothing.
+-- The denominator of RJ's pass in two runs, the ratio of the differences' product to its square, and the middle: neither has a
+-- dimension, so both are the same float in both runs, and both are bounded. Assumes nothing.
 use mathlib.Core.Path.{_≡_, refl, sym, _∙_, subst}
 use Prim.Native.Nat.{ℕ, _+_, _*_, _^_, _≤_, _<_}
 use native.Mathlib.Nat.{le-trans, le-of-eq, lt-of-lt-of-le, le-refl, mul-comm, mul-le-mul, le-of-mul-le-mul-left, one-mul, zero-lt-suc}
@@ -57,7 +57,8 @@ pub record Denominator (k : ℕ) (a a' b b' c c' : ℕ) (v v' : Float) : Type 0 
   pub three : a * b * c ≤ 4 * two .m * (l * l)
   pub three' : a' * b' * c' ≤ 4 * two .n * (l * l)
 
-pub denominator : {k : ℕ} {a a' b b' c c' : Float} (A : Two binary64 k pairK a a') (B : Two binary64 k pairK b b') (C : Two binary64 k pairK c c')
+pub denominator : {k : ℕ} {a a' b b' c c' : Float} (A : Two binary64 k pairK a a') (B : Two binary64 k pairK b b')
+    (C : Two binary64 k pairK c c')
     → Denominator k (A .m) (A .n) (B .m) (B .n) (C .m) (C .n) (a ⊗ b ⊗ c) (a' ⊗ b' ⊗ c')
 unfolding mulK mulOk within mul-two widen-two
 denominator A B C =
@@ -96,15 +97,18 @@ module _ {k : ℕ} {p p' x x' y y' z z' : Float} (P : Two binary64 k meanK p p')
   abbrev pub denominatorOf' : Float
   denominatorOf' = (root p' ⊕ root x') ⊗ (root p' ⊕ root y') ⊗ (root p' ⊕ root z')
 
-  abbrev a : Pair k (P .m) (P .n) (units X) (units' X) (roots-two P .m) (roots-two P .n) (units (roots-maybe X)) (units' (roots-maybe X))
+  abbrev a : Pair k (P .m) (P .n) (units X) (units' X) (roots-two P .m) (roots-two P .n) (units (roots-maybe X))
+      (units' (roots-maybe X))
       (root p ⊕ root x) (root p' ⊕ root x')
   a = pair P X
 
-  abbrev b : Pair k (P .m) (P .n) (units Y) (units' Y) (roots-two P .m) (roots-two P .n) (units (roots-maybe Y)) (units' (roots-maybe Y))
+  abbrev b : Pair k (P .m) (P .n) (units Y) (units' Y) (roots-two P .m) (roots-two P .n) (units (roots-maybe Y))
+      (units' (roots-maybe Y))
       (root p ⊕ root y) (root p' ⊕ root y')
   b = pair P Y
 
-  abbrev c : Pair k (P .m) (P .n) (units Z) (units' Z) (roots-two P .m) (roots-two P .n) (units (roots-maybe Z)) (units' (roots-maybe Z))
+  abbrev c : Pair k (P .m) (P .n) (units Z) (units' Z) (roots-two P .m) (roots-two P .n) (units (roots-maybe Z))
+      (units' (roots-maybe Z))
       (root p ⊕ root z) (root p' ⊕ root z')
   c = pair P Z
 
@@ -139,7 +143,8 @@ module _ {k : ℕ} {p p' x x' y y' z z' : Float} (P : Two binary64 k meanK p p')
             (le-trans (lit≤ tt) (floor-le (square-two .in-second))),
       )
 
-  module _ {v v' : Float} (D : Two binary64 k deltaK v v') (small : D .m * (l * l) ≤ 4 * ((P .m + units X) * (P .m + units Y) * (P .m + units Z)))
+  module _ {v v' : Float} (D : Two binary64 k deltaK v v')
+      (small : D .m * (l * l) ≤ 4 * ((P .m + units X) * (P .m + units Y) * (P .m + units Z)))
       (small' : D .n * (l * l) ≤ 4 * ((P .n + units' X) * (P .n + units' Y) * (P .n + units' Z))) where
     pub ratio-two : Two binary64 k ratioOfK (v ⊘ (denominatorOf ⊗ denominatorOf)) (v' ⊘ (denominatorOf' ⊗ denominatorOf'))
     unfolding divK divOk within clipK div-two
@@ -148,10 +153,12 @@ module _ {k : ℕ} {p p' x x' y y' z z' : Float} (P : Two binary64 k meanK p p')
         widen-two
         (clip-two (2 ^ 1090) (div-two D square-two tt)
         (clipped (D .m) (square-two .m) (lt-of-lt-of-le (lit< tt) (floor-le (square-two .in-first)))
-        (ratio-bound (P .m + units X) (P .m + units Y) (P .m + units Z) (a .two .m) (b .two .m) (c .two .m) (d .two .m) (square-two .m)
+        (ratio-bound (P .m + units X) (P .m + units Y) (P .m + units Z) (a .two .m) (b .two .m) (c .two .m) (d .two .m)
+        (square-two .m)
         (D .m) l l-pos (a .square) (b .square) (c .square) (d .three) (q .0) small))
         (clipped (D .n) (square-two .n) (lt-of-lt-of-le (lit< tt) (floor-le (square-two .in-second)))
-        (ratio-bound (P .n + units' X) (P .n + units' Y) (P .n + units' Z) (a .two .n) (b .two .n) (c .two .n) (d .two .n) (square-two .n)
+        (ratio-bound (P .n + units' X) (P .n + units' Y) (P .n + units' Z) (a .two .n) (b .two .n) (c .two .n) (d .two .n)
+        (square-two .n)
         (D .n) l l-pos (a .square') (b .square') (c .square') (d .three') (q .1) small')))
         tt
 
@@ -183,7 +190,8 @@ clipped-middle D q pos h =
 twice-law : (r : ℕ) → 2 ^ 1041 ≤ r → near binary64 (2 * l * r) l ≤ 4 * r
 twice-law r h =
     let p : 2 ^ 52 * l ≤ 2 * l * r = le-trans (lit≤ tt) (mul-le-mul (le-refl (2 * l)) h) in
-    le-of-mul-le-mul-left (le-trans (le-of-eq (mul-comm l _)) (le-trans (half-more binary64 (2 * l * r) l l-pos p) (le-of-eq (turned r l)))) l-pos
+    le-of-mul-le-mul-left (le-trans (le-of-eq (mul-comm l _))
+    (le-trans (half-more binary64 (2 * l * r) l l-pos p) (le-of-eq (turned r l)))) l-pos
   where
     turned : (r l : ℕ) → 2 * (2 * l * r) ≡ l * (4 * r)
     turned r l = four .law r l
@@ -192,7 +200,8 @@ twice-law r h =
         four = by-ring tt
 
 top-law : (v n : ℕ) → 2 ^ 1042 ≤ v → 2 ^ 1008 ≤ n → near binary64 (v * n) l * l ≤ 2 * (v * n)
-top-law v n h i = let p : 2 ^ 1042 * 2 ^ 1008 ≤ v * n = mul-le-mul h i in half-more binary64 (v * n) l l-pos (le-trans (lit≤ tt) p)
+top-law v n h i = let p : 2 ^ 1042 * 2 ^ 1008 ≤ v * n = mul-le-mul h i in
+    half-more binary64 (v * n) l l-pos (le-trans (lit≤ tt) p)
 
 -- the sums and products under the middle, as they come in one run
 record Inner (r s t u P N : ℕ) : Type 0 where
@@ -209,7 +218,8 @@ record Inner (r s t u P N : ℕ) : Type 0 where
 module _ {k : ℕ} {p p' x x' y y' z z' : Float} (P : Two binary64 k meanK p p') (X : Maybe binary64 k meanK x x')
     (Y : Maybe binary64 k meanK y y') (Z : Maybe binary64 k meanK z z') where
   record Summed : Type 0 where
-    two : Two binary64 k innerK (p ⊕ root x ⊗ (root y ⊕ root z) ⊕ root y ⊗ root z) (p' ⊕ root x' ⊗ (root y' ⊕ root z') ⊕ root y' ⊗ root z')
+    two : Two binary64 k innerK (p ⊕ root x ⊗ (root y ⊕ root z) ⊕ root y ⊗ root z)
+        (p' ⊕ root x' ⊗ (root y' ⊕ root z') ⊕ root y' ⊗ root z')
     laws : Inner (roots-two P .m) (units (roots-maybe X)) (units (roots-maybe Y)) (units (roots-maybe Z)) (P .m) (two .m)
     laws' : Inner (roots-two P .n) (units' (roots-maybe X)) (units' (roots-maybe Y)) (units' (roots-maybe Z)) (P .n) (two .n)
 
@@ -234,8 +244,30 @@ module _ {k : ℕ} {p p' x x' y y' z z' : Float} (P : Two binary64 k meanK p p')
       let t : T (some? N) = subst T (sym (add-some o innerK a n tt tt tt tt tt))
       (first-of (some? a) (some? n) (subst T (sym (add-some o firstK P₀ m tt tt tt tt tt)) tt)) in
       made N t
-      (record { y = units yz; m = units m; a = units a; n = units n; y-law = h₁ .0 .2; m-law = h₂ .0 .0; a-law = h₃ .0 .2; n-law = h₄ .0 .0; N-law = h₅ .0 .2 })
-      (record { y = units' yz; m = units' m; a = units' a; n = units' n; y-law = h₁ .1 .2; m-law = h₂ .1 .0; a-law = h₃ .1 .2; n-law = h₄ .1 .0; N-law = h₅ .1 .2 })
+      (record {
+        y = units yz;
+        m = units m;
+        a = units a;
+        n = units n;
+        y-law = h₁ .0 .2;
+        m-law = h₂ .0 .0;
+        a-law =
+            h₃ .0 .2;
+        n-law = h₄ .0 .0;
+        N-law = h₅ .0 .2;
+      })
+      (record {
+        y = units' yz;
+        m = units' m;
+        a = units' a;
+        n = units' n;
+        y-law = h₁ .1 .2;
+        m-law = h₂ .1 .0;
+        a-law =
+            h₃ .1 .2;
+        n-law = h₄ .1 .0;
+        N-law = h₅ .1 .2;
+      })
     where
       first-of : (b c : Bool) → T b → T (b || c)
       first-of true c t = tt
@@ -244,11 +276,13 @@ module _ {k : ℕ} {p p' x x' y y' z z' : Float} (P : Two binary64 k meanK p p')
       made : (N : Maybe binary64 k innerK (p ⊕ root x ⊗ (root y ⊕ root z) ⊕ root y ⊗ root z)
           (p' ⊕ root x' ⊗ (root y' ⊕ root z') ⊕ root y' ⊗ root z')) → T (some? N)
           → Inner (roots-two P .m) (units (roots-maybe X)) (units (roots-maybe Y)) (units (roots-maybe Z)) (P .m) (units N)
-          → Inner (roots-two P .n) (units' (roots-maybe X)) (units' (roots-maybe Y)) (units' (roots-maybe Z)) (P .n) (units' N) → Summed
+          → Inner (roots-two P .n) (units' (roots-maybe X)) (units' (roots-maybe Y)) (units' (roots-maybe Z)) (P .n) (units' N)
+          → Summed
       made (none z) t i j = absurd t
       made (some c) t i j = record { two = c; laws = i; laws' = j }
 
-  pub middle-two : Two binary64 k middleK (two ⊗ root p ⊗ (p ⊕ root x ⊗ (root y ⊕ root z) ⊕ root y ⊗ root z) ⊘ denominatorOf P X Y Z)
+  pub middle-two : Two binary64 k middleK (two ⊗ root p ⊗ (p ⊕ root x ⊗ (root y ⊕ root z) ⊕ root y ⊗ root z)
+      ⊘ denominatorOf P X Y Z)
       (two ⊗ root p' ⊗ (p' ⊕ root x' ⊗ (root y' ⊕ root z') ⊕ root y' ⊗ root z') ⊘ denominatorOf' P X Y Z)
   unfolding mulK mulOk divK divOk within litOk ofBits clipK mul-two div-two widen-two lit-two
   middle-two =
@@ -263,15 +297,21 @@ module _ {k : ℕ} {p p' x x' y y' z z' : Float} (P : Two binary64 k meanK p p')
       widen-two
       (clip-two (2 ^ 1086) (div-two top (dn .two) tt)
       (clipped-middle (top .m) (dn .two .m) (lt-of-lt-of-le (lit< tt) (floor-le (dn .two .in-first)))
-      (middle-bound (r .m) (units (roots-maybe X)) (units (roots-maybe Y)) (units (roots-maybe Z)) (P .m) (i .y) (i .m) (i .a) (i .n) (N .two .m)
+      (middle-bound (r .m) (units (roots-maybe X)) (units (roots-maybe Y)) (units (roots-maybe Z)) (P .m) (i .y) (i .m) (i .a)
+      (i .n) (N .two .m)
       (v .m) (top .m)
-      (a P X Y Z .two .m) (b P X Y Z .two .m) (c P X Y Z .two .m) (dn .two .m) l l-pos (i .y-law) (i .m-law) (i .a-law) (i .n-law) (i .N-law)
-      (twice-law (r .m) (floor-le (r .in-first))) (top-law (v .m) (N .two .m) (floor-le (v .in-first)) (floor-le (N .two .in-first))) (q .0)
+      (a P X Y Z .two .m) (b P X Y Z .two .m) (c P X Y Z .two .m) (dn .two .m) l l-pos (i .y-law) (i .m-law) (i .a-law)
+      (i .n-law) (i .N-law)
+      (twice-law (r .m) (floor-le (r .in-first))) (top-law (v .m) (N .two .m) (floor-le (v .in-first))
+      (floor-le (N .two .in-first))) (q .0)
       (a P X Y Z .sums) (b P X Y Z .sums) (c P X Y Z .sums) (dn .three)))
       (clipped-middle (top .n) (dn .two .n) (lt-of-lt-of-le (lit< tt) (floor-le (dn .two .in-second)))
-      (middle-bound (r .n) (units' (roots-maybe X)) (units' (roots-maybe Y)) (units' (roots-maybe Z)) (P .n) (j .y) (j .m) (j .a) (j .n)
+      (middle-bound (r .n) (units' (roots-maybe X)) (units' (roots-maybe Y)) (units' (roots-maybe Z)) (P .n) (j .y) (j .m)
+      (j .a) (j .n)
       (N .two .n) (v .n) (top .n)
-      (a P X Y Z .two .n) (b P X Y Z .two .n) (c P X Y Z .two .n) (dn .two .n) l l-pos (j .y-law) (j .m-law) (j .a-law) (j .n-law) (j .N-law)
-      (twice-law (r .n) (floor-le (r .in-second))) (top-law (v .n) (N .two .n) (floor-le (v .in-second)) (floor-le (N .two .in-second))) (q .1)
+      (a P X Y Z .two .n) (b P X Y Z .two .n) (c P X Y Z .two .n) (dn .two .n) l l-pos (j .y-law) (j .m-law) (j .a-law)
+      (j .n-law) (j .N-law)
+      (twice-law (r .n) (floor-le (r .in-second))) (top-law (v .n) (N .two .n) (floor-le (v .in-second))
+      (floor-le (N .two .in-second))) (q .1)
       (a P X Y Z .sums') (b P X Y Z .sums') (c P X Y Z .sums') (dn .three'))))
       tt

@@ -1,6 +1,6 @@
--- DEMAND 3 FOR RJ (document 01): with every argument zero or of size from 2 ^ -64 to 2 ^ 64, before and after all are multiplied by 4 ^ k,
--- and p above zero, both calls are refused alike, or have one round count and the second value is the first times exactly 2 ^ -3k. Assumes
--- nothing.
+-- DEMAND 3 FOR RJ (document 01): with every argument zero or of size from 2 ^ -64 to 2 ^ 64, before and after all are
+-- multiplied by 4 ^ k, and p above zero, both calls are refused alike, or have one round count and the second value is the
+-- first times exactly 2 ^ -3k. Assumes nothing.
 use mathlib.Core.Path.{_≡_, refl, sym, ap₂, subst, subst₂}
 use Prim.Native.Nat.{ℕ, _+_, _*_, _<_}
 use native.Mathlib.Omega.{arith}
@@ -38,7 +38,8 @@ settle refusal = answers.no
 settle (result s) = settled-same no-result s
 
 -- ---- of one run, where p is above zero: it is done without a call of itself
-at-once : (x y z p : Float) → le p zero ≡ false → beyondLimits (scaleOf4 x y z p) ≡ false → rjUnchecked x y z p ≡ rjPositive x y z p
+at-once : (x y z p : Float) → le p zero ≡ false → beyondLimits (scaleOf4 x y z p) ≡ false
+    → rjUnchecked x y z p ≡ rjPositive x y z p
 unfolding rjUnchecked rjRun planOf planScaled planUnscaled
 at-once x y z p e l = rw (e, l)
 
@@ -51,7 +52,8 @@ above-zero {s = s} {m} P t = go s (subst T (lt-units (zero-is binary64) P) t)
     go true h = absurd h
 
 not-below : {p : Float} {m : ℕ} → Is binary64 p false m → T (not (lt p zero))
-not-below {p} {m} P = not-T (lt p zero) (λ t. let h = ltb→lt m 0 (subst T (lt-units P (zero-is binary64)) t) in let r : ⊥ = omega arith in r)
+not-below {p} {m} P = not-T (lt p zero) (λ t. let h = ltb→lt m 0 (subst T (lt-units P (zero-is binary64)) t) in
+    let r : ⊥ = omega arith in r)
 
 not-zero : {p : Float} {s : Bool} {m : ℕ} → Is binary64 p s m → 0 < m → T (not (eq p zero))
 not-zero {p} P h = not-T (eq p zero) (λ t. let e = no-units-of P t in let r : ⊥ = omega arith in r)
@@ -82,12 +84,14 @@ module _ {k : ℕ} {x x' y y' z z' p p' : Float} (X : Two binary64 k argumentK x
   unfolding le
   not-le v h i = ap₂ _||_ (no (lt v zero) h) (no (eq v zero) i)
 
-  steps-pair : T (not (below3 x y z)) → T (not (zerosOf3 x y z)) → Pair k rjK (rjSettled (rjUnchecked x y z p)) (rjSettled (rjUnchecked x' y' z' p'))
+  steps-pair : T (not (below3 x y z)) → T (not (zerosOf3 x y z))
+      → Pair k rjK (rjSettled (rjUnchecked x y z p)) (rjSettled (rjUnchecked x' y' z' p'))
   steps-pair t n =
       let a = above3 X Y Z t in
       let d = zeros-apart (eq x zero) (eq y zero) (eq z zero) n in
       subst₂ (λ u v. Pair k rjK (rjSettled u) (rjSettled v))
-      (sym (at-once x y z p (not-le p (not-below P-is) p-zero) (within4 x y z p (first-size X) (first-size Y) (first-size Z) (first-size P))))
+      (sym (at-once x y z p (not-le p (not-below P-is) p-zero)
+      (within4 x y z p (first-size X) (first-size Y) (first-size Z) (first-size P))))
       (sym (at-once x' y' z' p' (not-le p' (not-below P-is') p-zero')
       (within4 x' y' z' p' (second-size X) (second-size Y) (second-size Z) (second-size P))))
       (settle (positive-two (record { two = P; plus = not-below P-is }) p-zero (a .0) (a .1) (a .2) (d .0) (d .1) (d .2)))
@@ -118,7 +122,8 @@ module _ {k : ℕ} {x x' y y' z z' p p' : Float} (X : Two binary64 k argumentK x
   rj-pair =
       subst₂ (λ n n'. Pair k rjK (whole x y z p n (eq p zero) (anyInfinite4 x y z p))
       (whole x' y' z' p' n' (eq p' zero) (anyInfinite4 x' y' z' p'))) (sym no-nan) (sym no-nan')
-      (subst₂ (λ e e'. Pair k rjK (whole x y z p false e (anyInfinite4 x y z p)) (whole x' y' z' p' false e' (anyInfinite4 x' y' z' p')))
+      (subst₂ (λ e e'. Pair k rjK (whole x y z p false e (anyInfinite4 x y z p))
+      (whole x' y' z' p' false e' (anyInfinite4 x' y' z' p')))
       (sym (no (eq p zero) p-zero)) (sym (no (eq p' zero) p-zero'))
       (subst₂ (λ i i'. Pair k rjK (rest x y z p i) (rest x' y' z' p' i')) (sym no-infinite) (sym no-infinite')
       (choose (Pair k rjK) (below3 x y z) (below3 x' y' z') (below3-two X Y Z) (λ t. refuse)
@@ -127,12 +132,14 @@ module _ {k : ℕ} {x x' y y' z z' p p' : Float} (X : Two binary64 k argumentK x
       refuse : {n : ℕ} → Pair k rjK (Refused n) (Refused n)
       refuse = answers.no
 
-upward : (k d : ℕ) (x y z p x' y' z' p' : Float) → InRange x → InRange y → InRange z → InRange p → InRange x' → InRange y' → InRange z'
+upward : (k d : ℕ) (x y z p x' y' z' p' : Float) → InRange x → InRange y → InRange z → InRange p → InRange x' → InRange y'
+    → InRange z'
     → InRange p' → T (lt zero p)
     → TimesFour (k + d) d x x' → TimesFour (k + d) d y y' → TimesFour (k + d) d z z' → TimesFour (k + d) d p p'
     → Alike (3 * d) (3 * (k + d)) (rj x y z p) (rj x' y' z' p')
 upward k d x y z p x' y' z' p' X Y Z P X' Y' Z' P' t q r s w =
-    alike-of (3 * d) (3 * (k + d)) (3 * d) (let e : 3 * d ≡ k * 0 + 3 * d = omega arith in e) (let e : 3 * (k + d) ≡ k * 3 + 3 * d = omega arith in e)
+    alike-of (3 * d) (3 * (k + d)) (3 * d) (let e : 3 * d ≡ k * 0 + 3 * d = omega arith in e)
+    (let e : 3 * (k + d) ≡ k * 3 + 3 * d = omega arith in e)
     (rj-pair (argument k d X X' q) (argument k d Y Y' r) (argument k d Z Z' s) (argument k d P P' w) t)
 
 -- the other run's p is above zero too
@@ -155,12 +162,15 @@ first-above {p = p} {p'} P t =
 
 scaled-above : (u d : ℕ) (p p' : Float) → InRange p → InRange p' → TimesFour u d p p' → T (lt zero p) → T (lt zero p')
 scaled-above u d p p' P P' w t =
-    either-way u d (λ k e. second-above (argument k d P P' (onward k d e w)) t) (λ k e. first-above (argument k u P' P (backward k u e w)) t)
+    either-way u d (λ k e. second-above (argument k d P P' (onward k d e w)) t)
+    (λ k e. first-above (argument k u P' P (backward k u e w)) t)
 
 -- THE CLAIM FOR RJ: its weight is 2 ^ -3k
-pub rj-scales : (u d : ℕ) (x y z p x' y' z' p' : Float) → InRange x → InRange y → InRange z → InRange p → InRange x' → InRange y' → InRange z'
+pub rj-scales : (u d : ℕ) (x y z p x' y' z' p' : Float) → InRange x → InRange y → InRange z → InRange p → InRange x'
+    → InRange y' → InRange z'
     → InRange p' → T (lt zero p)
-    → TimesFour u d x x' → TimesFour u d y y' → TimesFour u d z z' → TimesFour u d p p' → Alike (3 * d) (3 * u) (rj x y z p) (rj x' y' z' p')
+    → TimesFour u d x x' → TimesFour u d y y' → TimesFour u d z z' → TimesFour u d p p'
+    → Alike (3 * d) (3 * u) (rj x y z p) (rj x' y' z' p')
 rj-scales u d x y z p x' y' z' p' X Y Z P X' Y' Z' P' t q r s w =
     either-way u d
     (λ k e.
@@ -168,5 +178,6 @@ rj-scales u d x y z p x' y' z' p' X Y Z P X' Y' Z' P' t q r s w =
     (upward k d x y z p x' y' z' p' X Y Z P X' Y' Z' P' t (onward k d e q) (onward k d e r) (onward k d e s) (onward k d e w)))
     (λ k e.
     subst (λ i. Alike (3 * i) (3 * u) (rj x y z p) (rj x' y' z' p')) (sym e)
-    (alike-back (upward k u x' y' z' p' x y z p X' Y' Z' P' X Y Z P (scaled-above u d p p' P P' w t) (backward k u e q) (backward k u e r)
+    (alike-back (upward k u x' y' z' p' x y z p X' Y' Z' P' X Y Z P (scaled-above u d p p' P P' w t) (backward k u e q)
+    (backward k u e r)
     (backward k u e s) (backward k u e w))))

@@ -1,5 +1,5 @@
--- RJ's bound and series in two runs: where the loop ends the corrections are at most 1/32, the series' factor lies between a half and two,
--- and the value is divided by 2 ^ 3k. Assumes nothing.
+-- RJ's bound and series in two runs: where the loop ends the corrections are at most 1/32, the series' factor lies between a
+-- half and two, and the value is divided by 2 ^ 3k. Assumes nothing.
 use mathlib.Core.Path.{_≡_, sym, ap, ap₂, _∙_, subst}
 use mathlib.Core.Logic.{_⊎_, inl, inr}
 use mathlib.Core.List.{[], _∷_}
@@ -89,7 +89,8 @@ start-two x x' y y' z z' p p' a a' X Y Z P =
       first = le-trans (xy .left) (le-trans (le-trans (xyz .left) (all .left)) (le-of-eq (plain (all .two .s) E₃ (all .two .m))));
       first' = le-trans (xy .left-second) (le-trans (le-trans (xyz .left-second) (all .left-second))
           (le-of-eq (plain (all .two .s) E₃ (all .two .n))));
-      second = le-trans (xy .right) (le-trans (le-trans (xyz .left) (all .left)) (le-of-eq (plain (all .two .s) E₃ (all .two .m))));
+      second = le-trans (xy .right) (le-trans (le-trans (xyz .left) (all .left))
+          (le-of-eq (plain (all .two .s) E₃ (all .two .m))));
       second' = le-trans (xy .right-second) (le-trans (le-trans (xyz .left-second) (all .left-second))
           (le-of-eq (plain (all .two .s) E₃ (all .two .n))));
       third = le-trans (xyz .right) (le-trans (all .left) (le-of-eq (plain (all .two .s) E₃ (all .two .m))));
@@ -115,16 +116,19 @@ some-or-none i = elim (i .from) [ inl p ↦ inl (p .1) | inr h ↦ inr h ]
 lead-end : (M Q W F A : ℕ) → 64 * M ≤ Q → W * Q ≤ 2 * (F * l) → F ≤ A → 32 * M * W ≤ A * l
 lead-end M Q W F A h i j = le-of-mul-le-mul-left (chain .law M Q W F A l h i j) (zero-lt-suc 1)
   where
-    chain : Order 6 (λ M Q W F A l. (W times con 64 :* M ≼ Q) ∷ (con 1 times W :* Q ≼ con 2 :* (F :* l)) ∷ (con 2 :* l times F ≼ A) ∷ []
+    chain : Order 6 (λ M Q W F A l. (W times con 64 :* M ≼ Q) ∷ (con 1 times W :* Q ≼ con 2 :* (F :* l)) ∷
+        (con 2 :* l times F ≼ A) ∷ []
         ⊩ con 2 :* (con 32 :* M :* W) ≈ con 2 :* (A :* l))
     chain = by-below tt
 
-module _ {k : ℕ} (j : ℕ) (h : j < 101) {a a' w w' q q' : Float} (A : Two binary64 k meanK a a') (W : Two binary64 k (fourthK j) w w')
+module _ {k : ℕ} (j : ℕ) (h : j < 101) {a a' w w' q q' : Float} (A : Two binary64 k meanK a a')
+    (W : Two binary64 k (fourthK j) w w')
     (Q : Two binary64 k boundK q q') where
   pub test-two : lt (w ⊗ q) a ≡ lt (w' ⊗ q') a'
   test-two = lt-two (fallen j h W Q) A tt
 
-  pub ended : (M M' : ℕ) → 64 * M ≤ Q .m → 64 * M' ≤ Q .n → T (lt (w ⊗ q) a) → (32 * M * W .m ≤ A .m * l) × (32 * M' * W .n ≤ A .n * l)
+  pub ended : (M M' : ℕ) → 64 * M ≤ Q .m → 64 * M' ≤ Q .n → T (lt (w ⊗ q) a)
+      → (32 * M * W .m ≤ A .m * l) × (32 * M' * W .n ≤ A .n * l)
   unfolding fallen mul-two widen-two
   ended M M' lead lead' t =
       let F = fallen j h W Q in
@@ -133,10 +137,12 @@ module _ {k : ℕ} (j : ℕ) (h : j < 101) {a a' w w' q q' : Float} (A : Two bin
       let B = widen-two {B = anyFourthK} W (any-fourth j h) in (
         lead-end M (Q .m) (W .m) (F .m) (A .m) lead
             (product-less (W .m) (Q .m) (2 ^ 874) (2 ^ 950) (lit≤ tt) (floor-le (B .in-first)) (some-or-none (Q .in-first)))
-            (le-of-lt (ltb→lt (F .m) (A .m) (subst T (lt-units (F .first) (A .first) ∙ ap₂ (λ s t. below s (F .m) t (A .m)) R S) t))),
+            (le-of-lt (ltb→lt (F .m) (A .m) (subst T (lt-units (F .first) (A .first) ∙ ap₂ (λ s t. below s (F .m) t (A .m)) R S)
+            t))),
         lead-end M' (Q .n) (W .n) (F .n) (A .n) lead'
             (product-less (W .n) (Q .n) (2 ^ 874) (2 ^ 950) (lit≤ tt) (floor-le (B .in-second)) (some-or-none (Q .in-second)))
-            (le-of-lt (ltb→lt (F .n) (A .n) (subst T (test-two ∙ lt-units (F .second) (A .second) ∙ ap₂ (λ s t. below s (F .n) t (A .n)) R S) t))),
+            (le-of-lt (ltb→lt (F .n) (A .n) (subst T (test-two ∙ lt-units (F .second) (A .second)
+            ∙ ap₂ (λ s t. below s (F .n) t (A .n)) R S) t))),
       )
 
 -- ---- a correction: at most 1/32
@@ -150,7 +156,8 @@ ends-small G M W A D big pos g lead =
     le-trans (near-mono binary64 (C * l) A (1 * 2 ^ 1069 * 1) 1 pos (zero-lt-suc 0) (last-step .law C A C-small))
     (le-of-eq (near-exact binary64 1 1069 1 (zero-lt-suc 0) (pow-lt (digits binary64)) ∙ one-mul (2 ^ 1069)))
   where
-    scaled : Order 5 (λ w g m a l. (con 1 times con 32 :* m :* w ≼ a :* l) ∷ (con 32 :* w times g ≼ m) ∷ [] ⊩ w :* g :* con 32 ≈ a :* l)
+    scaled : Order 5 (λ w g m a l. (con 1 times con 32 :* m :* w ≼ a :* l) ∷ (con 32 :* w times g ≼ m)
+        ∷ [] ⊩ w :* g :* con 32 ≈ a :* l)
     scaled = by-below tt
 
     last-step : Order 2 (λ c a. (con (2 ^ 1069) times c :* con 32 ≼ a) ∷ [] ⊩ c :* con (2 ^ 1074) :* con 1 ≈ con (2 ^ 1069) :* a)
@@ -161,7 +168,8 @@ tinyK = record { any = true; zer = true; lo = 0; hi = 2 ^ 1069; g = 0; u = 0; d 
 
 pub correction-two : {k : ℕ} (j : ℕ) {a a' w w' : Float} (d d' x x' : Float) → j < 101
     → (A : Two binary64 k meanK a a') (W : Two binary64 k (fourthK j) w w')
-    (G : Two binary64 k gapK (d ⊖ x) (d' ⊖ x')) (M M' : ℕ) → G .m ≤ M → G .n ≤ M' → 32 * M * W .m ≤ A .m * l → 32 * M' * W .n ≤ A .n * l
+    (G : Two binary64 k gapK (d ⊖ x) (d' ⊖ x')) (M M' : ℕ) → G .m ≤ M → G .n ≤ M' → 32 * M * W .m ≤ A .m * l
+    → 32 * M' * W .n ≤ A .n * l
     → Two binary64 k tinyK (rjCorrection w d x a) (rjCorrection w' d' x' a')
 unfolding rjCorrection mulK mulOk divK divOk within clipK widen-two mul-two div-two
 correction-two j d d' x x' h A W G M M' g g' lead lead' =
@@ -185,9 +193,11 @@ factor-two x y z =
     let xyz = mul-two (mul-two x y tt) z tt in
     let p2 = mul-two p p tt in
     let p3 = mul-two p2 p tt in
-    let e2 = sub-two (sum-two (sum-two (mul-two x y tt) (mul-two x z tt) tt) (mul-two y z tt) tt) (mul-two (lit-two three tt) p2 tt) tt in
+    let e2 = sub-two (sum-two (sum-two (mul-two x y tt) (mul-two x z tt) tt) (mul-two y z tt) tt)
+    (mul-two (lit-two three tt) p2 tt) tt in
     let e3 = sum-two (sum-two xyz (mul-two (mul-two (lit-two two tt) e2 tt) p tt) tt) (mul-two (lit-two four tt) p3 tt) tt in
-    let e4 = mul-two (sum-two (sum-two (mul-two (lit-two two tt) xyz tt) (mul-two e2 p tt) tt) (mul-two (lit-two three tt) p3 tt) tt) p tt in
+    let e4 = mul-two (sum-two (sum-two (mul-two (lit-two two tt) xyz tt) (mul-two e2 p tt) tt)
+    (mul-two (lit-two three tt) p3 tt) tt) p tt in
     let e5 = mul-two xyz p2 tt in
     third-two (widen-two e2 tt) (widen-two e3 tt) (widen-two e4 tt) (widen-two e5 tt)
 
@@ -196,7 +206,8 @@ valueK = record { any = false; zer = false; lo = 2 ^ 560; hi = 2 ^ 1400; g = las
 
 pub series-fair : {k : ℕ} (j : ℕ) (s s' : Round) (x x' y y' z z' d d' : Float) → j < 101 → Two binary64 k meanK (s .an) (s' .an)
     → Two binary64 k (fourthK j) (s .fmn) (s' .fmn)
-    → Fair k (sumsK j) (s .sum) (s' .sum) → Two binary64 k tinyK (rjCorrection (s .fmn) d x (s .an)) (rjCorrection (s' .fmn) d' x' (s' .an))
+    → Fair k (sumsK j) (s .sum) (s' .sum) → Two binary64 k tinyK (rjCorrection (s .fmn) d x (s .an))
+    (rjCorrection (s' .fmn) d' x' (s' .an))
     → Two binary64 k tinyK (rjCorrection (s .fmn) d y (s .an)) (rjCorrection (s' .fmn) d' y' (s' .an))
     → Two binary64 k tinyK (rjCorrection (s .fmn) d z (s .an)) (rjCorrection (s' .fmn) d' z' (s' .an))
     → Fair k valueK (rjSeries x y z d s) (rjSeries x' y' z' d' s')
@@ -204,7 +215,8 @@ unfolding rjSeries powerK powerOk mulK mulOk plusK plusOk within litOk ofBits
 series-fair j s s' x x' y y' z z' d d' h A W (inl e) X Y Z = inl (gone (s .sum) (e .0) _, gone (s' .sum) (e .1) _)
   where
     gone : (v : Float) → v ≡ nan → (u : Float) → u ⊕ bits 0x4018_0000_0000_0000 ⊗ v ≡ nan
-    gone v e u = ap (λ a. u ⊕ bits 0x4018_0000_0000_0000 ⊗ a) e ∙ ap (λ a. u ⊕ a) (mul-nan binary64 (bits 0x4018_0000_0000_0000)) ∙ add-nan binary64 u
+    gone v e u = ap (λ a. u ⊕ bits 0x4018_0000_0000_0000 ⊗ a) e
+        ∙ ap (λ a. u ⊕ a) (mul-nan binary64 (bits 0x4018_0000_0000_0000)) ∙ add-nan binary64 u
 series-fair j s s' x x' y y' z z' d d' h A W (inr S) X Y Z =
     let F = widen-two {B = anyFourthK} W (any-fourth j h) in
     let R = widen-two {B = sumsK 0} S (any-sums j h) in

@@ -1,4 +1,5 @@
--- RJ's duplication in two runs up to the end of its first pass, where one of x, y, z may be a zero of either sign. Assumes nothing.
+-- RJ's duplication in two runs up to the end of its first pass, where one of x, y, z may be a zero of either sign. Assumes
+-- nothing.
 use mathlib.Core.Path.{_≡_, refl, sym, ap, ap₂, _∙_, subst}
 use mathlib.Core.Logic.{_⊎_, inl, inr}
 use mathlib.Core.List.{[], _∷_}
@@ -72,7 +73,8 @@ firstK = record { any = false; zer = false; lo = 2 ^ 1010; hi = 3 * 2 ^ 1138; g 
 abbrev pub atMostOne : Bool → Bool → Bool → Bool
 atMostOne a b c = (a && b || a && c) || b && c
 
-lambda : {k : ℕ} {x x' y y' z z' : Float} (a : Arg k x x') (b : Arg k y y') (c : Arg k z z') → T (atMostOne (some? a) (some? b) (some? c))
+lambda : {k : ℕ} {x x' y y' z z' : Float} (a : Arg k x x') (b : Arg k y y') (c : Arg k z z')
+    → T (atMostOne (some? a) (some? b) (some? c))
     → Two binary64 k firstK (lambdaOf (root x) (root y) (root z)) (lambdaOf (root x') (root y') (root z'))
 unfolding lambdaOf solid? mulK mulOk plusK plusOk within
 lambda a b c t =
@@ -112,7 +114,8 @@ next {k} {x} {x'} {v} {v'} a L =
     let L₀ : Maybe binary64 k firstK v v' = maybe.some L in
     let s = add-maybe o nextSumK (arg a) L₀ tt tt tt tt tt in
     let law = add-law o nextSumK (arg a) L₀ tt tt tt tt tt in
-    made s (subst T (sym (add-some o nextSumK (arg a) L₀ tt tt tt tt tt ∙ last-true (maybe.some? (arg a)))) tt) (law .0 .0) (law .1 .0)
+    made s (subst T (sym (add-some o nextSumK (arg a) L₀ tt tt tt tt tt ∙ last-true (maybe.some? (arg a)))) tt) (law .0 .0)
+    (law .1 .0)
     (same-first a) (same-second a)
   where
     last-true : (b : Bool) → b || true ≡ true
@@ -134,8 +137,10 @@ next {k} {x} {x'} {v} {v'} a L =
     made (maybe.none z) t h i e g = absurd t
     made (maybe.some s) t h i e g = record {
       two = widen-two (div-two s (lit-two four tt) tt) tt;
-      more = fourth-law (maybe.units (mean-of a)) (s .m) (digits-of (s .first)) (floor-le (s .in-first)) (le-trans (le-of-eq e) h);
-      more' = fourth-law (maybe.units' (mean-of a)) (s .n) (digits-of (s .second)) (floor-le (s .in-second)) (le-trans (le-of-eq g) i);
+      more = fourth-law (maybe.units (mean-of a)) (s .m) (digits-of (s .first)) (floor-le (s .in-first))
+          (le-trans (le-of-eq e) h);
+      more' = fourth-law (maybe.units' (mean-of a)) (s .n) (digits-of (s .second)) (floor-le (s .in-second))
+          (le-trans (le-of-eq g) i);
     }
 
 -- ---- the mean
@@ -155,7 +160,8 @@ module _ {k : ℕ} {x x' y y' z z' p p' : Float} (a : Arg k x x') (b : Arg k y y
       let xyz = add-maybe o threeK xy (arg c) tt tt tt tt tt in
       let q = mul-two (lit-two two tt) P tt in
       let e : maybe.some? xyz ≡ (some? a || some? b) || some? c =
-      add-some o threeK xy (arg c) tt tt tt tt tt ∙ ap₂ _||_ (add-some o sumOneK (arg a) (arg b) tt tt tt tt tt ∙ ap₂ _||_ (as-arg a) (as-arg b))
+      add-some o threeK xy (arg c) tt tt tt tt tt ∙ ap₂ _||_
+      (add-some o sumOneK (arg a) (arg b) tt tt tt tt tt ∙ ap₂ _||_ (as-arg a) (as-arg b))
       (as-arg c) in
       widen-two (div-two (plus-two (force xyz (subst T (sym e) (some-of (some? a) (some? b) (some? c) t))) q tt)
       (lit-two (bits 0x4014_0000_0000_0000) tt) tt) tt
@@ -176,7 +182,8 @@ record Difference (k A A' X X' : ℕ) (v v' : Float) : Type 0 where
   size : two .m ≤ A + X
   size' : two .n ≤ A' + X'
 
-difference-size : (A X : ℕ) (s t : Bool) → s ≡ false → t ≡ true → Digits binary64 A → Digits binary64 X → near binary64 (addN s A t X) 1 ≤ A + X
+difference-size : (A X : ℕ) (s t : Bool) → s ≡ false → t ≡ true → Digits binary64 A → Digits binary64 X
+    → near binary64 (addN s A t X) 1 ≤ A + X
 difference-size A X s t e g D E = rw (e, g) (go (ltb A X))
   where
     go : (b : Bool) → near binary64 (cond b (X - A) (A - X)) 1 ≤ A + X
@@ -213,7 +220,8 @@ some-or-none : {K : Kind} {s : Bool} {m : ℕ} → In K s m → (m ≡ 0) ⊎ (K
 some-or-none i = elim (i .from) [ inl p ↦ inl (p .1) | inr h ↦ inr h ]
 
 -- a product that may be zero, up to a factor of two
-product-more : (a b u v : ℕ) → 2 ^ 52 * l ≤ u * v → (a ≡ 0) ⊎ (u ≤ a) → (b ≡ 0) ⊎ (v ≤ b) → near binary64 (a * b) l * l ≤ 2 * (a * b)
+product-more : (a b u v : ℕ) → 2 ^ 52 * l ≤ u * v → (a ≡ 0) ⊎ (u ≤ a) → (b ≡ 0) ⊎ (v ≤ b)
+    → near binary64 (a * b) l * l ≤ 2 * (a * b)
 product-more a b u v h (inl e) q = nothing (a * b) (ap (λ (i : ℕ). i * b) e ∙ zero-mul b)
   where
     nothing : (n : ℕ) → n ≡ 0 → near binary64 n l * l ≤ 2 * n
@@ -229,7 +237,8 @@ product-more a b u v h (inr p) (inr q) = half-more binary64 (a * b) l l-pos (le-
 abbrev pairK : Kind
 pairK = record { any = true; zer = true; lo = 2 ^ 838; hi = 2 ^ 1204; g = last binary64 (2 ^ 838); u = 4; d = 0 }
 
-three-more : (E D a b c x y z : ℕ) → E * l ≤ 2 * (a * b) → D * l ≤ 2 * (E * c) → a ≤ x → b ≤ y → c ≤ z → D * (l * l) ≤ 4 * (x * y * z)
+three-more : (E D a b c x y z : ℕ) → E * l ≤ 2 * (a * b) → D * l ≤ 2 * (E * c) → a ≤ x → b ≤ y → c ≤ z
+    → D * (l * l) ≤ 4 * (x * y * z)
 three-more E D a b c x y z h i p q r =
     le-trans (chain .law E D a b c l h i) (mul-le-mul (le-refl 4) (mul-le-mul (mul-le-mul p q) r))
   where
@@ -242,7 +251,8 @@ record Delta (k A A' B B' C C' : ℕ) (v v' : Float) : Type 0 where
   small : two .m * (l * l) ≤ 4 * (A * B * C)
   small' : two .n * (l * l) ≤ 4 * (A' * B' * C')
 
-delta : {k A A' B B' C C' D D' : ℕ} {a a' b b' c c' : Float} → Difference k D D' A A' a a' → Difference k D D' B B' b b' → Difference k D D' C C' c c'
+delta : {k A A' B B' C C' D D' : ℕ} {a a' b b' c c' : Float} → Difference k D D' A A' a a' → Difference k D D' B B' b b'
+    → Difference k D D' C C' c c'
     → Delta k (D + A) (D' + A') (D + B) (D' + B') (D + C) (D' + C') (a ⊗ b ⊗ c) (a' ⊗ b' ⊗ c')
 unfolding mulK mulOk within mul-two widen-two
 delta a b c =
@@ -250,12 +260,16 @@ delta a b c =
     record {
       two = widen-two (mul-two E (c .two) tt) tt;
       small = three-more (E .m) _ (a .two .m) (b .two .m) (c .two .m) _ _ _
-          (product-more (a .two .m) (b .two .m) (2 ^ 956) (2 ^ 956) (lit≤ tt) (some-or-none (a .two .in-first)) (some-or-none (b .two .in-first)))
-          (product-more (E .m) (c .two .m) (2 ^ 838) (2 ^ 956) (lit≤ tt) (some-or-none (E .in-first)) (some-or-none (c .two .in-first)))
+          (product-more (a .two .m) (b .two .m) (2 ^ 956) (2 ^ 956) (lit≤ tt) (some-or-none (a .two .in-first))
+          (some-or-none (b .two .in-first)))
+          (product-more (E .m) (c .two .m) (2 ^ 838) (2 ^ 956) (lit≤ tt) (some-or-none (E .in-first))
+          (some-or-none (c .two .in-first)))
           (a .size) (b .size) (c .size);
       small' = three-more (E .n) _ (a .two .n) (b .two .n) (c .two .n) _ _ _
-          (product-more (a .two .n) (b .two .n) (2 ^ 956) (2 ^ 956) (lit≤ tt) (some-or-none (a .two .in-second)) (some-or-none (b .two .in-second)))
-          (product-more (E .n) (c .two .n) (2 ^ 838) (2 ^ 956) (lit≤ tt) (some-or-none (E .in-second)) (some-or-none (c .two .in-second)))
+          (product-more (a .two .n) (b .two .n) (2 ^ 956) (2 ^ 956) (lit≤ tt) (some-or-none (a .two .in-second))
+          (some-or-none (b .two .in-second)))
+          (product-more (E .n) (c .two .n) (2 ^ 838) (2 ^ 956) (lit≤ tt) (some-or-none (E .in-second))
+          (some-or-none (c .two .in-second)))
           (a .size') (b .size') (c .size');
     }
 

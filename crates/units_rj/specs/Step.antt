@@ -41,15 +41,19 @@ use Rattle.units_rj.specs.Ratio.{denominatorK, deltaK, taken, denominato
 
 -- ---- what RC gives, at floats that are the same in both runs
 pub term-fair : {k : ℕ} (e e' b b' : Float) → Two binary64 k ratioOfK e e' → Two binary64 k middleK b b'
-    → Fair k termK (cond (lt e (neg half)) (cond (lt (neg (bits 0x3FF8_0000_0000_0000)) e) (rcUnchecked one b .value) (rc1p e)) (rc1p e))
+    → Fair k termK (cond (lt e (neg half)) (cond (lt (neg (bits 0x3FF8_0000_0000_0000)) e) (rcUnchecked one b .value) (rc1p e))
+    (rc1p e))
     (cond (lt e' (neg half)) (cond (lt (neg (bits 0x3FF8_0000_0000_0000)) e') (rcUnchecked one b' .value) (rc1p e')) (rc1p e'))
 term-fair {k} e e' b b' E B =
     subst₂
-    (λ i j. Fair k termK (cond (lt e (neg half)) (cond (lt (neg (bits 0x3FF8_0000_0000_0000)) e) (rcUnchecked one b .value) (rc1p e)) (rc1p e))
-    (cond (lt i (neg half)) (cond (lt (neg (bits 0x3FF8_0000_0000_0000)) i) (rcUnchecked one j .value) (rc1p i)) (rc1p i))) (same-float E refl)
+    (λ i j. Fair k termK (cond (lt e (neg half)) (cond (lt (neg (bits 0x3FF8_0000_0000_0000)) e) (rcUnchecked one b .value)
+    (rc1p e)) (rc1p e))
+    (cond (lt i (neg half)) (cond (lt (neg (bits 0x3FF8_0000_0000_0000)) i) (rcUnchecked one j .value) (rc1p i)) (rc1p i)))
+    (same-float E refl)
     (same-float B refl)
     (choose (Fair k termK) (lt e (neg half)) (lt e (neg half)) refl
-    (λ t. choose (Fair k termK) (lt (neg (bits 0x3FF8_0000_0000_0000)) e) (lt (neg (bits 0x3FF8_0000_0000_0000)) e) refl (λ u. middle-fair B₀)
+    (λ t. choose (Fair k termK) (lt (neg (bits 0x3FF8_0000_0000_0000)) e) (lt (neg (bits 0x3FF8_0000_0000_0000)) e) refl
+    (λ u. middle-fair B₀)
     (λ u. rc1p-fair E₀ (λ q. u)))
     (λ t. rc1p-fair E₀ (λ q. absurd (T-not (lt e (neg half)) t q))))
   where
@@ -61,13 +65,31 @@ term-fair {k} e e' b b' E B =
 
 -- ---- kinds, with j passes left
 abbrev pub fourthK : ℕ → Kind
-fourthK j = record { any = false; zer = false; lo = 2 ^ (874 + 2 * j); hi = 2 ^ (874 + 2 * j); g = last binary64 (2 ^ (874 + 2 * j)); u = 0; d = 0 }
+fourthK j = record {
+  any = false;
+  zer = false;
+  lo = 2 ^ (874 + 2 * j);
+  hi = 2 ^ (874 + 2 * j);
+  g =
+      last binary64 (2 ^ (874 + 2 * j));
+  u = 0;
+  d = 0;
+}
 
 abbrev pub anyFourthK : Kind
 anyFourthK = record { any = false; zer = false; lo = 2 ^ 874; hi = 2 ^ 1074; g = last binary64 (2 ^ 874); u = 0; d = 0 }
 
 abbrev pub productK : ℕ → Kind
-productK j = record { any = true; zer = true; lo = 2 ^ (120 + 6 * j); hi = 2 ^ 1270; g = last binary64 (2 ^ (120 + 6 * j)); u = 6; d = 0 }
+productK j = record {
+  any = true;
+  zer = true;
+  lo = 2 ^ (120 + 6 * j);
+  hi = 2 ^ 1270;
+  g = last binary64 (2 ^ (120 + 6 * j));
+  u =
+      6;
+  d = 0;
+}
 
 abbrev addedK : Kind
 addedK = record { any = false; zer = false; lo = 2 ^ 570; hi = 2 ^ 1335; g = last binary64 (2 ^ 570); u = 0; d = 3 }
@@ -118,17 +140,27 @@ unfolding all within
 any-sums = every 101 (λ j. within (sumsK j) (sumsK 0)) tt
 
 -- ---- the added term, and the sum
-added-fair : {k : ℕ} {w w' d d' t t' : Float} → Two binary64 k anyFourthK w w' → Two binary64 k denominatorK d d' → Fair k termK t t'
+added-fair : {k : ℕ} {w w' d d' t t' : Float} → Two binary64 k anyFourthK w w' → Two binary64 k denominatorK d d'
+    → Fair k termK t t'
     → Fair k addedK (w ⊘ d ⊗ t) (w' ⊘ d' ⊗ t')
 unfolding mulK mulOk divK divOk within
 added-fair {w = w} {w'} {d} {d'} W D (inl z) =
     inl (ap (λ a. w ⊘ d ⊗ a) (z .0) ∙ mul-nan binary64 (w ⊘ d), ap (λ a. w' ⊘ d' ⊗ a) (z .1) ∙ mul-nan binary64 (w' ⊘ d'))
 added-fair W D (inr t) = inr (widen-two (mul-two (div-two W D tt) t tt) tt)
 
-sum-fair : {k : ℕ} (j : ℕ) {s s' t t' : Float} → j < 100 → Fair k (sumsK (suc j)) s s' → Fair k addedK t t' → Fair k (sumsK j) (s ⊕ t) (s' ⊕ t')
+sum-fair : {k : ℕ} (j : ℕ) {s s' t t' : Float} → j < 100 → Fair k (sumsK (suc j)) s s' → Fair k addedK t t'
+    → Fair k (sumsK j) (s ⊕ t) (s' ⊕ t')
 unfolding sumsOk
-sum-fair j {s} {s'} {t} {t'} h (inl z) b = inl (ap (λ a. a ⊕ t) (z .0) ∙ nan-add binary64 t, ap (λ a. a ⊕ t') (z .1) ∙ nan-add binary64 t')
-sum-fair j {s} {s'} {t} {t'} h (inr a) (inl z) = inl (ap (λ b. s ⊕ b) (z .0) ∙ add-nan binary64 s, ap (λ b. s' ⊕ b) (z .1) ∙ add-nan binary64 s')
+sum-fair j {s} {s'} {t} {t'} h (inl z) b = inl (
+  ap (λ a. a ⊕ t) (z .0) ∙ nan-add binary64 t,
+  ap (λ a. a ⊕ t') (z .1)
+      ∙ nan-add binary64 t',
+)
+sum-fair j {s} {s'} {t} {t'} h (inr a) (inl z) = inl (
+  ap (λ b. s ⊕ b) (z .0) ∙ add-nan binary64 s,
+  ap (λ b. s' ⊕ b) (z .1)
+      ∙ add-nan binary64 s',
+)
 sum-fair j h (inr a) (inr b) =
     inr (widen-two (plus-two a b (and-l (plusOk binary64 (sumsK (suc j)) addedK) _ (sums j h)))
     (and-r (plusOk binary64 (sumsK (suc j)) addedK) _ (sums j h)))
@@ -155,14 +187,16 @@ next a L = record {
 
 -- ---- the product of the differences stays below that of the sums
 sixty-fourth : (n : ℕ) → Digits binary64 n → (n ≡ 0) ⊎ (2 ^ 59 ≤ n) → near binary64 (n * l) (64 * l) * 64 ≡ n
-sixty-fourth n D h = ap (λ (i : ℕ). i * 64) (near-same binary64 (n * l) (64 * l) n 64 (mul-pos (zero-lt-suc 63) l-pos) (zero-lt-suc 63)
+sixty-fourth n D h = ap (λ (i : ℕ). i * 64) (near-same binary64 (n * l) (64 * l) n 64 (mul-pos (zero-lt-suc 63) l-pos)
+    (zero-lt-suc 63)
     (turned n l)) ∙ go h
   where
     turned : (n l : ℕ) → n * l * 64 ≡ n * (64 * l)
     turned n l = omega arith
 
     go : (n ≡ 0) ⊎ (2 ^ 59 ≤ n) → near binary64 n 64 * 64 ≡ n
-    go (inl e) = ap (λ (i : ℕ). near binary64 i 64 * 64) e ∙ ap (λ (i : ℕ). i * 64) (near-zero binary64 64 (zero-lt-suc 63)) ∙ sym e
+    go (inl e) = ap (λ (i : ℕ). near binary64 i 64 * 64) e ∙ ap (λ (i : ℕ). i * 64) (near-zero binary64 64 (zero-lt-suc 63))
+        ∙ sym e
     go (inr g) = part 6 D g
 
 small-kept : (D E a b c a' b' c' : ℕ) → E * 64 ≡ D → a ≤ a' * 4 → b ≤ b' * 4 → c ≤ c' * 4 → D * (l * l) ≤ 4 * (a * b * c)
@@ -230,13 +264,15 @@ module _ {k j : ℕ} {s s' : Round} (h : j < 100) (i : Inv k (suc j) s s') (L : 
   small-wide' = i .small'
 
   -- the ratio of both runs, past its test
-  ratio-is : (s : Round) (d : Float) → T (le (bits 0x0010_0000_0000_0000) (d ⊗ d)) → (r : Roots) → rjRatio s r d ≡ s .delta ⊘ (d ⊗ d)
+  ratio-is : (s : Round) (d : Float) → T (le (bits 0x0010_0000_0000_0000) (d ⊗ d)) → (r : Roots)
+      → rjRatio s r d ≡ s .delta ⊘ (d ⊗ d)
   unfolding rjRatio
   ratio-is s d t r = taken (le (bits 0x0010_0000_0000_0000) (d ⊗ d)) (s .delta ⊘ (d ⊗ d)) _ t
 
   added : Fair k addedK (s .fmn ⊘ rjDenominator (roots s) ⊗ rjTerm (s .pn) (roots s) (rjDenominator (roots s))
       (rjRatio s (roots s) (rjDenominator (roots s))))
-      (s' .fmn ⊘ rjDenominator (roots s') ⊗ rjTerm (s' .pn) (roots s') (rjDenominator (roots s')) (rjRatio s' (roots s') (rjDenominator (roots s'))))
+      (s' .fmn ⊘ rjDenominator (roots s') ⊗ rjTerm (s' .pn) (roots s') (rjDenominator (roots s'))
+      (rjRatio s' (roots s') (rjDenominator (roots s'))))
   unfolding rjDenominator rjTerm rjMiddle
   added =
       let t = normal (i .p) (i .x) (i .y) (i .z) in
@@ -268,11 +304,13 @@ module _ {k j : ℕ} {s s' : Round} (h : j < 100) (i : Inv k (suc j) s s') (L : 
     w = widen-two (div-two (i .w) (lit-two four tt) (and-l (divOk binary64 (fourthK (suc j)) fourK) _ (fourths j h)))
         (and-r (divOk binary64 (fourthK (suc j)) fourK) _ (fourths j h));
     sum = sum-fair j h (i .sum) added;
-    small = small-kept (i .delta .m) _ _ _ _ _ _ _ (sixty-fourth (i .delta .m) (digits-of (i .delta .first)) (many (i .delta .in-first) spare))
+    small = small-kept (i .delta .m) _ _ _ _ _ _ _ (sixty-fourth (i .delta .m) (digits-of (i .delta .first))
+        (many (i .delta .in-first) spare))
         (pair-falls (i .p .m) (units (i .x)) (P .two .m) (X .two .m) (P .more) (X .more))
         (pair-falls (i .p .m) (units (i .y)) (P .two .m) (Y .two .m) (P .more) (Y .more))
         (pair-falls (i .p .m) (units (i .z)) (P .two .m) (Z .two .m) (P .more) (Z .more)) (i .small);
-    small' = small-kept (i .delta .n) _ _ _ _ _ _ _ (sixty-fourth (i .delta .n) (digits-of (i .delta .second)) (many (i .delta .in-second) spare))
+    small' = small-kept (i .delta .n) _ _ _ _ _ _ _ (sixty-fourth (i .delta .n) (digits-of (i .delta .second))
+        (many (i .delta .in-second) spare))
         (pair-falls (i .p .n) (units' (i .x)) (P .two .n) (X .two .n) (P .more') (X .more'))
         (pair-falls (i .p .n) (units' (i .y)) (P .two .n) (Y .two .n) (P .more') (Y .more'))
         (pair-falls (i .p .n) (units' (i .z)) (P .two .n) (Z .two .n) (P .more') (Z .more')) (i .small');

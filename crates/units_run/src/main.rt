@@ -1,5 +1,5 @@
-// Demand 3 run through the proved entries: each call of its standard input, which has the form of the listing's, is asked again with
-// its arguments multiplied by every power of four that keeps them in range, and the answers are compared.
+// Demand 3 run through the proved entries: each call of its standard input, which has the form of the listing's, is asked again
+// with its arguments multiplied by every power of four that keeps them in range, and the answers are compared.
 mod pair;
 
 use crate::pair::Verdict;
@@ -7,11 +7,13 @@ use crate::pair::asked;
 use crate::pair::judge;
 use crate::pair::place;
 use calls::Call;
-use libc::STDERR_FILENO;
-use libc::STDIN_FILENO;
 use libc::STDOUT_FILENO;
 use listing_read::Line;
 use listing_read::call_of;
+use rows::BLOCK;
+use rows::ROW;
+use rows::begin;
+use rows::next;
 ghost use Prim.Native.Nat.{_<_};
 
 // Calls are shown until so many pairs differ.
@@ -25,9 +27,6 @@ struct Tally {
     differ: [u64; 6],
     // rows in another form, or of which demand 3 does not speak
     odd: u64,
-    // how many bytes of the next row are held, and whether there is more to read
-    held: usize,
-    going: bool,
 }
 
 fn more(x: u64) -> u64 {
@@ -129,48 +128,25 @@ fn take_row(row: &[u8], tally: Tally) -> Tally {
     }
 }
 
-// A row that is longer than `held` is cut, and then in another form.
-fn take_byte(b: u8, held: &mut [u8], tally: Tally) -> Tally {
+// Every row, one after the other. One that is longer than `held` is cut, and then in another form.
+fn take_rows(tally: Tally) -> Tally {
+    let mut block = [0u8; BLOCK];
+    let mut held = [0u8; ROW];
     let mut t = tally;
-    let n = t.held;
-    if b == b'\n' {
-        t.held = 0;
-        if n <= held.len() {
-            return take_row(&held[..n], t);
+    let mut rows = begin();
+    // A proved loop has to end, and nothing says that the input does: so many turns no run uses up.
+    let mut turns = u64::MAX;
+    while turns > 0 {
+        rows = next(rows, &mut block, &mut held);
+        if rows.whole {
+            let n = rows.row;
+            t = take_row(&held[..n], t);
+        } else {
+            return t;
         }
-        return t;
-    }
-    t.held = writing::push(held, n, b);
-    t
-}
-
-fn take_block(block: &[u8], held: &mut [u8], tally: Tally) -> Tally {
-    let mut t = tally;
-    let mut i = 0;
-    while i < block.len() {
-        t = take_byte(block[i], held, t);
-        i += 1;
+        turns -= 1;
     }
     t
-}
-
-fn read_some(held: &mut [u8; 71], tally: Tally) -> Tally {
-    let mut t = tally;
-    let mut block = [0u8; 2048];
-    let got = libc::read(STDIN_FILENO, &mut block);
-    if got < 0 {
-        io::write_all(STDERR_FILENO, b"units_run: cannot read\n");
-    }
-    if got <= 0 {
-        t.going = false;
-        // the last row may lack its end
-        if t.held > 0 {
-            return take_byte(b'\n', held, t);
-        }
-        return t;
-    }
-    let size = io::count(got, &block);
-    take_block(&block[..size], held, t)
 }
 
 fn put(number: u64, what: &[u8]) {
@@ -199,21 +175,11 @@ fn report_all(t: Tally) {
 }
 
 fn main() {
-    let mut held = [0u8; 71];
-    let mut t = Tally {
+    report_all(take_rows(Tally {
         calls: [0; 6],
         pairs: [0; 6],
         refused: [0; 6],
         differ: [0; 6],
         odd: 0,
-        held: 0,
-        going: true,
-    };
-    // A proved loop has to end, and nothing says that the input does: so many turns no run uses up.
-    let mut turns = u64::MAX;
-    while turns > 0 && t.going {
-        t = read_some(&mut held, t);
-        turns -= 1;
-    }
-    report_all(t);
+    }));
 }

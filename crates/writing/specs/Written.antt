@@ -3,12 +3,14 @@ use Prim.Native.Nat.{ℕ, suc, _+_, _≤_}
 use mathlib.Core.Path.{_≡_, refl, sym, ap, _∙_}
 use mathlib.Core.Bool.{Bool, true, false, cond}
 use mathlib.Core.List.{List, [], _∷_, _++_}
+use mathlib.Core.Logic.{⊎-elim}
 use native.Mathlib.Nat.{add-zero, add-suc, suc-add}
 use native.Mathlib.Omega.{arith}
-use borrow.Author.Tests.{le-leb, leb-true}
+use borrow.Author.Tests.{le-leb, leb-true, lt-ltb, le-ltb}
 use lib.Dec.{leb, ltb}
 use lib.ListN.{length, set, length-append}
 use lib.Seq.{sets, length-sets, set-comm}
+use Rattle.algebra.specs.Order.{lt-or-le}
 
 -- `out` is `before` with `text` written over it from `at` on, and `next` is the place after that
 pub record Put (before : List ℕ) (at : ℕ) (text out : List ℕ) (next : ℕ) : Type 0 where
@@ -24,7 +26,11 @@ pub tried-put :
     {room : ℕ} {before text out : List ℕ} {at next : ℕ} → at + room ≤ length before → Tried room before at text out next
     → Put before at text out next
 tried-put {room} {before} {text} {out} {at} h t =
-    record { bytes = rw (le-leb (at + room) (length before) h) at (t .bytes); place = rw (le-leb (at + room) (length before) h) at (t .place) }
+    record {
+      bytes = rw (le-leb (at + room) (length before) h) at (t .bytes);
+      place =
+          rw (le-leb (at + room) (length before) h) at (t .place);
+    }
 
 -- ---- a function that tests for room, `has_room(out.len(), at, room)`, and then writes or leaves the place as it is
 pub there : {t : Bool} {n l : ℕ} → t ≡ leb n l → t ≡ true → n ≤ l
@@ -43,6 +49,11 @@ tried-lacking e f = record { bytes = rw (sym e ∙ f); place = rw (sym e ∙ f) 
 -- how many of `size` bytes are held after one more: a byte past the end is lost, and so is `set` there
 unfoldable pub pushed : ℕ → ℕ → ℕ
 pushed n size = cond (ltb n size) (n + 1) n
+
+pub pushed-most : (n size r : ℕ) → n ≤ size → r ≡ pushed n size → r ≤ size
+unfolding pushed
+pushed-most n size r h e =
+    ⊎-elim (λ k. omega (arith, rw (lt-ltb n size k) at e)) (λ k. omega (arith, rw (le-ltb n size k) at e)) (lt-or-le n size)
 
 -- ---- a run after a run is one run
 sets-more : (vs ws l : List ℕ) (i : ℕ) → sets (sets l i vs) (i + length vs) ws ≡ sets l i (vs ++ ws)

@@ -3,6 +3,9 @@ ghost use mathlib.Core.Path.{_≡_};
 ghost use Prim.Native.Nat.{_+_, _≤_, min};
 ghost use lib.Dec.{leb};
 
+// So many bytes of replies there is room for at once: what io's large buffer has.
+pub const OUT: usize = 65536;
+
 // Whether `room` more bytes fit into `length` bytes after the first `at`.
 pub fn has_room(length: usize, at: usize, room: usize) -> bool
     ensures { λ r. ⌜ r ≡ leb (at + room) length ⌝ }

@@ -20,5 +20,9 @@ elliprc-unchecked-spec =
       sym (c .before .found .ensures),
     ) (c .over-root .ensures))
     (λ c κs. tt)
-    (λ c. rw (sym (c .before .before .before .scale2 .ensures), sym (c .before .before .rescales2 .ensures) ∙ c .before .if1 .left)
+    (λ c. rw (
+      sym (c .before .before .before .scale2 .ensures),
+      sym (c .before .before .rescales2 .ensures)
+          ∙ c .before .if1 .left,
+    )
     (c .found2 .ensures)))

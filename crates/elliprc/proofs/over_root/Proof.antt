@@ -6,4 +6,5 @@ use Rattle.elliprc.proofs.over_root.Tie as tie
 
 pub over-root-spec : {M : Type 1} → statement M
 unfolding overRoot
-over-root-spec = tie.close (tie.spec (λ c κs. tt) (λ c κs. tt) (λ c. rw (sym (c .before .before .sqrt .ensures), sym (c .rescaled .ensures))))
+over-root-spec = tie.close (tie.spec (λ c κs. tt) (λ c κs. tt)
+    (λ c. rw (sym (c .before .before .sqrt .ensures), sym (c .rescaled .ensures))))

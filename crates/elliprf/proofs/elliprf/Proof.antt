@@ -12,7 +12,10 @@ elliprf-spec =
     (λ c κs. tt)
     (λ c. rw (sym (c .before .any-nan3 .ensures) ∙ c .if1 .taken))
     (λ c κs. tt)
-    (λ c. rw (sym (c .before .before .before .any-nan3 .ensures) ∙ c .before .before .if1 .left, sym (c .before .below3 .ensures) ∙ c .if2 .taken))
+    (λ c. rw (
+      sym (c .before .before .before .any-nan3 .ensures) ∙ c .before .before .if1 .left,
+      sym (c .before .below3 .ensures) ∙ c .if2 .taken,
+    ))
     (λ c κs. tt)
     (λ c. rw (
       sym (c .before .before .before .before .before .any-nan3 .ensures) ∙ c .before .before .before .before .if1 .left,
@@ -21,7 +24,28 @@ elliprf-spec =
     ))
     (λ c κs. tt)
     (λ c κs. tt)
-    (λ c. rw (sym (c .before .before .before .before .before .before .before .before .any-nan3 .ensures) ∙ c .before .before .before .before .before .before .before .if1 .left, sym (c .before .before .before .before .before .before .below3 .ensures) ∙ c .before .before .before .before .before .if2 .left, sym (c .before .before .before .before .zeros3 .ensures) ∙ c .before .before .before .if3 .left, sym (c .before .before .any-infinite3 .ensures) ∙ c .before .if4 .taken) (c .infinite .ensures))
+    (λ c.
+    let d = c .before in
+    let e = d .before .before in
+    let f = e .before .before in
+    let g = f .before .before in
+    rw (
+      sym (g .before .any-nan3 .ensures) ∙ g .if1 .left,
+      sym (f .before .below3 .ensures) ∙ f .if2 .left,
+      sym (e .before .zeros3 .ensures) ∙ e .if3 .left,
+      sym (d .before .any-infinite3 .ensures) ∙ d .if4 .taken,
+    ) (c .infinite .ensures))
     (λ c κs. tt)
     (λ c κs. tt)
-    (λ c. rw (sym (c .before .before .before .before .before .before .before .before .before .any-nan3 .ensures) ∙ c .before .before .before .before .before .before .before .before .if1 .left, sym (c .before .before .before .before .before .before .before .below3 .ensures) ∙ c .before .before .before .before .before .before .if2 .left, sym (c .before .before .before .before .before .zeros3 .ensures) ∙ c .before .before .before .before .if3 .left, sym (c .before .before .before .any-infinite3 .ensures) ∙ c .before .before .if4 .left, sym (c .before .elliprf-unchecked .ensures)) (c .settle .ensures)))
+    (λ c.
+    let d = c .before .before in
+    let e = d .before .before in
+    let f = e .before .before in
+    let g = f .before .before in
+    rw (
+      sym (g .before .any-nan3 .ensures) ∙ g .if1 .left,
+      sym (f .before .below3 .ensures) ∙ f .if2 .left,
+      sym (e .before .zeros3 .ensures) ∙ e .if3 .left,
+      sym (d .before .any-infinite3 .ensures) ∙ d .if4 .left,
+      sym (c .before .elliprf-unchecked .ensures),
+    ) (c .settle .ensures)))

@@ -20,5 +20,9 @@ elliprf-unchecked-spec =
       sym (c .before .steps .ensures),
     ) (c .over-root .ensures))
     (λ c κs. tt)
-    (λ c. rw (sym (c .before .before .before .scale3 .ensures), sym (c .before .before .rescales3 .ensures) ∙ c .before .if1 .left)
+    (λ c. rw (
+      sym (c .before .before .before .scale3 .ensures),
+      sym (c .before .before .rescales3 .ensures)
+          ∙ c .before .if1 .left,
+    )
     (c .steps2 .ensures)))

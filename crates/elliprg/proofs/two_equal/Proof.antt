@@ -7,4 +7,8 @@ use Rattle.elliprg.proofs.two_equal.Tie as tie
 pub two-equal-spec : {M : Type 1} → statement M
 unfolding rgTwo
 two-equal-spec = tie.close (tie.spec (λ c κs. tt) (λ c κs. tt) (λ c κs. tt)
-    (λ c. rw (sym (c .before .before .before .elliprc-unchecked .ensures), sym (c .before .sqrt .ensures), sym (c .carried .ensures))))
+    (λ c. rw (
+      sym (c .before .before .before .elliprc-unchecked .ensures),
+      sym (c .before .sqrt .ensures),
+      sym (c .carried .ensures),
+    )))

@@ -1,4 +1,5 @@
--- The proof of the cycle of calls {call}: the allowance falls, and each case of the plan is that of the definition. Assumes nothing.
+-- The proof of the cycle of calls {call}: the allowance falls, and each case of the plan is that of the definition. Assumes
+-- nothing.
 use Prim.Native.Nat.{ℕ, zero, suc, _-_, _<_}
 use mathlib.Core.Path.{_≡_, refl, sym, ap, _∙_}
 use native.Mathlib.Nat.{pos-of-ne-zero}
@@ -89,7 +90,8 @@ call-sub-call : (t : ℕ) → call-lts.Need-sub-call (claims t) (call-at t) call
 call-sub-call t c = pos-of-ne-zero (c .before .before .before .before .if1 .left)
 
 call-call-requires : (t : ℕ) → call-lts.Need-call-requires (claims t) (call-at t) call.Post
-call-call-requires t c κs = let b = c .before .before .before .before in (less (b .before .args .left) t (b .before .pre .0) (b .if1 .left), tt)
+call-call-requires t c κs = let b = c .before .before .before .before in
+    (less (b .before .args .left) t (b .before .pre .0) (b .if1 .left), tt)
 
 call-over-scale-requires : (t : ℕ) → call-lts.Need-over-scale-requires (claims t) (call-at t) call.Post
 call-over-scale-requires t c κs = tt
@@ -101,7 +103,8 @@ call-sub-call-2 : (t : ℕ) → call-lts.Need-sub-call-2 (claims t) (call-at t) 
 call-sub-call-2 t c = pos-of-ne-zero (c .before .before .before .before .if1 .left)
 
 call-call-requires-2 : (t : ℕ) → call-lts.Need-call-requires-2 (claims t) (call-at t) call.Post
-call-call-requires-2 t c κs = let b = c .before .before .before .before in (less (b .before .args .left) t (b .before .pre .0) (b .if1 .left), tt)
+call-call-requires-2 t c κs = let b = c .before .before .before .before in
+    (less (b .before .args .left) t (b .before .pre .0) (b .if1 .left), tt)
 
 call-carried-requires : (t : ℕ) → call-lts.Need-carried-requires (claims t) (call-at t) call.Post
 call-carried-requires t c κs = tt
@@ -109,14 +112,16 @@ call-carried-requires t c κs = tt
 call-returns-2 : (t : ℕ) → call-lts.Need-returns-2 (claims t) (call-at t) call.Post
 call-returns-2 t c =
     let k = c .before .before .before in
-    done (k .before .before .args .left) (k .planned .result) _ _ (k .before .if1 .left) (k .planned .ensures) (c .before .plan .given .1)
+    done (k .before .before .args .left) (k .planned .result) _ _ (k .before .if1 .left) (k .planned .ensures)
+    (c .before .plan .given .1)
 
 call-returns-3 : (t : ℕ) → call-lts.Need-returns-3 (claims t) (call-at t) call.Post
 call-returns-3 t c =
     let k = c .before .before .before .before .before in
     let d = c .before .before .before .plan2 .given in
     c .over-scale .ensures ∙ ap (λ (a : Answer). overScale a (d .0 .0 .scale)) (c .before .call .ensures)
-    ∙ rescales (k .before .before .args .left) (k .planned .result) _ (d .0 .0) (k .before .if1 .left) (k .planned .ensures) (d .1)
+    ∙ rescales (k .before .before .args .left) (k .planned .result) _ (d .0 .0) (k .before .if1 .left) (k .planned .ensures)
+    (d .1)
 
 call-returns-4 : (t : ℕ) → call-lts.Need-returns-4 (claims t) (call-at t) call.Post
 call-returns-4 t c =

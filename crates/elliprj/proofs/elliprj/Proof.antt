@@ -20,14 +20,40 @@ elliprj-spec =
     ))
     (λ c κs. tt)
     (λ c. rw (
-      sym (c .before .before .before .before .before .before .any-nan4 .ensures) ∙ c .before .before .before .before .before .if1 .left,
+      sym (c .before .before .before .before .before .before .any-nan4 .ensures)
+          ∙ c .before .before .before .before .before .if1 .left,
       c .before .before .before .before .if2 .left,
       sym (c .before .before .before .below3 .ensures) ∙ c .before .before .if3 .left,
       sym (c .before .zeros3 .ensures) ∙ c .if4 .taken,
     ))
     (λ c κs. tt)
     (λ c κs. tt)
-    (λ c. rw (sym (c .before .before .before .before .before .before .before .before .before .any-nan4 .ensures) ∙ c .before .before .before .before .before .before .before .before .if1 .left, c .before .before .before .before .before .before .before .if2 .left, sym (c .before .before .before .before .before .before .below3 .ensures) ∙ c .before .before .before .before .before .if3 .left, sym (c .before .before .before .before .zeros3 .ensures) ∙ c .before .before .before .if4 .left, sym (c .before .before .any-infinite4 .ensures) ∙ c .before .if5 .taken) (c .infinite .ensures))
+    (λ c.
+    let d = c .before in
+    let e = d .before .before in
+    let f = e .before .before in
+    let g = f .before .before in
+    let h = g .before in
+    rw (
+      sym (h .before .any-nan4 .ensures) ∙ h .if1 .left,
+      g .if2 .left,
+      sym (f .before .below3 .ensures) ∙ f .if3 .left,
+      sym (e .before .zeros3 .ensures) ∙ e .if4 .left,
+      sym (d .before .any-infinite4 .ensures) ∙ d .if5 .taken,
+    ) (c .infinite .ensures))
     (λ c κs. tt)
     (λ c κs. tt)
-    (λ c. rw (sym (c .before .before .before .before .before .before .before .before .before .before .any-nan4 .ensures) ∙ c .before .before .before .before .before .before .before .before .before .if1 .left, c .before .before .before .before .before .before .before .before .if2 .left, sym (c .before .before .before .before .before .before .before .below3 .ensures) ∙ c .before .before .before .before .before .before .if3 .left, sym (c .before .before .before .before .before .zeros3 .ensures) ∙ c .before .before .before .before .if4 .left, sym (c .before .before .before .any-infinite4 .ensures) ∙ c .before .before .if5 .left, sym (c .before .elliprj-unchecked .ensures)) (c .settled .ensures)))
+    (λ c.
+    let d = c .before .before in
+    let e = d .before .before in
+    let f = e .before .before in
+    let g = f .before .before in
+    let h = g .before in
+    rw (
+      sym (h .before .any-nan4 .ensures) ∙ h .if1 .left,
+      g .if2 .left,
+      sym (f .before .below3 .ensures) ∙ f .if3 .left,
+      sym (e .before .zeros3 .ensures) ∙ e .if4 .left,
+      sym (d .before .any-infinite4 .ensures) ∙ d .if5 .left,
+      sym (c .before .elliprj-unchecked .ensures),
+    ) (c .settled .ensures)))

@@ -1,4 +1,5 @@
--- `argument` meets its contract. The invariant: the digits that are left, after the number so far, give what all sixteen give. Assumes nothing.
+-- `argument` meets its contract. The invariant: the digits that are left, after the number so far, give what all sixteen give.
+-- Assumes nothing.
 use Prim.Native.Nat.{ℕ, _+_, _-_, _*_, _^_, _≤_, _<_}
 use mathlib.Core.Path.{_≡_, _∙_}
 use mathlib.Core.List.{List}
@@ -18,7 +19,8 @@ use Rattle.listing_read.proofs.argument.Tie as tie
 
 abbrev Inv-loop : tie.InvT-loop
 Inv-loop line at value₀ i₀ value i =
-    (i ≤ 16) × (value < 16 ^ i) × (numberFrom 16 value (take (16 - i) (drop (at + 1 + i) line)) ≡ numberFrom 16 0 (take 16 (drop (at + 1) line)))
+    (i ≤ 16) × (value < 16 ^ i) × (numberFrom 16 value (take (16 - i) (drop (at + 1 + i) line))
+    ≡ numberFrom 16 0 (take 16 (drop (at + 1) line)))
 
 abbrev μ-loop : tie.MeasureT-loop
 μ-loop line at value₀ i₀ value i = 16 - i
@@ -35,7 +37,8 @@ grown : (c : tie.Else2 Inv-loop μ-loop) → c .before .before .before .before .
     < 16 ^ (c .before .before .before .before .loop .i + 1)
 grown c = digit-room _ _ _ (c .before .before .before .before .loop .inv .1) (c .if2 .left)
 
-more-fits : (c : tie.Else2 Inv-loop μ-loop) → c .before .before .before .before .loop .value * 16 + c .before .digit .result < 2 ^ 64
+more-fits : (c : tie.Else2 Inv-loop μ-loop)
+    → c .before .before .before .before .loop .value * 16 + c .before .digit .result < 2 ^ 64
 more-fits c = digits-fit _ _ (omega arith) (grown c)
 
 loop-again : tie.Need-loop-again Inv-loop μ-loop
@@ -57,7 +60,8 @@ returns-2 c =
     let k = c .before .before .before .before .before in
     let a = k .before .before .before .args in
     rw (eq-eqb _ _ (k .if1 .left))
-    (digit-none 16 (l .value) (now (a .line)) (a .at + 1 + l .i) (16 - l .i) (c .before .digit .result) (omega arith) (c .before .digit .ensures)
+    (digit-none 16 (l .value) (now (a .line)) (a .at + 1 + l .i) (16 - l .i) (c .before .digit .result) (omega arith)
+    (c .before .digit .ensures)
     (16 - (l .i + 1)) (omega arith)
     (c .if2 .taken)
     ∙ l .inv .2)

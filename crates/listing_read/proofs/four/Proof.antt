@@ -42,11 +42,19 @@ returns c = rw (sym (c .before .before .argument .ensures) ∙ c .enum-told .giv
 
 returns-2 : tie.Need-returns-2
 unfolding readAs andThen wordsAt named
-returns-2 c = let k = c .before .before .before in rw (first k, sym (c .before .before .argument2 .ensures) ∙ c .enum-told2 .given .1)
+returns-2 c = let k = c .before .before .before in rw (
+  first k,
+  sym (c .before .before .argument2 .ensures)
+      ∙ c .enum-told2 .given .1,
+)
 
 returns-3 : tie.Need-returns-3
 unfolding readAs andThen wordsAt named
-returns-3 c = let k = c .before .before .before in rw (first (k .before .before .before .before), second k, sym (c .before .before .argument3 .ensures) ∙ c .enum-told3 .given .1)
+returns-3 c = let k = c .before .before .before in rw (
+  first (k .before .before .before .before),
+  second k,
+  sym (c .before .before .argument3 .ensures) ∙ c .enum-told3 .given .1,
+)
 
 returns-4 : tie.Need-returns-4
 unfolding readAs andThen wordsAt named

@@ -30,7 +30,11 @@ returns c = rw (sym (c .before .before .argument .ensures) ∙ c .enum-told .giv
 
 returns-2 : tie.Need-returns-2
 unfolding readAs andThen wordsAt named
-returns-2 c = let k = c .before .before .before in rw (first k, sym (c .before .before .argument2 .ensures) ∙ c .enum-told2 .given .1)
+returns-2 c = let k = c .before .before .before in rw (
+  first k,
+  sym (c .before .before .argument2 .ensures)
+      ∙ c .enum-told2 .given .1,
+)
 
 returns-3 : tie.Need-returns-3
 unfolding readAs andThen wordsAt

@@ -12,17 +12,19 @@ use Rattle.listing_write.specs.Text.{countText, longestCount}
 use Rattle.listing_write.proofs.put_count.Statement.{statement}
 use Rattle.listing_write.proofs.put_count.Tie as tie
 
-module _ (n : ℕ) {o out : List ℕ} {at end : ℕ} (room : at + longestCount ≤ length o) (t : Tried 10 o at (decimal 9 n) out end) where
-  counted : Put o at (countText n) (set out end 10) (end + 1)
-  unfolding countText
-  counted = put-more (tried-put (omega arith) t) (put-byte out end 10)
+module _ (n : ℕ) {o out : List ℕ} {at end : ℕ} (room : at + longestCount ≤ length o) (t : Tried 10 o at (decimal 9 n) out end)
+  where
+    counted : Put o at (countText n) (set out end 10) (end + 1)
+    unfolding countText
+    counted = put-more (tried-put (omega arith) t) (put-byte out end 10)
 
-  -- at most ten digits, so there is room for the end
-  ten : end ≤ at + 10
-  unfolding decimal
-  ten = omega (arith, rw digits-length at (tried-put (omega arith) t .place), places-most 9 n)
+    -- at most ten digits, so there is room for the end
+    ten : end ≤ at + 10
+    unfolding decimal
+    ten = omega (arith, rw digits-length at (tried-put (omega arith) t .place), places-most 9 n)
 
-after : (c : tie.After-slice-known2) → c .before .before .put-decimal .result ≤ c .before .before .before .before .before .args .at + 10
+after : (c : tie.After-slice-known2)
+    → c .before .before .put-decimal .result ≤ c .before .before .before .before .before .args .at + 10
 after c = let d = c .before .before in let s = d .before .before .before in ten (s .args .n) (s .pre) (d .put-decimal .ensures)
 
 pub put-count-spec : {M : Type 1} → statement M
@@ -33,4 +35,5 @@ put-count-spec =
     (λ c. omega (arith, after c))
     (λ c. omega (arith, after c))
     (λ c. search needs)
-    (λ c. let d = c .before .before in let s = d .before .before .before in counted (s .args .n) (s .pre) (d .put-decimal .ensures)))
+    (λ c. let d = c .before .before in let s = d .before .before .before in
+    counted (s .args .n) (s .pre) (d .put-decimal .ensures)))

@@ -12,7 +12,8 @@ use Rattle.writing.specs.Written.{Put}
 use Rattle.listing_write.proofs.put_name.Statement.{statement}
 use Rattle.listing_write.proofs.put_name.Tie as tie
 
-lettered : (c : Call) (o : List ℕ) (at b : ℕ) → nameOf c ≡ 82 ∷ b ∷ [] → Put o at (nameOf c) (set (set o at 82) (at + 1) b) (at + 2)
+lettered : (c : Call) (o : List ℕ) (at b : ℕ) → nameOf c ≡ 82 ∷ b ∷ []
+    → Put o at (nameOf c) (set (set o at 82) (at + 1) b) (at + 2)
 lettered c o at b e = rw e (record { bytes = rw add-one; place = refl })
 
 pub put-name-spec : {M : Type 1} → statement M

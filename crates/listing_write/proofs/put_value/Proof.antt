@@ -17,7 +17,8 @@ use Rattle.listing_write.proofs.put_value.Statement.{statement}
 use Rattle.listing_write.proofs.put_value.Tie as tie
 
 valued :
-    (f : Found) (o o′ out : List ℕ) (at bits end next : ℕ) → bits ≡ toBits binary64 (f .value) → Put (set o at 32) (at + 1) (digits 16 16 bits) o′ end
+    (f : Found) (o o′ out : List ℕ) (at bits end next : ℕ) → bits ≡ toBits binary64 (f .value)
+    → Put (set o at 32) (at + 1) (digits 16 16 bits) o′ end
     → Put (set o′ end 32) (end + 1) (countText (f .way .rounds)) out next → Put o at (valueText f) out next
 unfolding valueText wordText
 valued f o o′ out at bits end next e p q = put-more (put-more (put-byte o at 32) (rw e at p)) (put-more (put-byte o′ end 32) q)

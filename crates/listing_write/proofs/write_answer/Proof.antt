@@ -21,7 +21,8 @@ unfolding textOf
 answered c a f p q = put-more p (rw f at q)
 
 -- the name leaves as much room as is asked
-room : (c : Call) {o half : List ℕ} {at end : ℕ} (k : ℕ) → at + (longestName + k) ≤ length o → Put o at (nameOf c) half end → end + k ≤ length half
+room : (c : Call) {o half : List ℕ} {at end : ℕ} (k : ℕ) → at + (longestName + k) ≤ length o → Put o at (nameOf c) half end
+    → end + k ≤ length half
 room c k h p = omega (arith, p .place, put-length p, name-length c)
 
 returns : tie.Need-returns
@@ -44,7 +45,8 @@ write-answer-spec =
     (tie.spec
     (λ c κs. omega arith)
     (λ c. search needs)
-    (λ c κs. room _ longestValue (c .before .before .before .before .before .before .before .before .before .pre) (c .before .before .before .before .before .before .put-name .ensures))
+    (λ c κs. room _ longestValue (c .before .before .before .before .before .before .before .before .before .pre)
+    (c .before .before .before .before .before .before .put-name .ensures))
     (λ c. search needs)
     (λ c κs. room _ longestRefusal (omega arith) (c .before .before .before .before .before .before .put-name .ensures))
     (λ c. put-length (returns c))

@@ -1,4 +1,5 @@
--- `power::find` meets its contract: `positive` has the power of a finite number above zero, and `Special` has the rest. Assumes nothing.
+-- `power::find` meets its contract: `positive` has the power of a finite number above zero, and `Special` has the rest. Assumes
+-- nothing.
 use mathlib.Core.Path.{sym, ap, _∙_, subst}
 use native.Mathlib.Omega.{arith}
 use lib.Dec.{T}

@@ -1,4 +1,5 @@
--- `power::positive` meets its contract, by `Law`: what is returned is the pattern that `is_clear` or `search` vouches for. Assumes nothing.
+-- `power::positive` meets its contract, by `Law`: what is returned is the pattern that `is_clear` or `search` vouches for.
+-- Assumes nothing.
 use borrow.Author.Needs.{needs}
 use native.Mathlib.Omega.{arith}
 use mathlib.Core.Path.{sym}
@@ -28,7 +29,8 @@ float-from-bits-value : tie.Need-float-from-bits-value
 float-from-bits-value c = let r = c .before .is-clear .ensures (c .if1 .taken) in bits-number _ (omega (arith, r .held))
 
 returns : tie.Need-returns
-returns c = let a = c .before .before .before in sym (power-pattern _ (a .before .pre) (known a) (c .before .is-clear .ensures (c .if1 .taken)))
+returns c = let a = c .before .before .before in sym (power-pattern _ (a .before .pre) (known a)
+    (c .before .is-clear .ensures (c .if1 .taken)))
 
 search-requires : tie.Need-search-requires
 search-requires c κs = small (c .before .before .before)

@@ -1,4 +1,5 @@
--- `root::find` meets its contract: `positive` has the root of a finite number above zero, and `Special` has the rest. Assumes nothing.
+-- `root::find` meets its contract: `positive` has the root of a finite number above zero, and `Special` has the rest. Assumes
+-- nothing.
 use mathlib.Core.Path.{sym, ap, _∙_, subst}
 use native.Mathlib.Omega.{arith}
 use lib.Dec.{T}

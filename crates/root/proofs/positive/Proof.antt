@@ -1,4 +1,5 @@
--- `root::positive` meets its contract, by `Law`: what is returned has the digits that `is_root` or `search` vouches for. Assumes nothing.
+-- `root::positive` meets its contract, by `Law`: what is returned has the digits that `is_root` or `search` vouches for.
+-- Assumes nothing.
 use borrow.Author.Needs.{needs}
 use native.Mathlib.Omega.{arith}
 use Prim.Native.Nat.{ℕ, _+_, _*_, _^_, _≤_, _<_}

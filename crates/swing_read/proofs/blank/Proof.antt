@@ -10,7 +10,11 @@ blank-spec =
     tie.close
     (tie.spec
     (λ c. rw (c .before .before .if1 .taken, eq-eqb _ _ (c .if2 .taken)))
-    (λ c. rw (c .before .before .before .before .if1 .taken, ne-eqb _ _ (c .before .before .if2 .left), eq-eqb _ _ (c .if3 .taken)))
+    (λ c. rw (
+      c .before .before .before .before .if1 .taken,
+      ne-eqb _ _ (c .before .before .if2 .left),
+      eq-eqb _ _ (c .if3 .taken),
+    ))
     (λ c κs. tt)
     (λ c. rw (
       c .before .before .before .before .before .if1 .taken,

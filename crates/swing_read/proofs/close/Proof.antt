@@ -10,6 +10,14 @@ close-spec =
     tie.close
     (tie.spec
     (λ c. rw (c .before .before .if1 .taken, eq-eqb _ _ (c .if2 .taken)))
-    (λ c. rw (c .before .before .before .before .if1 .taken, ne-eqb _ _ (c .before .before .if2 .left), eq-eqb _ _ (c .if3 .taken)))
-    (λ c. rw (c .before .before .before .before .if1 .taken, ne-eqb _ _ (c .before .before .if2 .left), ne-eqb _ _ (c .if3 .left)))
+    (λ c. rw (
+      c .before .before .before .before .if1 .taken,
+      ne-eqb _ _ (c .before .before .if2 .left),
+      eq-eqb _ _ (c .if3 .taken),
+    ))
+    (λ c. rw (
+      c .before .before .before .before .if1 .taken,
+      ne-eqb _ _ (c .before .before .if2 .left),
+      ne-eqb _ _ (c .if3 .left),
+    ))
     (λ c. rw (c .if1 .left)))

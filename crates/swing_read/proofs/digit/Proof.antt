@@ -13,7 +13,8 @@ use Rattle.swing_read.proofs.digit.Tie as tie
 fits : (begun r : Bool) (value d : ℕ) → r ≡ roomFor begun value d → r ≡ true → value * 10 + d < 2 ^ 64
 unfolding roomFor
 fits begun r value d e t =
-    ltb→lt (value * 10 + d) (2 ^ 64) (and-r (not (begun && eqb value 0)) (ltb (value * 10 + d) (2 ^ 64)) (subst T (sym (sym e ∙ t)) tt))
+    ltb→lt (value * 10 + d) (2 ^ 64) (and-r (not (begun && eqb value 0)) (ltb (value * 10 + d) (2 ^ 64))
+    (subst T (sym (sym e ∙ t)) tt))
 
 pub digit-spec : {M : Type 1} → statement M
 unfolding digitAfter

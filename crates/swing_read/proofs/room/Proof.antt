@@ -30,7 +30,8 @@ module _ (value d : ℕ) (h : d < 10) where
   at-last : (begun : Bool) → (value ≡ 0 → ⊥) → value ≡ 1844674407370955161 → ltb d 6 ≡ roomFor begun value d
   at-last begun z e = sym (past-zero begun z ∙ same-ltb (value * 10 + d) (2 ^ 64) d 6 (λ k. omega arith) (λ k. omega arith))
 
-  past-last : (begun : Bool) → (value ≡ 0 → ⊥) → 1844674407370955161 ≤ value → (value ≡ 1844674407370955161 → ⊥) → false ≡ roomFor begun value d
+  past-last : (begun : Bool) → (value ≡ 0 → ⊥) → 1844674407370955161 ≤ value → (value ≡ 1844674407370955161 → ⊥)
+      → false ≡ roomFor begun value d
   past-last begun z k e = sym (past-zero begun z ∙ le-ltb (value * 10 + d) (2 ^ 64) (omega arith))
 
 pub room-spec : {M : Type 1} → statement M

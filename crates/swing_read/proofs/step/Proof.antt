@@ -14,7 +14,11 @@ step-spec =
     (λ c κs. tt)
     (λ c. rw (ne-eqb _ _ (c .before .before .if1 .left), eq-eqb _ _ (c .before .if2 .taken)) (c .blank .ensures))
     (λ c κs. tt)
-    (λ c. rw (ne-eqb _ _ (c .before .before .before .if1 .left), ne-eqb _ _ (c .before .before .if2 .left), lt-ltb _ _ (c .before .if3 .taken))
+    (λ c. rw (
+      ne-eqb _ _ (c .before .before .before .if1 .left),
+      ne-eqb _ _ (c .before .before .if2 .left),
+      lt-ltb _ _ (c .before .if3 .taken),
+    )
     (c .spoilt .ensures))
     (λ c. search needs)
     (λ c κs. search needs)

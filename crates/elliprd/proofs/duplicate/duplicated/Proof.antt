@@ -17,7 +17,8 @@ Inv-loop x y z at₀ a0 n₀ at n = Left rdStep rdClose (rdFound x y a0) rdSpent
 abbrev μ-loop : tie.MeasureT-loop
 μ-loop x y z at₀ a0 n₀ at n = rdCap - n
 
-whole : (x y z : Float) (s : Round) → s ≡ rdBegin x y z → capped rdStep rdClose (rdFound x y (s .an)) rdSpent rdCap false s 0 ≡ rdDuplication x y z
+whole : (x y z : Float) (s : Round) → s ≡ rdBegin x y z
+    → capped rdStep rdClose (rdFound x y (s .an)) rdSpent rdCap false s 0 ≡ rdDuplication x y z
 unfolding rdDuplication
 whole x y z s e = rw e
 
@@ -40,7 +41,8 @@ returns-2 c =
     let l = k .before .before .before .loop in
     let a = k .before .before .before .before in
     c .duplication2 .ensures ∙ ap (λ (v : Float). duplicationAt v (l .n + 1)) (c .before .series .ensures)
-    ∙ left-found (left-on (l .inv) refl (omega arith) (k .before .step .ensures) (k .close .ensures)) (c .before .before .if2 .taken)
+    ∙ left-found (left-on (l .inv) refl (omega arith) (k .before .step .ensures) (k .close .ensures))
+    (c .before .before .if2 .taken)
     ∙ whole (a .before .args .x) (a .before .args .y) (a .before .args .z) (a .begin .result) (a .begin .ensures)
 
 pub duplicated-spec : {M : Type 1} → statement M

@@ -17,7 +17,8 @@ use Rattle.elliprd.proofs.means.agm_of.Statement.{statement}
 use Rattle.elliprd.proofs.means.agm_of.Tie as tie
 
 abbrev Inv-loop : tie.InvT-loop
-Inv-loop y z x0 y0 s₀ n₀ s n = Left sumsOf rdTogether (rdAgmFound x0 y0 y z) rdAgmSpent meanCap (rdTogether s₀) s₀ (rdTogether s) s n
+Inv-loop y z x0 y0 s₀ n₀ s n = Left sumsOf rdTogether (rdAgmFound x0 y0 y z) rdAgmSpent meanCap (rdTogether s₀) s₀
+    (rdTogether s) s n
 
 abbrev μ-loop : tie.MeasureT-loop
 μ-loop y z x0 y0 s₀ n₀ s n = meanCap - n
@@ -33,7 +34,8 @@ whole y z a b e f = rw (e, f)
 loop-again : tie.Need-loop-again Inv-loop μ-loop
 loop-again c =
     let k = c .before .before .before in
-    left-on (k .before .loop .inv) (ap not (sym (k .still-apart .ensures) ∙ c .before .before .if1 .taken)) (omega arith) (c .next-sums .ensures) refl
+    left-on (k .before .loop .inv) (ap not (sym (k .still-apart .ensures) ∙ c .before .before .if1 .taken)) (omega arith)
+    (c .next-sums .ensures) refl
 
 returns : tie.Need-returns Inv-loop μ-loop
 returns c =

@@ -19,7 +19,8 @@ Inv-loop x y m₀ n₀ m n = Left meansOf together agmCount agmCount rfCap (toge
 abbrev μ-loop : tie.MeasureT-loop
 μ-loop x y m₀ n₀ m n = rfCap - n
 
-whole : (x y : Float) (m : Means) → m ≡ agmStart x y → capped meansOf together agmCount agmCount rfCap (together m) m 0 ≡ agmOf x y
+whole : (x y : Float) (m : Means) → m ≡ agmStart x y → capped meansOf together agmCount agmCount rfCap (together m) m 0
+    ≡ agmOf x y
 unfolding agmOf
 whole x y m e = rw e
 
@@ -31,7 +32,8 @@ started x y rx ry e f = rw (e, f)
 loop-again : tie.Need-loop-again Inv-loop μ-loop
 loop-again c =
     let k = c .before .before .before in
-    left-on (k .before .loop .inv) (ap not (sym (k .still-apart .ensures) ∙ c .before .before .if1 .taken)) (omega arith) (c .next-means .ensures) refl
+    left-on (k .before .loop .inv) (ap not (sym (k .still-apart .ensures) ∙ c .before .before .if1 .taken)) (omega arith)
+    (c .next-means .ensures) refl
 
 returns : tie.Need-returns Inv-loop μ-loop
 returns c =
@@ -40,7 +42,8 @@ returns c =
     let a = k .before .before in
     let b = a .before .before .args in
     c .agm .ensures ∙ ap (λ (v : Float). agmAt v (l .n)) (c .before .value-of .ensures)
-    ∙ left-spent (l .inv) (ap not (sym (k .still-apart .ensures) ∙ c .before .before .before .if1 .taken)) (c .before .before .if2 .taken)
+    ∙ left-spent (l .inv) (ap not (sym (k .still-apart .ensures) ∙ c .before .before .before .if1 .taken))
+    (c .before .before .if2 .taken)
     ∙ whole (b .x) (b .y) _ (started (b .x) (b .y) _ _ (a .before .sqrt .ensures) (a .sqrt2 .ensures))
 
 returns-2 : tie.Need-returns-2 Inv-loop μ-loop

@@ -12,7 +12,11 @@ planned-spec =
     (λ c κs. tt)
     (λ c κs. tt)
     (λ c κs. tt)
-    (λ c. rw (c .before .before .before .if1 .taken, sym (c .before .before .rising .ensures), sym (c .before .elliprj-pv-near-zero .ensures))
+    (λ c. rw (
+      c .before .before .before .if1 .taken,
+      sym (c .before .before .rising .ensures),
+      sym (c .before .elliprj-pv-near-zero .ensures),
+    )
     (c .unless-near .ensures))
     (λ c κs. tt)
     (λ c. rw (c .before .if1 .left) (c .scaled .ensures)))

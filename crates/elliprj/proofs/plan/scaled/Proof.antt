@@ -13,5 +13,9 @@ scaled-spec =
     (λ c κs. tt)
     (λ c. rw (sym (c .before .before .scale4 .ensures), sym (c .before .rescales4 .ensures) ∙ c .if1 .taken))
     (λ c κs. tt)
-    (λ c. rw (sym (c .before .before .before .scale4 .ensures), sym (c .before .before .rescales4 .ensures) ∙ c .before .if1 .left)
+    (λ c. rw (
+      sym (c .before .before .before .scale4 .ensures),
+      sym (c .before .before .rescales4 .ensures)
+          ∙ c .before .if1 .left,
+    )
     (c .unscaled .ensures)))

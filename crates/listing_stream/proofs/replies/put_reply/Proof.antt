@@ -16,7 +16,8 @@ use Rattle.listing_read.specs.declared.Line.the-variants.{Good, Bad}
 use Rattle.listing_stream.proofs.replies.put_reply.Statement.{statement}
 use Rattle.listing_stream.proofs.replies.put_reply.Tie as tie
 
-good : (l o out : List ℕ) (at next : ℕ) (c : Call) (a : Answer) → callOf l ≡ Good c → a ≡ answerOf c → Put o at (textOf c a) out next
+good : (l o out : List ℕ) (at next : ℕ) (c : Call) (a : Answer) → callOf l ≡ Good c → a ≡ answerOf c
+    → Put o at (textOf c a) out next
     → Put o at (replyOf l) out next
 unfolding replyOf replyTo
 good l o out at next c a e f p = rw e (rw f at p)
@@ -37,7 +38,8 @@ returns-2 : tie.Need-returns-2
 returns-2 c =
     let k = c .before .before in
     let g = k .before .before .before in
-    bad _ _ _ _ _ (sym (g .before .before .call-of .ensures) ∙ g .enum-told .given .1) (tried-put (omega arith) (k .put-text .ensures))
+    bad _ _ _ _ _ (sym (g .before .before .call-of .ensures) ∙ g .enum-told .given .1)
+    (tried-put (omega arith) (k .put-text .ensures))
 
 pub put-reply-spec : {M : Type 1} → statement M
 put-reply-spec =

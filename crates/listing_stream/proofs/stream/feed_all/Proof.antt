@@ -28,13 +28,15 @@ unfolding restOf saidOf
 nothing held after before n h e = record { rest = e; few = h; said = put-none before 0 }
 
 one-more :
-    (block held middle after before half out : List ℕ) (i m h n next : ℕ) → i < length block → Fed held (take i block) middle before 0 half m h
+    (block held middle after before half out : List ℕ) (i m h n next : ℕ) → i < length block
+    → Fed held (take i block) middle before 0 half m h
     → Fed (take m middle) (getD block i 0 ∷ []) after half h out n next → Fed held (take (i + 1) block) after before 0 out n next
 one-more block held middle after before half out i m h n next k p q = rw (add-one, take-suc block i 0 k)
     (fed-more (take i block) (getD block i 0 ∷ []) p q)
 
 all-of :
-    (block held after before out : List ℕ) (i size n next : ℕ) → i ≤ size → size ≤ i → Fed held (take i block) after before 0 out n next
+    (block held after before out : List ℕ) (i size n next : ℕ) → i ≤ size → size ≤ i
+    → Fed held (take i block) after before 0 out n next
     → Fed held (take size block) after before 0 out n next
 all-of block held after before out i size n next h k p = let e : i ≡ size = omega arith in rw e at p
 

@@ -4,7 +4,6 @@ use mathlib.Core.Path.{_≡_, refl, sym, _∙_}
 use mathlib.Core.List.{List, [], _∷_, _++_, append-nil}
 use mathlib.Core.Logic.{⊎-elim}
 use native.Mathlib.Numerals.{add-one}
-use native.Mathlib.Nat.{add-zero}
 use native.Mathlib.Omega.{arith}
 use borrow.Author.Needs.{needs}
 use borrow.Author.Tests.{eq-eqb, ne-eqb, lt-ltb, le-ltb}
@@ -13,7 +12,7 @@ use lib.ListN.{length, take, set, length-append}
 use lib.Seq.{take-all, take-suc-set, length-take-le, set-out, take-append-le, take-length}
 use Rattle.algebra.specs.Order.{lt-or-le}
 use Rattle.listing_stream.specs.Replies.{replyOf}
-use Rattle.writing.specs.Written.{Put, pushed}
+use Rattle.writing.specs.Written.{Put, put-none, pushed, pushed-most}
 use Rattle.listing_stream.specs.Stream.{heldAfter, saidAt, restOf, saidOf, heldLength, Fed}
 use Rattle.listing_stream.proofs.stream.step.Statement.{statement}
 use Rattle.listing_stream.proofs.stream.step.Tie as tie
@@ -29,7 +28,8 @@ ended held after before out b at next e p = record {
 }
 
 -- one byte more is held, of at most as many as there is room for
-held-more : (l : List ℕ) (n b r : ℕ) → n ≤ length l → r ≡ pushed n (length l) → take r (set l n b) ≡ take (length l) (take n l ++ b ∷ [])
+held-more : (l : List ℕ) (n b r : ℕ) → n ≤ length l → r ≡ pushed n (length l)
+    → take r (set l n b) ≡ take (length l) (take n l ++ b ∷ [])
 unfolding pushed
 held-more l n b r h e = ⊎-elim inside full (lt-or-le n (length l))
   where
@@ -44,18 +44,15 @@ held-more l n b r h e = ⊎-elim inside full (lt-or-le n (length l))
         let f : r ≡ n = rw (le-ltb n (length l) k) at e in
         rw (f, set-out l n b k, take-all n l k) (sym (take-append-le (length l) l (b ∷ []) (omega arith) ∙ take-length l))
 
-pushed-most : (n size r : ℕ) → n ≤ size → r ≡ pushed n size → r ≤ size
-unfolding pushed
-pushed-most n size r h e = ⊎-elim (λ k. omega (arith, rw (lt-ltb n size k) at e)) (λ k. omega (arith, rw (le-ltb n size k) at e)) (lt-or-le n size)
-
 goes-on :
-    (held after before : List ℕ) (b at n r : ℕ) → length held ≡ heldLength → n ≤ heldLength → (b ≡ 10 → ⊥) → after ≡ set held n b → r ≡ pushed n (length held)
+    (held after before : List ℕ) (b at n r : ℕ) → length held ≡ heldLength → n ≤ heldLength → (b ≡ 10 → ⊥)
+    → after ≡ set held n b → r ≡ pushed n (length held)
     → Fed (take n held) (b ∷ []) after before at before r at
 unfolding restOf saidOf heldAfter saidAt
 goes-on held after before b at n r l h ne e f = record {
   rest = rw (ne-eqb b 10 ne, e) (held-more held n b r (omega arith) f ∙ rw l);
   few = pushed-most n heldLength r h (rw l at f);
-  said = rw (ne-eqb b 10 ne) (record { bytes = refl; place = sym (add-zero at) });
+  said = rw (ne-eqb b 10 ne) (put-none before at);
 }
 
 returns : tie.Need-returns
@@ -67,7 +64,8 @@ returns-2 : tie.Need-returns-2
 returns-2 c =
     let k = c .before .before in
     let s = k .before .before .before .before .before in
-    goes-on (now (s .args .held)) _ _ _ _ (s .args .n) _ (s .pre .0) (s .pre .1 .0) (k .before .before .if1 .left) (k .push .ensures .0)
+    goes-on (now (s .args .held)) _ _ _ _ (s .args .n) _ (s .pre .0) (s .pre .1 .0) (k .before .before .if1 .left)
+    (k .push .ensures .0)
     (k .push .ensures .1)
 
 pub step-spec : {M : Type 1} → statement M

@@ -1,4 +1,5 @@
--- `elliprf_rd_unchecked` meets its contract. The invariant: what is left of the loop gives what the whole loop gives. Assumes nothing.
+-- `elliprf_rd_unchecked` meets its contract. The invariant: what is left of the loop gives what the whole loop gives. Assumes
+-- nothing.
 use Prim.Native.Nat.{_+_, _≤_, _-_}
 use mathlib.Core.Path.{_≡_, refl, sym, _∙_}
 use mathlib.Core.Bool.{false}
@@ -35,7 +36,8 @@ returns c =
     let b = a .before .before .before .args in
     c .result .ensures
     ∙ left-spent (l .inv) refl (c .before .if1 .taken)
-    ∙ whole (b .x) (b .y) (b .z) _ _ (a .begin .result) (a .before .before .mean-of .ensures) (a .before .mean-of2 .ensures) (a .begin .ensures)
+    ∙ whole (b .x) (b .y) (b .z) _ _ (a .begin .result) (a .before .before .mean-of .ensures) (a .before .mean-of2 .ensures)
+    (a .begin .ensures)
 
 returns-2 : tie.Need-returns-2 Inv-loop μ-loop
 returns-2 c =
@@ -45,7 +47,8 @@ returns-2 c =
     let b = a .before .before .before .args in
     c .result2 .ensures
     ∙ left-found (left-on (l .inv) refl (omega arith) (k .before .step .ensures) (k .all-done .ensures)) (c .before .if2 .taken)
-    ∙ whole (b .x) (b .y) (b .z) _ _ (a .begin .result) (a .before .before .mean-of .ensures) (a .before .mean-of2 .ensures) (a .begin .ensures)
+    ∙ whole (b .x) (b .y) (b .z) _ _ (a .begin .result) (a .before .before .mean-of .ensures) (a .before .mean-of2 .ensures)
+    (a .begin .ensures)
 
 pub elliprf-rd-unchecked-spec : {M : Type 1} → statement M
 elliprf-rd-unchecked-spec =

@@ -11,7 +11,8 @@ stays : (p : RdPart) (lambda rz zn x y a0 : Float) → p .done ≡ true → p �
 unfolding rdNext
 stays p lambda rz zn x y a0 h = rw h
 
-moves : (p : RdPart) (lambda rz zn x y a0 : Float) → p .done ≡ false → rdEnded (rdMoved p lambda rz zn) x y a0 ≡ rdNext p lambda rz zn x y a0
+moves : (p : RdPart) (lambda rz zn x y a0 : Float) → p .done ≡ false
+    → rdEnded (rdMoved p lambda rz zn) x y a0 ≡ rdNext p lambda rz zn x y a0
 unfolding rdNext
 moves p lambda rz zn x y a0 h = rw h
 

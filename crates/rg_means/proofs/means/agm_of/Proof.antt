@@ -28,7 +28,8 @@ whole x z a b s e f g = rw (g, e, f)
 loop-again : tie.Need-loop-again Inv-loop μ-loop
 loop-again c =
     let k = c .before .before .before in
-    left-on (k .before .loop .inv) (ap not (sym (k .still-apart .ensures) ∙ c .before .before .if1 .taken)) (omega arith) (c .next-sums .ensures) refl
+    left-on (k .before .loop .inv) (ap not (sym (k .still-apart .ensures) ∙ c .before .before .if1 .taken)) (omega arith)
+    (c .next-sums .ensures) refl
 
 returns : tie.Need-returns Inv-loop μ-loop
 returns c =
@@ -36,7 +37,8 @@ returns c =
     let a = k .before .before in
     let b = a .before .before .before .args in
     left-spent (k .before .loop .inv) (ap not (sym (k .still-apart .ensures) ∙ c .before .if1 .taken)) (c .if2 .taken)
-    ∙ whole (b .x) (b .z) _ _ (a .begin .result) (a .before .before .sqrt .ensures) (a .before .sqrt2 .ensures) (a .begin .ensures)
+    ∙ whole (b .x) (b .z) _ _ (a .begin .result) (a .before .before .sqrt .ensures) (a .before .sqrt2 .ensures)
+    (a .begin .ensures)
 
 returns-2 : tie.Need-returns-2 Inv-loop μ-loop
 returns-2 c =
@@ -46,7 +48,8 @@ returns-2 c =
     let b = a .before .before .before .args in
     ap Value (c .agm .ensures ∙ ap (λ (v : Float). agmAt v (l .n)) (c .before .value-of .ensures))
     ∙ left-found (l .inv) (ap not (sym (k .still-apart .ensures) ∙ c .before .before .if1 .left))
-    ∙ whole (b .x) (b .z) _ _ (a .begin .result) (a .before .before .sqrt .ensures) (a .before .sqrt2 .ensures) (a .begin .ensures)
+    ∙ whole (b .x) (b .z) _ _ (a .begin .result) (a .before .before .sqrt .ensures) (a .before .sqrt2 .ensures)
+    (a .begin .ensures)
 
 pub agm-of-spec : {M : Type 1} → statement M
 agm-of-spec =

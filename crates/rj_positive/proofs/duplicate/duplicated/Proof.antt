@@ -45,7 +45,8 @@ returns-2 c =
     let b = a .before .before .args in
     let g = a .before .begin in
     c .duplication2 .ensures ∙ ap (λ (v : Float). duplicationAt v (l .n + 1)) (c .before .series .ensures)
-    ∙ left-found (left-on (l .inv) refl (omega arith) (k .before .step .ensures) (k .close .ensures)) (c .before .before .if2 .taken)
+    ∙ left-found (left-on (l .inv) refl (omega arith) (k .before .step .ensures) (k .close .ensures))
+    (c .before .before .if2 .taken)
     ∙ whole (b .x) (b .y) (b .z) (b .p) (a .start-of .result) (g .result) (g .ensures) (a .start-of .ensures)
 
 pub duplicated-spec : {M : Type 1} → statement M

@@ -13,7 +13,8 @@ elliprc1p-spec =
     (λ c κs. tt)
     (λ c. rw (sym (c .before .before .abs .ensures), c .before .if1 .taken) (c .polynomial .ensures))
     (λ c κs. tt)
-    (λ c. rw (sym (c .before .before .before .abs .ensures), c .before .before .if1 .left, c .before .if2 .taken) (c .by-atan .ensures))
+    (λ c. rw (sym (c .before .before .before .abs .ensures), c .before .before .if1 .left, c .before .if2 .taken)
+    (c .by-atan .ensures))
     (λ c. rw (sym (c .before .before .before .abs .ensures), c .before .before .if1 .left, c .before .if2 .left, c .if3 .taken))
     (λ c κs. tt)
     (λ c. rw (

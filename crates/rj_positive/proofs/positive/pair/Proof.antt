@@ -28,4 +28,5 @@ pair-spec =
       c .before .if3 .left,
     ) (c .last .ensures))
     (λ c κs. tt)
-    (λ c. rw (c .before .before .before .if1 .left, sym (c .before .before .well-apart .ensures) ∙ c .before .if2 .left) (c .last2 .ensures)))
+    (λ c. rw (c .before .before .before .if1 .left, sym (c .before .before .well-apart .ensures) ∙ c .before .if2 .left)
+    (c .last2 .ensures)))

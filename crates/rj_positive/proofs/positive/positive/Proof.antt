@@ -10,7 +10,8 @@ positive-spec =
     tie.close
     (tie.spec
     (λ c κs. tt)
-    (λ c. rw (c .before .before .before .if1 .taken, c .before .before .if2 .taken, c .before .if3 .taken) (c .all-equal .ensures))
+    (λ c. rw (c .before .before .before .if1 .taken, c .before .before .if2 .taken, c .before .if3 .taken)
+    (c .all-equal .ensures))
     (λ c κs. tt)
     (λ c κs. tt)
     (λ c. rw (

@@ -7,4 +7,8 @@ use Rattle.rj_positive.proofs.positive.three_equal.Tie as tie
 pub three-equal-spec : {M : Type 1} → statement M
 unfolding rjThree
 three-equal-spec = tie.close (tie.spec (λ c κs. tt) (λ c κs. tt) (λ c κs. tt)
-    (λ c. rw (sym (c .before .before .before .elliprc-unchecked .ensures), sym (c .before .before .sqrt .ensures), sym (c .carried .ensures))))
+    (λ c. rw (
+      sym (c .before .before .before .elliprc-unchecked .ensures),
+      sym (c .before .before .sqrt .ensures),
+      sym (c .carried .ensures),
+    )))

@@ -16,14 +16,17 @@ passed : (n most : ℕ) (r : Bool) → r ≡ within n most → r ≡ true → Fr
 passed n most r e t = in-within n most (sym e ∙ t)
 
 mul-in-range : tie.Need-mul-in-range
-mul-in-range c = let l = passed _ _ _ (c .before .before .before .in-range .ensures) (c .before .before .if1 .taken) in record { fits = omega arith }
+mul-in-range c = let l = passed _ _ _ (c .before .before .before .in-range .ensures) (c .before .before .if1 .taken) in
+    record { fits = omega arith }
 
 sub-in-range : tie.Need-sub-in-range
-sub-in-range c = let l = passed _ _ _ (c .before .before .before .in-range .ensures) (c .before .before .if1 .taken) in omega arith
+sub-in-range c = let l = passed _ _ _ (c .before .before .before .in-range .ensures) (c .before .before .if1 .taken) in
+    omega arith
 
 swing-time-requires : tie.Need-swing-time-requires
 swing-time-requires c κs =
-    let l = passed _ _ _ (c .before .before .before .before .before .in-range .ensures) (c .before .before .before .before .if1 .taken) in
+    let l = passed _ _ _ (c .before .before .before .before .before .in-range .ensures)
+    (c .before .before .before .before .if1 .taken) in
     let g = passed _ _ _ (c .before .before .before .in-range2 .ensures) (c .before .before .if2 .taken) in
     let h = passed _ _ _ (c .before .in-range3 .ensures) (c .if3 .taken) in
     (l .largest, (g .largest, omega arith))
@@ -36,7 +39,8 @@ returns : tie.Need-returns
 unfolding periodOf
 returns c =
     settled _ _ _ _ (rw (
-      sym (c .before .before .before .before .before .before .in-range .ensures) ∙ c .before .before .before .before .before .if1 .taken,
+      sym (c .before .before .before .before .before .before .in-range .ensures)
+          ∙ c .before .before .before .before .before .if1 .taken,
       sym (c .before .before .before .before .in-range2 .ensures) ∙ c .before .before .before .if2 .taken,
       sym (c .before .before .in-range3 .ensures) ∙ c .before .if3 .taken,
     ) (c .swing-time .ensures))

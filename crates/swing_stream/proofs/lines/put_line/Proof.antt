@@ -14,11 +14,13 @@ use Rattle.swing_stream.proofs.lines.put_line.Statement.{statement}
 use Rattle.swing_stream.proofs.lines.put_line.Tie as tie
 
 module _ (s : State) (l : Line) {o out : List ℕ} {at next : ℕ} where
-  of-either : (b : Bool) → s .counting ≡ b → Put o at (cond b (stepsSaid s l) (swingSaid l)) out next → Put o at (saidTo s l) out next
+  of-either : (b : Bool) → s .counting ≡ b → Put o at (cond b (stepsSaid s l) (swingSaid l)) out next
+      → Put o at (saidTo s l) out next
   unfolding saidTo
   of-either b e p = subst (λ (c : Bool). Put o at (cond c (stepsSaid s l) (swingSaid l)) out next) (sym e) p
 
-  of-steps : (t : Bool) → s .counting ≡ true → taken (s .known) l ≡ t → Put o at (cond t [] badText) out next → Put o at (saidTo s l) out next
+  of-steps : (t : Bool) → s .counting ≡ true → taken (s .known) l ≡ t → Put o at (cond t [] badText) out next
+      → Put o at (saidTo s l) out next
   unfolding stepsSaid
   of-steps t e f p = of-either true e (subst (λ (c : Bool). Put o at (cond c [] badText) out next) (sym f) p)
 
@@ -32,7 +34,8 @@ returns-2 c =
     let w = c .before .before in
     let f = w .before .before .before in
     let k = f .before in
-    of-steps _ _ false (k .before .if1 .taken) (sym (k .is-taken .ensures) ∙ f .if2 .left) (tried-put (omega arith) (w .put-text .ensures))
+    of-steps _ _ false (k .before .if1 .taken) (sym (k .is-taken .ensures) ∙ f .if2 .left)
+    (tried-put (omega arith) (w .put-text .ensures))
 
 returns-3 : tie.Need-returns-3
 returns-3 c =

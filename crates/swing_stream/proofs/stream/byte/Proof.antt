@@ -13,7 +13,8 @@ use Rattle.swing_stream.proofs.stream.byte.Statement.{statement}
 use Rattle.swing_stream.proofs.stream.byte.Tie as tie
 
 goes-on : (s : State) (r : Reading) (b : ℕ) (o : List ℕ) (at : ℕ) → (b ≡ 10 → ⊥) → r ≡ byteAfter (s .reading) b
-    → Told (stateAfter s b) (saidAt s b) (record { counting = s .counting; known = s .known; log = s .log; reading = r }) o at o at
+    → Told (stateAfter s b) (saidAt s b) (record { counting = s .counting; known = s .known; log = s .log; reading = r })
+    o at o at
 unfolding stateAfter saidAt
 goes-on s r b o at ne e = record {
   state = rw (ne-eqb b 10 ne, e);

@@ -8,13 +8,15 @@ use Rattle.swing_stream.proofs.stream.closing.Tie as tie
 
 returns : tie.Need-returns
 unfolding saidAtEnd
-returns c = let k = c .before .before in rw (k .before .before .before .if1 .taken, k .before .before .if2 .taken) (tried-put (omega arith) (k .put-total .ensures))
+returns c = let k = c .before .before in rw (k .before .before .before .if1 .taken, k .before .before .if2 .taken)
+    (tried-put (omega arith) (k .put-total .ensures))
 
 returns-2 : tie.Need-returns-2
 unfolding saidAtEnd
 returns-2 c =
     let k = c .before .before in
-    rw (k .before .before .before .before .if1 .taken, k .before .before .before .if2 .left) (tried-put (omega arith) (k .put-text .ensures))
+    rw (k .before .before .before .before .if1 .taken, k .before .before .before .if2 .left)
+    (tried-put (omega arith) (k .put-text .ensures))
 
 returns-3 : tie.Need-returns-3
 unfolding saidAtEnd

@@ -18,7 +18,8 @@ use Rattle.swing_stream.proofs.stream.feed_all.Tie as tie
 
 abbrev Inv-loop : tie.InvT-loop
 Inv-loop block size out₀ s used₀ i₀ out state used i =
-    (i ≤ size) × (used ≤ longestSwing * i) × (length out ≡ length out₀) × Told (restOf s (take i block)) (saidOf s (take i block)) state out₀ 0 out used
+    (i ≤ size) × (used ≤ longestSwing * i) × (length out ≡ length out₀)
+    × Told (restOf s (take i block)) (saidOf s (take i block)) state out₀ 0 out used
 
 abbrev μ-loop : tie.MeasureT-loop
 μ-loop block size out₀ s used₀ i₀ out state used i = size - i
@@ -32,7 +33,8 @@ one-more :
     → Told (restOf s (take i block)) (saidOf s (take i block)) m o 0 half h
     → Told (stateAfter m (getD block i 0)) (saidAt m (getD block i 0)) after half h out next
     → Told (restOf s (take (i + 1) block)) (saidOf s (take (i + 1) block)) after o 0 out next
-one-more block o half out s m after i h next k p q = rw (add-one, take-suc block i 0 k) (told-more (take i block) (getD block i 0) s p q)
+one-more block o half out s m after i h next k p q = rw (add-one, take-suc block i 0 k)
+    (told-more (take i block) (getD block i 0) s p q)
 
 all-of :
     (block o out : List ℕ) (s t : State) (i size next : ℕ) → i ≤ size → size ≤ i

@@ -13,7 +13,8 @@ use Rattle.swing_stream.proofs.Lengths.{said-length, said-end-length}
 use Rattle.swing_stream.proofs.stream.last.Statement.{statement}
 use Rattle.swing_stream.proofs.stream.last.Tie as tie
 
-ended : (s : State) (o out : List ℕ) (next : ℕ) → atStart (s .reading) ≡ true → Put o 0 (saidAtEnd s) out next → Put o 0 (saidLast s) out next
+ended : (s : State) (o out : List ℕ) (next : ℕ) → atStart (s .reading) ≡ true → Put o 0 (saidAtEnd s) out next
+    → Put o 0 (saidLast s) out next
 unfolding saidLast
 ended s o out next e p = subst (λ (b : Bool). Put o 0 (cond b (saidAtEnd s) (said s ++ saidAtEnd (heard s))) out next) (sym e) p
 
@@ -39,8 +40,13 @@ returns-2 c =
     let k = c .before .before in
     let e = k .before .before .before .before .before in
     let p = k .closing2 .ensures in (
-      begun _ _ _ _ _ _ _ (sym (e .before .before .before .nothing .ensures) ∙ e .before .before .if1 .left) (e .line-end .ensures) p,
-      omega (arith, place-most longestTotal p (said-end-length _), place-most longestSwing (e .line-end .ensures .words) (said-length _)),
+      begun _ _ _ _ _ _ _ (sym (e .before .before .before .nothing .ensures) ∙ e .before .before .if1 .left)
+          (e .line-end .ensures) p,
+      omega (
+        arith,
+        place-most longestTotal p (said-end-length _),
+        place-most longestSwing (e .line-end .ensures .words) (said-length _),
+      ),
     )
 
 pub last-spec : {M : Type 1} → statement M
@@ -54,6 +60,10 @@ last-spec =
     (λ c κs. omega arith)
     (λ c κs.
     let e = c .before .before .before .before in
-    omega (arith, place-most longestSwing (e .line-end .ensures .words) (said-length _), put-length (e .line-end .ensures .words)))
+    omega (
+      arith,
+      place-most longestSwing (e .line-end .ensures .words) (said-length _),
+      put-length (e .line-end .ensures .words),
+    ))
     (λ c. put-length (returns-2 c .0))
     returns-2)

@@ -13,7 +13,8 @@ use Rattle.swing_stream.proofs.stream.line_end.Statement.{statement}
 use Rattle.swing_stream.proofs.stream.line_end.Tie as tie
 
 told :
-    (s t : State) (l : Line) {o out : List ℕ} {at next : ℕ} → l ≡ lineOf (s .reading) → t ≡ afterLine s l → Put o at (saidTo s l) out next
+    (s t : State) (l : Line) {o out : List ℕ} {at next : ℕ} → l ≡ lineOf (s .reading) → t ≡ afterLine s l
+    → Put o at (saidTo s l) out next
     → Told (heard s) (said s) t o at out next
 unfolding heard said
 told s t l {o} {out} {at} {next} is e p =

@@ -21,12 +21,14 @@ timed :
     → Put o at (digits 16 16 bits) half blank
     → Put (set half blank 32) (blank + 1) (secondsText t) out end → Put o at (periodText f) (set out end 10) (end + 1)
 unfolding periodText
-timed f o half out at bits t blank end e g p q = put-more (put-more (rw e at p) (put-byte half blank 32)) (put-more (rw g at q) (put-byte out end 10))
+timed f o half out at bits t blank end e g p q = put-more (put-more (rw e at p) (put-byte half blank 32))
+    (put-more (rw g at q) (put-byte out end 10))
 
 -- there is room for the digits; they are sixteen, and the bytes are as many as before
 word : (c : tie.After-put-word)
     → let s = c .before .before .before .before in
-    Put (now (s .args .out)) (s .args .at) (digits 16 16 (c .before .before .split .result)) (c .put-word .last .1 .0) (c .put-word .result)
+    Put (now (s .args .out)) (s .args .at) (digits 16 16 (c .before .before .split .result)) (c .put-word .last .1 .0)
+    (c .put-word .result)
 word c = tried-put (omega arith) (c .put-word .ensures)
 
 spelled : (c : tie.After-put-word) → c .put-word .result ≡ c .before .before .before .before .args .at + 16
@@ -38,10 +40,15 @@ kept c = put-length (word c)
 -- the seconds are at most 33 bytes
 ended : (c : tie.After-put-seconds)
     → c .put-seconds .result ≤ c .before .before .before .before .before .before .before .before .before .args .at + 50
-ended c = omega (arith, place-most longestSeconds (c .put-seconds .ensures) (seconds-length _), spelled (c .before .before .before .before .before))
+ended c = omega (
+  arith,
+  place-most longestSeconds (c .put-seconds .ensures) (seconds-length _),
+  spelled (c .before .before .before .before .before),
+)
 
 still : (c : tie.After-put-seconds)
-    → length (c .put-seconds .last .1 .0) ≡ length (now (c .before .before .before .before .before .before .before .before .before .args .out))
+    → length (c .put-seconds .last .1 .0) ≡ length (now
+    (c .before .before .before .before .before .before .before .before .before .args .out))
 still c = put-length (c .put-seconds .ensures) ∙ simp length-set (kept (c .before .before .before .before .before))
 
 returns : tie.Need-returns
@@ -60,7 +67,11 @@ put-period-spec =
     (λ c. omega (arith, spelled (c .before .before), kept (c .before .before)))
     (λ c κs. c .before .before .before .before .before .before .pre .1)
     (λ c. omega (arith, spelled (c .before .before .before .before)))
-    (λ c κs. simp length-set (omega (arith, spelled (c .before .before .before .before), kept (c .before .before .before .before))))
+    (λ c κs. simp length-set (omega (
+      arith,
+      spelled (c .before .before .before .before),
+      kept (c .before .before .before .before),
+    )))
     (λ c. omega (arith, ended (c .before .before), still (c .before .before)))
     (λ c. omega (arith, ended (c .before .before)))
     (λ c. put-length (returns c))

@@ -18,4 +18,5 @@ returns c = put-more (tried-put (omega arith) (c .before .before .before .before
     (c .before .before .put-number .ensures)
 
 pub put-refused-spec : {M : Type 1} → statement M
-put-refused-spec = tie.close (tie.spec (λ c. search needs) (λ c κs. search needs) put-number-requires (λ c. put-length (returns c)) returns)
+put-refused-spec = tie.close (tie.spec (λ c. search needs) (λ c κs. search needs) put-number-requires
+    (λ c. put-length (returns c)) returns)

@@ -33,5 +33,6 @@ put-swing-spec =
     let w = c .before .before in
     let p = w .before .before in
     let t = p .before in
-    tried-there (t .before .has-room .ensures) (t .if1 .taken) (answered _ _ _ _ (p .period .ensures .0) (w .write-swing .ensures)))
+    tried-there (t .before .has-room .ensures) (t .if1 .taken)
+    (answered _ _ _ _ (p .period .ensures .0) (w .write-swing .ensures)))
     (λ c. tried-lacking (c .before .has-room .ensures) (c .if1 .left)))

@@ -5,7 +5,7 @@ use borrow.Author.Needs.{needs}
 use Rattle.writing.specs.Written.{put-length}
 use Rattle.carlson.specs.declared.answer.Found.{Found}
 use Rattle.carlson.specs.declared.answer.Answer.the-variants.{Value}
-use Rattle.swing.specs.Between.{Between}
+use Rattle.between.specs.Between.{Between}
 use Rattle.swing.specs.Ratios.{power}
 use Rattle.swing.specs.Bounded.{Bounded, value-in}
 use Rattle.swing_write.specs.Replies.{swingText}

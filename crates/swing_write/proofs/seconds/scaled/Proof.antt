@@ -47,7 +47,8 @@ add-q : tie.Need-add-q
 add-q c =
     let k = c .before .before in
     let a = k .before .args in
-    let h = sum (a .m) (a .s) (k .product .result .hi) (k .product .result .lo) (k .before .pre .0) (k .before .pre .1 .0) (k .before .pre .1 .1)
+    let h = sum (a .m) (a .s) (k .product .result .hi) (k .product .result .lo) (k .before .pre .0) (k .before .pre .1 .0)
+    (k .before .pre .1 .1)
     (k .product .ensures) (omega arith) in
     record { fits = fits-in h }
 
@@ -58,7 +59,8 @@ nearer-requires : tie.Need-nearer-requires
 nearer-requires c κs =
     let k = c .before .before .before .before in
     let a = k .before .args in
-    room (sum (a .m) (a .s) (k .product .result .hi) (k .product .result .lo) (k .before .pre .0) (k .before .pre .1 .0) (k .before .pre .1 .1)
+    room (sum (a .m) (a .s) (k .product .result .hi) (k .product .result .lo) (k .before .pre .0) (k .before .pre .1 .0)
+    (k .before .pre .1 .1)
     (k .product .ensures) (omega arith))
 
 returns : tie.Need-returns
@@ -67,10 +69,12 @@ returns c =
     let a = k .before .args in
     let L : k .product .result .lo < 2 ^ 64 = omega arith in
     c .nearer .ensures
-    ∙ rounds (a .m) (a .s) (k .product .result .hi) (k .product .result .lo) (k .before .pre .0) (k .before .pre .1 .0) (k .before .pre .1 .1)
+    ∙ rounds (a .m) (a .s) (k .product .result .hi) (k .product .result .lo) (k .before .pre .0) (k .before .pre .1 .0)
+    (k .before .pre .1 .1)
     (k .product .ensures) L _ _ _
     (ap (λ (z : ℕ). z + k .product .result .lo / 2 ^ a .s)
-    (shifted (a .m) (a .s) (k .product .result .hi) (k .product .result .lo) (k .before .pre .0) (k .before .pre .1 .0) (k .before .pre .1 .1)
+    (shifted (a .m) (a .s) (k .product .result .hi) (k .product .result .lo) (k .before .pre .0) (k .before .pre .1 .0)
+    (k .before .pre .1 .1)
     (k .product .ensures) L))
     (left-over (k .product .result .lo) (2 ^ a .s) L) (doubled (a .s) (k .before .pre .1 .0) (k .before .pre .1 .1))
 

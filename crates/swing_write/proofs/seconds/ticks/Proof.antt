@@ -13,7 +13,7 @@ use Rattle.algebra.specs.Ring.{_:*_, _≈_, _⊩_, _times_≼_, ring}
 use Rattle.rounding.specs.Cut.{value, infinity}
 use Rattle.rounding.specs.Value.{value-high}
 use Rattle.binary64.specs.Meaning.{bits-back}
-use Rattle.swing.specs.Between.{Between, units-of, has-value}
+use Rattle.between.specs.Between.{Between, units-of, has-value}
 use Rattle.swing.specs.Ratios.{power}
 use Rattle.swing_write.specs.Replies.{ticksOf}
 use Rattle.swing_write.proofs.seconds.ticks.Statement.{statement}
@@ -25,7 +25,8 @@ record Pattern (bits : ℕ) : Type 0 where
   high : bits ≤ 1042 * 2 ^ 52
 
 pattern-of : (x : Float) (bits : ℕ) (X : Between (power 1012) (power 1042) x) → bits ≡ toBits binary64 x → bits ≡ X .n
-pattern-of x bits X e = e ∙ ap (λ (y : Float). toBits binary64 y) (X .is) ∙ bits-back (X .n) (small (X .n) (X .high)) (number (X .n) (X .high))
+pattern-of x bits X e = e ∙ ap (λ (y : Float). toBits binary64 y) (X .is)
+    ∙ bits-back (X .n) (small (X .n) (X .high)) (number (X .n) (X .high))
   where
     small : (n : ℕ) → n ≤ 1042 * 2 ^ 52 → n < 2 ^ 64
     small n h = omega arith
@@ -66,7 +67,8 @@ ticked x bits X e =
     let M = 2 ^ 52 + bits % 2 ^ 52 in
     let f = bits / 2 ^ 52 in
     let u : value (X .n) ≡ M * 2 ^ (f - 1) = ap value (sym (pattern-of x bits X e)) ∙ value-high bits (normal bits P) in
-    let v : num x * 2 ^ 1074 ≡ M * 2 ^ (f - 1) * den x = value→cross x (value (X .n)) (2 ^ 1074) (has-value X) ∙ ap (λ (z : ℕ). z * den x) u in
+    let v : num x * 2 ^ 1074 ≡ M * 2 ^ (f - 1) * den x = value→cross x (value (X .n)) (2 ^ 1074) (has-value X)
+    ∙ ap (λ (z : ℕ). z * den x) u in
     closest-same (M * 1000000000000) (2 ^ (1075 - f)) (num x * 1000000000000) (den x) (pow-pos (1075 - f)) (den-pos x)
     (sym (same-ratio (num x) (den x) M 1000000000000 (2 ^ (f - 1)) (2 ^ (1075 - f)) (2 ^ 1074) (pow-pos (f - 1)) v
     (powers f (field bits P .0) (field bits P .1))))
@@ -75,7 +77,8 @@ sub-scaled : tie.Need-sub-scaled
 sub-scaled c = let p = field _ (pattern-in _ _ (c .before .pre) (c .split .ensures)) in omega arith
 
 scaled-requires : tie.Need-scaled-requires
-scaled-requires c κs = let p = field _ (pattern-in _ _ (c .before .pre) (c .split .ensures)) in (omega arith, (omega arith, omega arith))
+scaled-requires c κs = let p = field _ (pattern-in _ _ (c .before .pre) (c .split .ensures)) in
+    (omega arith, (omega arith, omega arith))
 
 returns : tie.Need-returns
 returns c = c .scaled .ensures ∙ ticked _ _ (c .before .before .pre) (c .before .split .ensures)

@@ -19,7 +19,8 @@ spelled base zero n o at = o
 spelled base (suc k) n o at = spelled base k (n / base) (set o (at + k) (glyphOf (n % base))) at
 
 abbrev Inv-loop : tie.InvT-loop
-Inv-loop n base k out₀ at i₀ rest₀ out i rest = (i ≤ k) × (length out ≡ length out₀) × (spelled base i rest out at ≡ spelled base k n out₀ at)
+Inv-loop n base k out₀ at i₀ rest₀ out i rest = (i ≤ k) × (length out ≡ length out₀)
+    × (spelled base i rest out at ≡ spelled base k n out₀ at)
 
 abbrev μ-loop : tie.MeasureT-loop
 μ-loop n base k out₀ at i₀ rest₀ out i rest = i

@@ -1,0 +1,2 @@
+-- `Arms`: what the last arm of a match tells.
+mod Arms

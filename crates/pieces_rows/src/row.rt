@@ -1,0 +1,17 @@
+// A row of twelve coefficients.
+
+// In units of 2 ^ -63, the constant first.
+pub struct Row(
+    pub u64,
+    pub u64,
+    pub u64,
+    pub u64,
+    pub u64,
+    pub u64,
+    pub u64,
+    pub u64,
+    pub u64,
+    pub u64,
+    pub u64,
+    pub u64,
+);
