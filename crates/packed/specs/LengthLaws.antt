@@ -90,3 +90,16 @@ job-length-bounds j h =
       omega (arith, job-length-sum j, one, first, second),
       omega (arith, job-length-sum j, one, argument-most j 0, argument-most j 1, argument-most j 2, argument-most j 3),
     )
+
+-- whatever its function, no more than fifty
+pub job-most : (j : Job) → jobLength j ≤ 50
+job-most j =
+    omega (
+      arith,
+      job-length-sum j,
+      number-most (j .function),
+      argument-most j 0,
+      argument-most j 1,
+      argument-most j 2,
+      argument-most j 3,
+    )
