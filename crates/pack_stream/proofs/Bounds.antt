@@ -22,7 +22,8 @@ unfolding packFrom
 byte-short held b = go (eqb b 10)
   where
     go :
-        (t : Bool) → (length (cond t (lineThen (callOf held) (nothing [])) (nothing (take heldLength (held ++ b ∷ []))) .said) ≤ jobRoom)
+        (t : Bool) → (length (cond t (lineThen (callOf held) (nothing [])) (nothing (take heldLength (held ++ b ∷ []))) .said)
+        ≤ jobRoom)
         × (cond t (lineThen (callOf held) (nothing [])) (nothing (take heldLength (held ++ b ∷ []))) .lines ≤ 1)
     go true = line-short (callOf held)
     go false = (omega arith, omega arith)

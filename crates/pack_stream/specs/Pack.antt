@@ -25,7 +25,8 @@ jobOf c = record {
   d = getD (argumentsOf c) 3 0;
 }
 
--- what comes of some lines: the bytes put, what is held of a line that has not ended, how many lines have, and whether the last was bad
+-- what comes of some lines: the bytes put, what is held of a line that has not ended, how many lines have, and whether the last
+-- was bad
 pub record Packing : Type 0 where
   pub said : List ℕ
   pub rest : List ℕ
@@ -51,7 +52,8 @@ heldLength = longestLine + 1
 
 unfoldable pub packFrom : List ℕ → List ℕ → Packing
 packFrom held [] = nothing held
-packFrom held (b ∷ bs) = cond (eqb b 10) (lineThen (callOf held) (packFrom [] bs)) (packFrom (take heldLength (held ++ b ∷ [])) bs)
+packFrom held (b ∷ bs) = cond (eqb b 10) (lineThen (callOf held) (packFrom [] bs))
+    (packFrom (take heldLength (held ++ b ∷ [])) bs)
 
 -- at the input's end: what is held is a line
 unfoldable pub packLast : List ℕ → Packing

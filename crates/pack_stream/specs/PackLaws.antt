@@ -23,7 +23,13 @@ use Rattle.pack_stream.specs.declared.stream.Progress.{Progress}
 -- ---- wherever the bytes are cut
 good-and :
     (t : Bool) (s : List ℕ) (p q : Packing)
-    → (let a : Packing = cond t p (record { said = p .said ++ q .said; rest = q .rest; lines = p .lines + q .lines; bad = q .bad }) in
+    → (let a : Packing = cond t p (record {
+      said = p .said ++ q .said;
+      rest = q .rest;
+      lines = p .lines + q .lines;
+      bad =
+          q .bad;
+    }) in
     _≡_ {A = Packing} (record { said = s ++ a .said; rest = a .rest; lines = suc (a .lines); bad = a .bad })
     (cond t (record { said = s ++ p .said; rest = p .rest; lines = suc (p .lines); bad = p .bad })
     (record { said = (s ++ p .said) ++ q .said; rest = q .rest; lines = suc (p .lines) + q .lines; bad = q .bad })))
@@ -39,7 +45,8 @@ none-and : (held : List ℕ) (q : Packing) → q ≡ andPack (nothing held) q
 unfolding andPack
 none-and held q = rw zero-add
 
-pub pack-more : (xs held ys : List ℕ) → packFrom held (xs ++ ys) ≡ andPack (packFrom held xs) (packFrom (packFrom held xs .rest) ys)
+pub pack-more : (xs held ys : List ℕ) → packFrom held (xs ++ ys)
+    ≡ andPack (packFrom held xs) (packFrom (packFrom held xs .rest) ys)
 unfolding packFrom lineThen
 pack-more [] held ys = none-and held (packFrom held ys)
 pack-more (x ∷ xs) held ys = go (eqb x 10) (callOf held) (pack-more xs [] ys) (pack-more xs (take heldLength (held ++ x ∷ [])) ys)
@@ -48,21 +55,31 @@ pack-more (x ∷ xs) held ys = go (eqb x 10) (callOf held) (pack-more xs [] ys) 
         (t : Bool) (r : Line)
         → packFrom [] (xs ++ ys) ≡ andPack (packFrom [] xs) (packFrom (packFrom [] xs .rest) ys)
         → packFrom (take heldLength (held ++ x ∷ [])) (xs ++ ys)
-        ≡ andPack (packFrom (take heldLength (held ++ x ∷ [])) xs) (packFrom (packFrom (take heldLength (held ++ x ∷ [])) xs .rest) ys)
+        ≡ andPack (packFrom (take heldLength (held ++ x ∷ [])) xs)
+        (packFrom (packFrom (take heldLength (held ++ x ∷ [])) xs .rest) ys)
         → (let p : Packing = cond t (lineThen r (packFrom [] xs)) (packFrom (take heldLength (held ++ x ∷ [])) xs) in
-        cond t (lineThen r (packFrom [] (xs ++ ys))) (packFrom (take heldLength (held ++ x ∷ [])) (xs ++ ys)) ≡ andPack p (packFrom (p .rest) ys))
-    go true (Good c) e f = ap (λ (p : Packing). lineThen (Good c) p) e ∙ line-and (Good c) (packFrom [] xs) (packFrom (packFrom [] xs .rest) ys)
+        cond t (lineThen r (packFrom [] (xs ++ ys))) (packFrom (take heldLength (held ++ x ∷ [])) (xs ++ ys))
+        ≡ andPack p (packFrom (p .rest) ys))
+    go true (Good c) e f = ap (λ (p : Packing). lineThen (Good c) p) e
+        ∙ line-and (Good c) (packFrom [] xs) (packFrom (packFrom [] xs .rest) ys)
     go true Bad e f = line-and Bad (packFrom [] xs) (packFrom [] ys)
     go false r e f = f
 
 -- a run after a run that ended in no bad line
 fed-and :
-    {p q : Packing} {middle after before half out : List ℕ} {at : ℕ} {r s : Progress} → Fed p middle before at half r → r .bad ≡ false
+    {p q : Packing} {middle after before half out : List ℕ} {at : ℕ} {r s : Progress} → Fed p middle before at half r
+    → r .bad ≡ false
     → Fed q after half (r .used) out s
     → Fed (andPack p q) after before at out (record { held = s .held; used = s .used; lines = r .lines + s .lines; bad = s .bad })
 unfolding andPack
 fed-and {p} {q} {middle} {after} {before} {half} {out} {at} {r} {s} f e g =
-    subst (λ (t : Bool). Fed (cond t p (record { said = p .said ++ q .said; rest = q .rest; lines = p .lines + q .lines; bad = q .bad })) after before at
+    subst (λ (t : Bool). Fed (cond t p (record {
+      said = p .said ++ q .said;
+      rest = q .rest;
+      lines = p .lines + q .lines;
+      bad =
+          q .bad;
+    })) after before at
     out (record { held = s .held; used = s .used; lines = r .lines + s .lines; bad = s .bad })) (sym (sym (f .bad) ∙ e)) (record {
       rest = g .rest;
       few = g .few;
@@ -72,21 +89,31 @@ fed-and {p} {q} {middle} {after} {before} {half} {out} {at} {r} {s} f e g =
     })
 
 pub fed-more :
-    (held xs ys : List ℕ) {middle after before half out : List ℕ} {at : ℕ} {r s : Progress} → Fed (packFrom held xs) middle before at half r
+    (held xs ys : List ℕ) {middle after before half out : List ℕ} {at : ℕ} {r s : Progress}
+    → Fed (packFrom held xs) middle before at half r
     → r .bad ≡ false → Fed (packFrom (take (r .held) middle) ys) after half (r .used) out s
-    → Fed (packFrom held (xs ++ ys)) after before at out (record { held = s .held; used = s .used; lines = r .lines + s .lines; bad = s .bad })
+    → Fed (packFrom held (xs ++ ys)) after before at out
+    (record { held = s .held; used = s .used; lines = r .lines + s .lines; bad = s .bad })
 fed-more held xs ys f e g = rw (pack-more xs held ys) (fed-and f e (rw (f .rest) at g))
 
 stop : (p q : Packing) → p .bad ≡ true → andPack p q ≡ p
 unfolding andPack
 stop p q e =
-    ap (λ (t : Bool). cond t p (record { said = p .said ++ q .said; rest = q .rest; lines = p .lines + q .lines; bad = q .bad })) e
+    ap (λ (t : Bool). cond t p (record {
+      said = p .said ++ q .said;
+      rest = q .rest;
+      lines = p .lines + q .lines;
+      bad =
+          q .bad;
+    })) e
 
 -- after a bad line nothing comes
 pub fed-stop :
-    (held xs ys : List ℕ) {after before out : List ℕ} {at : ℕ} {r : Progress} → Fed (packFrom held xs) after before at out r → r .bad ≡ true
+    (held xs ys : List ℕ) {after before out : List ℕ} {at : ℕ} {r : Progress} → Fed (packFrom held xs) after before at out r
+    → r .bad ≡ true
     → Fed (packFrom held (xs ++ ys)) after before at out r
-fed-stop held xs ys {after} {before} {out} {at} {r} f e = rw (pack-more xs held ys) (stops (packFrom held xs) (packFrom (packFrom held xs .rest) ys) f)
+fed-stop held xs ys {after} {before} {out} {at} {r} f e =
+    rw (pack-more xs held ys) (stops (packFrom held xs) (packFrom (packFrom held xs .rest) ys) f)
   where
     stops : (p q : Packing) → Fed p after before at out r → Fed (andPack p q) after before at out r
     stops p q f = subst (λ (x : Packing). Fed x after before at out r) (sym (stop p q (sym (f .bad) ∙ e))) f
@@ -96,7 +123,10 @@ held-call : (l : List ℕ) → callOf (take heldLength l) ≡ callOf l
 held-call l = ⊎-elim long (λ h. rw (take-all heldLength l h)) (lt-or-le heldLength (length l))
   where
     long : heldLength < length l → callOf (take heldLength l) ≡ callOf l
-    long h = rw (too-long (take heldLength l) (omega (arith, length-take-le heldLength l (omega arith))), too-long l (omega arith))
+    long h = rw (
+      too-long (take heldLength l) (omega (arith, length-take-le heldLength l (omega arith))),
+      too-long l (omega arith),
+    )
 
 held-more : (l : List ℕ) (b : ℕ) → take heldLength (take heldLength l ++ b ∷ []) ≡ take heldLength (l ++ b ∷ [])
 held-more l b = ⊎-elim long (λ h. rw (take-all heldLength l h)) (lt-or-le heldLength (length l))
@@ -123,7 +153,8 @@ from-held (b ∷ bs) begun = go (eqb b 10) (callOf (take heldLength begun)) (hel
   where
     go :
         (t : Bool) (r : Line) → r ≡ callOf begun → ((l : List ℕ) → packAll (take heldLength l) bs ≡ packLines (linesFrom l bs))
-        → (let p : Packing = cond t (lineThen r (packFrom [] bs)) (packFrom (take heldLength (take heldLength begun ++ b ∷ [])) bs) in
+        → (let p : Packing = cond t (lineThen r (packFrom [] bs))
+        (packFrom (take heldLength (take heldLength begun ++ b ∷ [])) bs) in
         andPack p (packLast (p .rest)) ≡ packLines (cond t (begun ∷ linesFrom [] bs) (linesFrom (begun ++ b ∷ []) bs)))
     go true (Good c) e rest =
         sym (line-and (Good c) (packFrom [] bs) (packLast (packFrom [] bs .rest)))

@@ -109,7 +109,8 @@ fn feed_all(
     }
 }
 
-// Feeds the block's first bytes: the jobs of the lines that end there are put at the start of `out`, up to a bad line, and `held` keeps what has
+// Feeds the block's first bytes: the jobs of the lines that end there are put at the start of `out`, up to a bad line, and
+// `held` keeps what has
 // not ended. A size beyond the block counts as all of it, and n above HELD as HELD.
 pub fn feed(
     block: &[u8; BLOCK],

@@ -42,7 +42,8 @@ module _ (l : List ℕ) (j : Job) (proper : Proper j) where
   function-back at rest e =
       rw (number-at-back l at (j .function) rest (proper .function-fits) e, ne-eqb (arityOf (j .function)) 0 (proper .known))
 
-  argument-back : (p : Job) (k at : ℕ) (rest : List ℕ) → k < 4 → p .function ≡ j .function → withArgument p k 0 ≡ p → drop at l ≡ argumentBytes j k ++ rest
+  argument-back : (p : Job) (k at : ℕ) (rest : List ℕ) → k < 4 → p .function ≡ j .function → withArgument p k 0 ≡ p
+      → drop at l ≡ argumentBytes j k ++ rest
       → argumentAt l (gotten p at) k ≡ Found (gotten (withArgument p k (argumentOf j k)) (at + length (argumentBytes j k)))
   unfolding argumentAt argumentBytes argumentRead
   argument-back p k at rest i f z e =
@@ -121,12 +122,14 @@ record Step (l : List ℕ) (p : Job) (at k : ℕ) (h : Got) : Type 0 where
 refused : (n : ℕ) (g : Got) {P : Type 0} → Refused n ≡ Found g → P
 refused n g e = let z : _≡_ {A = ℕ} 0 1 = cc in absurd (omega arith)
 
-argument-is : (l : List ℕ) (p : Job) (at k : ℕ) (h : Got) → Bytes l → withArgument p k 0 ≡ p → argumentAt l (gotten p at) k ≡ Found h → Step l p at k h
+argument-is : (l : List ℕ) (p : Job) (at k : ℕ) (h : Got) → Bytes l → withArgument p k 0 ≡ p
+    → argumentAt l (gotten p at) k ≡ Found h → Step l p at k h
 unfolding argumentAt argumentRead
 argument-is l p at k h b z e = go (ltb k (arityOf (p .function))) (numberAt l at) refl refl e
   where
     go :
-        (t : Bool) (n : Number) → ltb k (arityOf (p .function)) ≡ t → numberAt l at ≡ n → cond t (argumentRead p k n) (Found (gotten p at)) ≡ Found h
+        (t : Bool) (n : Number) → ltb k (arityOf (p .function)) ≡ t → numberAt l at ≡ n
+        → cond t (argumentRead p k n) (Found (gotten p at)) ≡ Found h
         → Step l p at k h
     go true (Whole v next) t f e =
         let r = number-at-bytes l at v next b f in
@@ -222,7 +225,8 @@ module _ (l : List ℕ) (at : ℕ) (b : Bytes l) where
       go true t r = refused unknown-function g r
       go false t r =
           let z : begun f next ≡ g = cc in
-          chained f next h i k got e (eqb-false (arityOf f) 0 t) (subst (λ (x : Got). argumentAt l x 0 ≡ Found h) (sym z) e0) e1 e2 e3
+          chained f next h i k got e (eqb-false (arityOf f) 0 t) (subst (λ (x : Got). argumentAt l x 0 ≡ Found h) (sym z) e0)
+          e1 e2 e3
   begins (NoNumber n) g h i got e r e0 e1 k e2 e3 = refused n g r
 
   job-is : (got : Got) → jobAt l at ≡ Found got → Is l at got

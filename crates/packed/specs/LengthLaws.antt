@@ -26,7 +26,8 @@ unfolding groupsOf
 groups-most zero n = omega arith
 groups-most (suc left) n = go (ltb n 128) (groups-most left (n / 128))
   where
-    go : (t : Bool) → length (groupsOf left (n / 128)) ≤ suc left → length (cond t (n ∷ []) ((128 + n % 128) ∷ groupsOf left (n / 128))) ≤ suc (suc left)
+    go : (t : Bool) → length (groupsOf left (n / 128)) ≤ suc left
+        → length (cond t (n ∷ []) ((128 + n % 128) ∷ groupsOf left (n / 128))) ≤ suc (suc left)
     go true h = omega arith
     go false h = omega arith
 

@@ -1,6 +1,6 @@
--- Whole work lists (document 02, 2026-03): "Writing then reading gives the jobs back; reading then writing gives the bytes back".
--- A read is a function of the bytes and the place and stores nothing, so a refused one leaves its place. Every reading ends: `readAll`
--- allows a job for each byte, and by `bytes-back` that is never too few. Assumes nothing.
+-- Whole work lists (document 02, 2026-03): "Writing then reading gives the jobs back; reading then writing gives the bytes
+-- back". A read is a function of the bytes and the place and stores nothing, so a refused one leaves its place. Every reading
+-- ends: `readAll` allows a job for each byte, and by `bytes-back` that is never too few. Assumes nothing.
 use Prim.Native.Nat.{ℕ, zero, suc, _+_, _-_, _≤_, _<_}
 use mathlib.Core.Path.{_≡_, refl, sym, ap, subst, _∙_}
 use mathlib.Core.Bool.{Bool, true, false, cond}
@@ -50,7 +50,8 @@ rest : (l : List ℕ) (at : ℕ) (j : Job) (r : List ℕ) → drop at l ≡ jobB
 unfolding jobLength
 rest l at j r e = after l at (jobBytes j) r e
 
-from-back : (js : List Job) (most : ℕ) (l : List ℕ) (at : ℕ) → Propers js → drop at l ≡ listBytes js → length js < most → readFrom most l at ≡ jobs js
+from-back : (js : List Job) (most : ℕ) (l : List ℕ) (at : ℕ) → Propers js → drop at l ≡ listBytes js → length js < most
+    → readFrom most l at ≡ jobs js
 unfolding readFrom readOn withJob listBytes
 from-back js zero l at p e h = absurd (omega arith)
 from-back [] (suc most) l at p e h = rw (none-left l at (omega (arith, ap length e, length-drop at l)))
@@ -125,7 +126,11 @@ bytes-on l at most (Found got) js b e h more f = go (readFrom most l (got .next)
         let z : got .job ∷ ks ≡ js = cc in
         let m = more (got .next) ks (omega (arith, r .0, r .1 .stands .place, job-some (got .job))) p in
         let made : Were l at (got .job ∷ ks) =
-        record { proper = (r .1 .proper, m .proper); bytes = r .1 .stands .bytes ∙ ap (λ (t : List ℕ). jobBytes (got .job) ++ t) (m .bytes) } in
+        record {
+          proper = (r .1 .proper, m .proper);
+          bytes = r .1 .stands .bytes
+              ∙ ap (λ (t : List ℕ). jobBytes (got .job) ++ t) (m .bytes);
+        } in
         subst (λ (x : List Job). Were l at x) z made
     go (stopped n m) p q = let z : _≡_ {A = ℕ} 0 1 = cc in absurd (omega arith)
 bytes-on l at most Nothing js b e h more f =
@@ -134,10 +139,12 @@ bytes-on l at most Nothing js b e h more f =
     subst (λ (x : List Job). Were l at x) z made
 bytes-on l at most (Refused n) js b e h more f = let z : _≡_ {A = ℕ} 0 1 = cc in absurd (omega arith)
 
-from-bytes : (most : ℕ) (l : List ℕ) (at : ℕ) (js : List Job) → Bytes l → length l - at < most → readFrom most l at ≡ jobs js → Were l at js
+from-bytes : (most : ℕ) (l : List ℕ) (at : ℕ) (js : List Job) → Bytes l → length l - at < most → readFrom most l at ≡ jobs js
+    → Were l at js
 unfolding readFrom
 from-bytes zero l at js b h e = absurd (omega arith)
-from-bytes (suc most) l at js b h e = bytes-on l at most (readAt l at) js b refl h (λ next ks k f. from-bytes most l next ks b k f) e
+from-bytes (suc most) l at js b h e = bytes-on l at most (readAt l at) js b refl h
+    (λ next ks k f. from-bytes most l next ks b k f) e
 
 pub bytes-back : (l : List ℕ) (js : List Job) → Bytes l → readAll l ≡ jobs js → Propers js × (listBytes js ≡ l)
 unfolding readAll

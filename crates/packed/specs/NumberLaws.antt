@@ -1,4 +1,5 @@
--- A number that is written is read back, whatever follows it, and what is read whole is how that number is written. Assumes nothing.
+-- A number that is written is read back, whatever follows it, and what is read whole is how that number is written. Assumes
+-- nothing.
 use Prim.Native.Nat.{ℕ, zero, suc, _+_, _-_, _*_, _/_, _%_, _^_, _≤_, _<_}
 use mathlib.Core.Path.{_≡_, refl, sym, ap, ap₂, _∙_}
 use mathlib.Core.Bool.{Bool, true, false, cond}
@@ -27,7 +28,8 @@ last-is : (w v n next : ℕ) → (n ≡ 0 → (w ≡ 1) × (v ≡ 0)) → lastGr
 unfolding lastGroup
 last-is w v n next h = go (eqb n 0) refl
   where
-    go : (t : Bool) → eqb n 0 ≡ t → cond t (cond (ltb 1 w) (Refused number-bad) (Whole v next)) (Whole (v + n * w) next) ≡ Whole (v + n * w) next
+    go : (t : Bool) → eqb n 0 ≡ t → cond t (cond (ltb 1 w) (Refused number-bad) (Whole v next)) (Whole (v + n * w) next)
+        ≡ Whole (v + n * w) next
     go true e =
         let z : n ≡ 0 = eqb-true n 0 e in
         rw (le-ltb 1 w (omega (arith, h z .0))) (ap (λ (x : ℕ). Whole x next) (rw z (omega arith)))
@@ -52,7 +54,8 @@ number-back zero w v at n rest h k = go (eqb n 1) refl
         let q : n < 2 * 128 ^ 0 = h in
         let z : n ≡ 0 = omega (arith, pow-zero 128, eqb-false n 1 e) in
         absurd (omega (arith, k z .0))
-number-back (suc left) w v at n rest h k = go (ltb n 128) refl (number-back left (w * 128) (v + n % 128 * w) (at + 1) (n / 128) rest (less left n h))
+number-back (suc left) w v at n rest h k = go (ltb n 128) refl
+    (number-back left (w * 128) (v + n % 128 * w) (at + 1) (n / 128) rest (less left n h))
   where
     go : (t : Bool) → ltb n 128 ≡ t
         → ((n / 128 ≡ 0 → (0 < left) × (w * 128 ≡ 1) × (v + n % 128 * w ≡ 0))
@@ -126,7 +129,8 @@ reads-last left w v at b bs x next h e = go (eqb b 0) (ltb 1 w) refl refl e
     }
 
     go :
-        (t u : Bool) → eqb b 0 ≡ t → ltb 1 w ≡ u → cond t (cond u (Refused number-bad) (Whole v (at + 1))) (Whole (v + b * w) (at + 1)) ≡ Whole x next
+        (t u : Bool) → eqb b 0 ≡ t → ltb 1 w ≡ u → cond t (cond u (Refused number-bad) (Whole v (at + 1)))
+        (Whole (v + b * w) (at + 1)) ≡ Whole x next
         → Reads (suc left) w v at (b ∷ bs) x next
     go true true t u e = no-number number-bad x next e
     go true false t u e =
@@ -160,13 +164,15 @@ reads-more left w v at b bs x next h k p r = record {
     same : groupsOf (suc left) m ≡ b ∷ groupsOf left (r .n)
     same = groups-more left m b (r .n) h k first refl
 
-pub bytes-back : (left w v at : ℕ) (bytes : List ℕ) (x next : ℕ) → Bytes bytes → 0 < w → numberFrom left w v at bytes ≡ Whole x next
+pub bytes-back : (left w v at : ℕ) (bytes : List ℕ) (x next : ℕ) → Bytes bytes → 0 < w
+    → numberFrom left w v at bytes ≡ Whole x next
     → Reads left w v at bytes x next
 unfolding numberFrom
 bytes-back zero w v at [] x next h k e = no-number list-cut x next e
 bytes-back zero w v at (b ∷ bs) x next h k e = go (eqb b 1) refl e
   where
-    go : (t : Bool) → eqb b 1 ≡ t → cond t (Whole (v + w) (at + 1)) (Refused number-bad) ≡ Whole x next → Reads 0 w v at (b ∷ bs) x next
+    go : (t : Bool) → eqb b 1 ≡ t → cond t (Whole (v + w) (at + 1)) (Refused number-bad) ≡ Whole x next
+        → Reads 0 w v at (b ∷ bs) x next
     go true t e =
         let p : v + w ≡ x = cc in
         let q : at + 1 ≡ next = cc in
@@ -185,7 +191,8 @@ bytes-back (suc left) w v at (b ∷ bs) x next h k e =
   where
     go : (t : Bool) → ltb b 128 ≡ t
         → cond t (lastGroup w v (at + 1) b) (numberFrom left (w * 128) (v + (b - 128) * w) (at + 1) bs) ≡ Whole x next
-        → (numberFrom left (w * 128) (v + (b - 128) * w) (at + 1) bs ≡ Whole x next → Reads left (w * 128) (v + (b - 128) * w) (at + 1) bs x next)
+        → (numberFrom left (w * 128) (v + (b - 128) * w) (at + 1) bs ≡ Whole x next
+        → Reads left (w * 128) (v + (b - 128) * w) (at + 1) bs x next)
         → Reads (suc left) w v at (b ∷ bs) x next
     go true t e more = reads-last left w v at b bs x next (ltb-true b 128 t) e
     go false t e more = reads-more left w v at b bs x next (ltb-false b 128 t) (h .0) k (more e)
@@ -214,6 +221,7 @@ stands l at x next r =
       },
     )
 
-pub number-at-bytes : (l : List ℕ) (at x next : ℕ) → Bytes l → numberAt l at ≡ Whole x next → (x < 2 ^ 64) × Stands l at (numberBytes x) next
+pub number-at-bytes : (l : List ℕ) (at x next : ℕ) → Bytes l → numberAt l at ≡ Whole x next
+    → (x < 2 ^ 64) × Stands l at (numberBytes x) next
 unfolding numberAt
 number-at-bytes l at x next h e = stands l at x next (bytes-back 9 1 0 at (drop at l) x next (bytes-drop at l h) (omega arith) e)

@@ -29,8 +29,8 @@ unfoldable pub lastGroup : ℕ → ℕ → ℕ → ℕ → Number
 lastGroup weight value next group =
     cond (eqb group 0) (cond (ltb 1 weight) (Refused number-bad) (Whole value next)) (Whole (value + group * weight) next)
 
--- what is read group by group: how many more may follow this one, its weight, the value so far, its place. The tenth has the one bit
--- that is left of 64, and is not zero. "14 is given where the bytes seen so far are good"
+-- what is read group by group: how many more may follow this one, its weight, the value so far, its place. The tenth has the
+-- one bit that is left of 64, and is not zero. "14 is given where the bytes seen so far are good"
 unfoldable pub numberFrom : ℕ → ℕ → ℕ → ℕ → List ℕ → Number
 numberFrom zero weight value at [] = Refused list-cut
 numberFrom zero weight value at (b ∷ bs) = cond (eqb b 1) (Whole (value + weight) (at + 1)) (Refused number-bad)

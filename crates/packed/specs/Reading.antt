@@ -29,7 +29,8 @@ argumentRead j k (NoNumber n) = Refused n
 
 -- the argument at k, where the function has one
 unfoldable pub argumentAt : List ℕ → Got → ℕ → Read
-argumentAt bytes got k = cond (ltb k (arityOf (got .job .function))) (argumentRead (got .job) k (numberAt bytes (got .next))) (Found got)
+argumentAt bytes got k = cond (ltb k (arityOf (got .job .function))) (argumentRead (got .job) k (numberAt bytes (got .next)))
+    (Found got)
 
 -- after what was read so far; a refusal stays
 unfoldable pub argumentAfter : List ℕ → Read → ℕ → Read

@@ -43,14 +43,17 @@ try-short (Found got) h = (rw length-append (omega (arith, line-most (got .job))
 try-short Nothing h = (omega arith, omega arith)
 try-short (Refused n) h = go (eqb n list-cut)
   where
-    go : (t : Bool) → (length (cond t (nothing h) (stopped n) .said) ≤ lineRoom) × (cond t (nothing h) (stopped n) .taken ≤ length h)
+    go : (t : Bool) → (length (cond t (nothing h) (stopped n) .said) ≤ lineRoom)
+        × (cond t (nothing h) (stopped n) .taken ≤ length h)
     go true = (omega arith, omega arith)
     go false = (omega arith, omega arith)
 
 most-held : (l : List ℕ) → length (take heldLength l) ≤ heldLength
-most-held l = ⊎-elim (λ h. omega (arith, length-take-le heldLength l (omega arith))) (λ h. rw (take-all heldLength l h) h) (lt-or-le heldLength (length l))
+most-held l = ⊎-elim (λ h. omega (arith, length-take-le heldLength l (omega arith))) (λ h. rw (take-all heldLength l h) h)
+    (lt-or-le heldLength (length l))
 
-pub byte-short : (held : List ℕ) (b : ℕ) → (length (unpackFrom held (b ∷ []) .said) ≤ lineRoom) × (unpackFrom held (b ∷ []) .taken ≤ heldLength)
+pub byte-short : (held : List ℕ) (b : ℕ) → (length (unpackFrom held (b ∷ []) .said) ≤ lineRoom)
+    × (unpackFrom held (b ∷ []) .taken ≤ heldLength)
 unfolding unpackFrom
 byte-short held b =
     let h = take heldLength (held ++ b ∷ []) in
@@ -58,7 +61,8 @@ byte-short held b =
     (s .0, omega (arith, s .1, most-held (held ++ b ∷ [])))
 
 -- one byte more is held, of at most as many as there is room for
-pub held-more : (l : List ℕ) (n b r : ℕ) → n ≤ length l → r ≡ pushed n (length l) → take r (set l n b) ≡ take (length l) (take n l ++ b ∷ [])
+pub held-more : (l : List ℕ) (n b r : ℕ) → n ≤ length l → r ≡ pushed n (length l)
+    → take r (set l n b) ≡ take (length l) (take n l ++ b ∷ [])
 unfolding pushed
 held-more l n b r h e = ⊎-elim inside full (lt-or-le n (length l))
   where

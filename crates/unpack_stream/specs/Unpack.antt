@@ -13,8 +13,8 @@ use Rattle.writing.specs.Written.{Put}
 use Rattle.unpack_stream.specs.Text.{jobText}
 use Rattle.unpack_stream.specs.declared.stream.Progress.{Progress}
 
--- what comes of some bytes: the lines put, what is held of a job that is not whole, how many bytes the whole jobs took, and whether a
--- refusal ended it, with its number
+-- what comes of some bytes: the lines put, what is held of a job that is not whole, how many bytes the whole jobs took, and
+-- whether a refusal ended it, with its number
 pub record Unpacking : Type 0 where
   pub said : List ℕ
   pub rest : List ℕ
@@ -32,10 +32,17 @@ stopped n = record { said = []; rest = []; taken = 0; ended = true; stop = n }
 abbrev pub heldLength : ℕ
 heldLength = 64
 
--- after a try at what is held, so many bytes: its line and what comes after it; or it is only cut so far, and more is waited for; or it is
--- refused, and nothing comes after it
+-- after a try at what is held, so many bytes: its line and what comes after it; or it is only cut so far, and more is waited
+-- for; or it is refused, and nothing comes after it
 unfoldable pub jobThen : Read → ℕ → Unpacking → Unpacking → Unpacking
-jobThen (Found got) size p more = record { said = jobText (got .job) ++ p .said; rest = p .rest; taken = size + p .taken; ended = p .ended; stop = p .stop }
+jobThen (Found got) size p more = record {
+  said = jobText (got .job) ++ p .said;
+  rest = p .rest;
+  taken =
+      size + p .taken;
+  ended = p .ended;
+  stop = p .stop;
+}
 jobThen Nothing size p more = more
 jobThen (Refused n) size p more = cond (eqb n list-cut) more (stopped n)
 

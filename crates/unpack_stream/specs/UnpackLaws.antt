@@ -18,10 +18,24 @@ use Rattle.unpack_stream.specs.declared.stream.Progress.{Progress}
 found-and :
     (t : Bool) (s : List ℕ) (n : ℕ) (p q : Unpacking)
     → (let a : Unpacking =
-    cond t p (record { said = p .said ++ q .said; rest = q .rest; taken = p .taken + q .taken; ended = q .ended; stop = q .stop }) in
+    cond t p (record {
+      said = p .said ++ q .said;
+      rest = q .rest;
+      taken = p .taken + q .taken;
+      ended = q .ended;
+      stop =
+          q .stop;
+    }) in
     _≡_ {A = Unpacking} (record { said = s ++ a .said; rest = a .rest; taken = n + a .taken; ended = a .ended; stop = a .stop })
     (cond t (record { said = s ++ p .said; rest = p .rest; taken = n + p .taken; ended = p .ended; stop = p .stop })
-    (record { said = (s ++ p .said) ++ q .said; rest = q .rest; taken = n + p .taken + q .taken; ended = q .ended; stop = q .stop })))
+    (record {
+      said = (s ++ p .said) ++ q .said;
+      rest = q .rest;
+      taken = n + p .taken + q .taken;
+      ended = q .ended;
+      stop =
+          q .stop;
+    })))
 found-and true s n p q = refl
 found-and false s n p q = rw (append-assoc, add-assoc)
 
@@ -29,15 +43,18 @@ none-and : (held : List ℕ) (q : Unpacking) → q ≡ andUnpack (nothing held) 
 unfolding andUnpack
 none-and held q = rw zero-add
 
-pub unpack-more : (xs held ys : List ℕ) → unpackFrom held (xs ++ ys) ≡ andUnpack (unpackFrom held xs) (unpackFrom (unpackFrom held xs .rest) ys)
+pub unpack-more : (xs held ys : List ℕ) → unpackFrom held (xs ++ ys)
+    ≡ andUnpack (unpackFrom held xs) (unpackFrom (unpackFrom held xs .rest) ys)
 unfolding unpackFrom jobThen andUnpack
 unpack-more [] held ys = none-and held (unpackFrom held ys)
 unpack-more (x ∷ xs) held ys =
-    go (readAt (take heldLength (held ++ x ∷ [])) 0) (length (take heldLength (held ++ x ∷ []))) (take heldLength (held ++ x ∷ []))
+    go (readAt (take heldLength (held ++ x ∷ [])) 0) (length (take heldLength (held ++ x ∷ [])))
+    (take heldLength (held ++ x ∷ []))
     (unpack-more xs [] ys) (unpack-more xs (take heldLength (held ++ x ∷ [])) ys)
   where
     go :
-        (r : Read) (n : ℕ) (h : List ℕ) → unpackFrom [] (xs ++ ys) ≡ andUnpack (unpackFrom [] xs) (unpackFrom (unpackFrom [] xs .rest) ys)
+        (r : Read) (n : ℕ) (h : List ℕ) → unpackFrom [] (xs ++ ys)
+        ≡ andUnpack (unpackFrom [] xs) (unpackFrom (unpackFrom [] xs .rest) ys)
         → unpackFrom h (xs ++ ys) ≡ andUnpack (unpackFrom h xs) (unpackFrom (unpackFrom h xs .rest) ys)
         → (let p : Unpacking = jobThen r n (unpackFrom [] xs) (unpackFrom h xs) in
         jobThen r n (unpackFrom [] (xs ++ ys)) (unpackFrom h (xs ++ ys)) ≡ andUnpack p (unpackFrom (p .rest) ys))
@@ -55,13 +72,29 @@ unpack-more (x ∷ xs) held ys =
 
 -- a run after a run that no refusal ended
 fed-and :
-    {p q : Unpacking} {middle after before half out : List ℕ} {at : ℕ} {r s : Progress} → Fed p middle before at half r → r .ended ≡ false
+    {p q : Unpacking} {middle after before half out : List ℕ} {at : ℕ} {r s : Progress} → Fed p middle before at half r
+    → r .ended ≡ false
     → Fed q after half (r .used) out s
-    → Fed (andUnpack p q) after before at out (record { held = s .held; used = s .used; taken = r .taken + s .taken; ended = s .ended; stop = s .stop })
+    → Fed (andUnpack p q) after before at out (record {
+      held = s .held;
+      used = s .used;
+      taken = r .taken + s .taken;
+      ended =
+          s .ended;
+      stop = s .stop;
+    })
 unfolding andUnpack
 fed-and {p} {q} {middle} {after} {before} {half} {out} {at} {r} {s} f e g =
-    subst (λ (t : Bool). Fed (cond t p (record { said = p .said ++ q .said; rest = q .rest; taken = p .taken + q .taken; ended = q .ended; stop = q .stop })) after before at
-    out (record { held = s .held; used = s .used; taken = r .taken + s .taken; ended = s .ended; stop = s .stop })) (sym (sym (f .ended) ∙ e)) (record {
+    subst (λ (t : Bool). Fed (cond t p (record {
+      said = p .said ++ q .said;
+      rest = q .rest;
+      taken = p .taken + q .taken;
+      ended =
+          q .ended;
+      stop = q .stop;
+    })) after before at
+    out (record { held = s .held; used = s .used; taken = r .taken + s .taken; ended = s .ended; stop = s .stop }))
+    (sym (sym (f .ended) ∙ e)) (record {
       rest = g .rest;
       few = g .few;
       said = put-more (f .said) (g .said);
@@ -71,21 +104,32 @@ fed-and {p} {q} {middle} {after} {before} {half} {out} {at} {r} {s} f e g =
     })
 
 pub fed-more :
-    (held xs ys : List ℕ) {middle after before half out : List ℕ} {at : ℕ} {r s : Progress} → Fed (unpackFrom held xs) middle before at half r
+    (held xs ys : List ℕ) {middle after before half out : List ℕ} {at : ℕ} {r s : Progress}
+    → Fed (unpackFrom held xs) middle before at half r
     → r .ended ≡ false → Fed (unpackFrom (take (r .held) middle) ys) after half (r .used) out s
-    → Fed (unpackFrom held (xs ++ ys)) after before at out (record { held = s .held; used = s .used; taken = r .taken + s .taken; ended = s .ended; stop = s .stop })
+    → Fed (unpackFrom held (xs ++ ys)) after before at out
+    (record { held = s .held; used = s .used; taken = r .taken + s .taken; ended = s .ended; stop = s .stop })
 fed-more held xs ys f e g = rw (unpack-more xs held ys) (fed-and f e (rw (f .rest) at g))
 
 stop : (p q : Unpacking) → p .ended ≡ true → andUnpack p q ≡ p
 unfolding andUnpack
 stop p q e =
-    ap (λ (t : Bool). cond t p (record { said = p .said ++ q .said; rest = q .rest; taken = p .taken + q .taken; ended = q .ended; stop = q .stop })) e
+    ap (λ (t : Bool). cond t p (record {
+      said = p .said ++ q .said;
+      rest = q .rest;
+      taken = p .taken + q .taken;
+      ended =
+          q .ended;
+      stop = q .stop;
+    })) e
 
 -- after a refusal nothing comes
 pub fed-stop :
-    (held xs ys : List ℕ) {after before out : List ℕ} {at : ℕ} {r : Progress} → Fed (unpackFrom held xs) after before at out r → r .ended ≡ true
+    (held xs ys : List ℕ) {after before out : List ℕ} {at : ℕ} {r : Progress} → Fed (unpackFrom held xs) after before at out r
+    → r .ended ≡ true
     → Fed (unpackFrom held (xs ++ ys)) after before at out r
-fed-stop held xs ys {after} {before} {out} {at} {r} f e = rw (unpack-more xs held ys) (stops (unpackFrom held xs) (unpackFrom (unpackFrom held xs .rest) ys) f)
+fed-stop held xs ys {after} {before} {out} {at} {r} f e =
+    rw (unpack-more xs held ys) (stops (unpackFrom held xs) (unpackFrom (unpackFrom held xs .rest) ys) f)
   where
     stops : (p q : Unpacking) → Fed p after before at out r → Fed (andUnpack p q) after before at out r
     stops p q f = subst (λ (x : Unpacking). Fed x after before at out r) (sym (stop p q (sym (f .ended) ∙ e))) f

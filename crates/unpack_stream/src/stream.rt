@@ -21,7 +21,8 @@ pub const HELD: usize = 64;
 // So many bytes are read at once: there is room for a line after each.
 pub const BLOCK: usize = 512;
 
-// How many bytes are held now, how many were written, how many bytes the whole jobs took, and whether a refusal ended it, with its number.
+// How many bytes are held now, how many were written, how many bytes the whole jobs took, and whether a refusal ended it,
+// with its number.
 pub struct Progress {
     pub held: usize,
     pub used: usize,
@@ -132,7 +133,8 @@ fn feed_all(
     }
 }
 
-// Feeds the block's first bytes: the lines of the jobs that end there are put at the start of `out`, up to a refusal, and `held` keeps what is not
+// Feeds the block's first bytes: the lines of the jobs that end there are put at the start of `out`, up to a refusal, and
+// `held` keeps what is not
 // whole. A size beyond the block counts as all of it, and n above HELD as HELD.
 pub fn feed(
     block: &[u8; BLOCK],

@@ -32,9 +32,14 @@ fits : (l at : ℕ) (c : Call) → at + jobRoom ≤ l → writeAt l at (jobOf c)
 unfolding writeAt
 fits l at c h =
     let j = jobOf c in
-    rw (ne-eqb (arityOf (j .function)) 0 (known c), le-ltb (l - at) (jobLength j) (omega (arith, job-length-bounds j (known c) .1)))
+    rw (
+      ne-eqb (arityOf (j .function)) 0 (known c),
+      le-ltb (l - at) (jobLength j)
+          (omega (arith, job-length-bounds j (known c) .1)),
+    )
 
-put : (l out : List ℕ) (at next : ℕ) (c : Call) (j : Job) (w : Written) → at + jobRoom ≤ length l → j ≡ jobOf c → w ≡ writeAt (length l) at j
+put : (l out : List ℕ) (at next : ℕ) (c : Call) (j : Job) (w : Written) → at + jobRoom ≤ length l → j ≡ jobOf c
+    → w ≡ writeAt (length l) at j
     → out ≡ bytesAfter w l at j → w ≡ Next next → Put l at (jobBytes (jobOf c)) out next
 unfolding bytesAfter jobLength
 put l out at next c j w h e f g k =
@@ -42,7 +47,8 @@ put l out at next c j w h e f g k =
     let z : next ≡ at + jobLength (jobOf c) = cc in
     record { bytes = rw (k, e) at g; place = z }
 
-never : (l at n : ℕ) (c : Call) (j : Job) (w : Written) {P : Type 0} → at + jobRoom ≤ l → j ≡ jobOf c → w ≡ writeAt l at j → w ≡ Refused n → P
+never : (l at n : ℕ) (c : Call) (j : Job) (w : Written) {P : Type 0} → at + jobRoom ≤ l → j ≡ jobOf c → w ≡ writeAt l at j
+    → w ≡ Refused n → P
 never l at n c j w h e f g =
     let m : writeAt l at j ≡ Next (at + jobLength (jobOf c)) = rw e (fits l at c h) in
     let z : _≡_ {A = ℕ} 0 1 = cc in
@@ -53,7 +59,8 @@ returns c =
     let n = c .before in
     let w = n .before .before .before .before in
     let s = w .before .before .before .before in
-    put _ _ _ _ (s .args .call) _ _ (s .pre) (w .before .job-of .ensures) (w .write-job .ensures .0) (w .write-job .ensures .1) (n .next .given .1)
+    put _ _ _ _ (s .args .call) _ _ (s .pre) (w .before .job-of .ensures) (w .write-job .ensures .0) (w .write-job .ensures .1)
+    (n .next .given .1)
 
 returns-2 : tie.Need-returns-2
 returns-2 c =

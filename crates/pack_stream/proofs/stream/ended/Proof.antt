@@ -17,7 +17,14 @@ use Rattle.pack_stream.proofs.stream.ended.Tie as tie
 good : (r : Line) (c : Call) (before out : List ℕ) (at next : ℕ) → r ≡ Good c → Put before at (jobBytes (jobOf c)) out next
     → Fed (lineThen r (nothing [])) [] before at out (record { held = 0; used = next; lines = 1; bad = false })
 unfolding lineThen
-good r c before out at next e p = rw e (record { rest = refl; few = omega arith; said = rw append-nil p; lines = refl; bad = refl })
+good r c before out at next e p = rw e (record {
+  rest = refl;
+  few = omega arith;
+  said = rw append-nil p;
+  lines = refl;
+  bad =
+      refl;
+})
 
 bad : (r : Line) (before : List ℕ) (at : ℕ) → r ≡ Bad
     → Fed (lineThen r (nothing [])) [] before at before (record { held = 0; used = at; lines = 1; bad = true })

@@ -1,4 +1,5 @@
--- `feed_all` meets its contract. The invariant: what was fed so far is the block's beginning, and no line in it was bad. Assumes nothing.
+-- `feed_all` meets its contract. The invariant: what was fed so far is the block's beginning, and no line in it was bad.
+-- Assumes nothing.
 use Prim.Native.Nat.{ℕ, _+_, _-_, _*_, _≤_, _<_}
 use mathlib.Core.Path.{_≡_, refl, sym, ap, subst, _∙_}
 use mathlib.Core.Bool.{Bool, true, false}
@@ -19,7 +20,8 @@ use Rattle.pack_stream.proofs.stream.feed_all.Tie as tie
 abbrev Inv-loop : tie.InvT-loop
 Inv-loop block size held₀ held-before out₀ n₀ used₀ lines₀ i₀ held out n used lines i =
     (i ≤ size) × (used ≤ jobRoom * i) × (lines ≤ i) × (length held ≡ heldLength) × (length out ≡ length out₀)
-    × Fed (packFrom (take held-before held₀) (take i block)) held out₀ 0 out (record { held = n; used = used; lines = lines; bad = false })
+    × Fed (packFrom (take held-before held₀) (take i block)) held out₀ 0 out
+    (record { held = n; used = used; lines = lines; bad = false })
 
 abbrev μ-loop : tie.MeasureT-loop
 μ-loop block size held₀ held-before out₀ n₀ used₀ lines₀ i₀ held out n used lines i = size - i
@@ -63,7 +65,8 @@ step-requires c κs =
     (l .inv .3, (l .inv .5 .few, omega (arith, l .inv .4)))
 
 all-of :
-    (block held after before out : List ℕ) (i size : ℕ) (r : Progress) → i ≤ size → size ≤ i → Fed (packFrom held (take i block)) after before 0 out r
+    (block held after before out : List ℕ) (i size : ℕ) (r : Progress) → i ≤ size → size ≤ i
+    → Fed (packFrom held (take i block)) after before 0 out r
     → Fed (packFrom held (take size block)) after before 0 out r
 all-of block held after before out i size r h k p = let e : i ≡ size = omega arith in rw e at p
 
@@ -81,14 +84,16 @@ returns c =
       omega (arith, one-job _ _ _ _ _ _ _ _ _ _ inside f refl g),
     )
 
-add-lines : (c : tie.After-struct-known2 Inv-loop μ-loop) → c .before .before .before .before .before .before .step .result .lines ≤ 1
+add-lines : (c : tie.After-struct-known2 Inv-loop μ-loop)
+    → c .before .before .before .before .before .before .step .result .lines ≤ 1
 add-lines c =
     let s = c .before .before .before .before .before .before in
     let k = s .before .before .before .before .before in
     let inside : k .loop .i < length (now (k .before .before .before .before .args .block)) = omega arith in
     one-line _ _ _ _ _ _ _ _ _ _ inside (k .loop .inv .5) refl (s .step .ensures)
 
-add-lines-bad : (c : tie.After-struct-known Inv-loop μ-loop) → c .before .before .before .before .before .before .step .result .lines ≤ 1
+add-lines-bad : (c : tie.After-struct-known Inv-loop μ-loop)
+    → c .before .before .before .before .before .before .step .result .lines ≤ 1
 add-lines-bad c =
     let s = c .before .before .before .before .before .before in
     let k = s .before .before .before .before .before in
@@ -123,7 +128,14 @@ feed-all-spec =
     (tie.spec
     Inv-loop
     μ-loop
-    (λ c. let p = c .before .before .before .pre in (omega arith, omega arith, omega arith, p .1 .0, refl, none-fed _ _ _ _ (p .1 .1 .0) refl))
+    (λ c. let p = c .before .before .before .pre in (
+      omega arith,
+      omega arith,
+      omega arith,
+      p .1 .0,
+      refl,
+      none-fed _ _ _ _ (p .1 .1 .0) refl,
+    ))
     (λ c. omega arith)
     step-requires
     (λ c. omega (arith, add-lines-bad c))

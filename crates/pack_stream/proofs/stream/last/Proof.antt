@@ -37,5 +37,6 @@ returns-2 c =
 pub last-spec : {M : Type 1} → statement M
 last-spec =
     tie.close
-    (tie.spec (λ c. (none _ _ _ (c .if1 .taken), omega arith)) (λ c. sym (length-take-le _ _ (omega arith))) (λ c κs. search needs)
+    (tie.spec (λ c. (none _ _ _ (c .if1 .taken), omega arith)) (λ c. sym (length-take-le _ _ (omega arith)))
+    (λ c κs. search needs)
     (λ c. search needs) returns-2)

@@ -27,7 +27,8 @@ line-rest (Good c) = refl
 line-rest Bad = refl
 
 -- the line has ended
-ended : (held after before out : List ℕ) (b at : ℕ) (r : Progress) → b ≡ 10 → Fed (lineThen (callOf held) (nothing [])) [] before at out r → r .held ≡ 0
+ended : (held after before out : List ℕ) (b at : ℕ) (r : Progress) → b ≡ 10
+    → Fed (lineThen (callOf held) (nothing [])) [] before at out r → r .held ≡ 0
     → Fed (packFrom held (b ∷ [])) after before at out r
 unfolding packFrom
 ended held after before out b at r e f z =
@@ -37,7 +38,8 @@ ended held after before out b at r e f z =
     empty = rw (z, line-rest (callOf held))
 
 -- one byte more is held, of at most as many as there is room for
-held-more : (l : List ℕ) (n b r : ℕ) → n ≤ length l → r ≡ pushed n (length l) → take r (set l n b) ≡ take (length l) (take n l ++ b ∷ [])
+held-more : (l : List ℕ) (n b r : ℕ) → n ≤ length l → r ≡ pushed n (length l)
+    → take r (set l n b) ≡ take (length l) (take n l ++ b ∷ [])
 unfolding pushed
 held-more l n b r h e = ⊎-elim inside full (lt-or-le n (length l))
   where
@@ -53,7 +55,8 @@ held-more l n b r h e = ⊎-elim inside full (lt-or-le n (length l))
         rw (f, set-out l n b k, take-all n l k) (sym (take-append-le (length l) l (b ∷ []) (omega arith) ∙ take-length l))
 
 goes-on :
-    (held after before : List ℕ) (b at n r : ℕ) → length held ≡ heldLength → n ≤ heldLength → (b ≡ 10 → ⊥) → after ≡ set held n b → r ≡ pushed n (length held)
+    (held after before : List ℕ) (b at n r : ℕ) → length held ≡ heldLength → n ≤ heldLength → (b ≡ 10 → ⊥)
+    → after ≡ set held n b → r ≡ pushed n (length held)
     → Fed (packFrom (take n held) (b ∷ [])) after before at before (record { held = r; used = at; lines = 0; bad = false })
 unfolding packFrom
 goes-on held after before b at n r l h ne e f = rw (ne-eqb b 10 ne) (record {
@@ -73,7 +76,8 @@ returns-2 : tie.Need-returns-2
 returns-2 c =
     let k = c .before .before in
     let s = k .before .before .before .before .before in
-    goes-on (now (s .args .held)) _ _ _ _ (s .args .n) _ (s .pre .0) (s .pre .1 .0) (k .before .before .if1 .left) (k .push .ensures .0)
+    goes-on (now (s .args .held)) _ _ _ _ (s .args .n) _ (s .pre .0) (s .pre .1 .0) (k .before .before .if1 .left)
+    (k .push .ensures .0)
     (k .push .ensures .1)
 
 pub step-spec : {M : Type 1} → statement M

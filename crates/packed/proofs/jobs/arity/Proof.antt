@@ -19,4 +19,10 @@ arity-spec =
     let e = d .before in
     let f = e .before in
     let g = f .before in
-    rw (ne-eqb _ 1 (g .if1 .left), ne-eqb _ 2 (f .if2 .left), ne-eqb _ 3 (e .if3 .left), ne-eqb _ 4 (d .if4 .left), ne-eqb _ 5 (c .if5 .left))))
+    rw (
+      ne-eqb _ 1 (g .if1 .left),
+      ne-eqb _ 2 (f .if2 .left),
+      ne-eqb _ 3 (e .if3 .left),
+      ne-eqb _ 4 (d .if4 .left),
+      ne-eqb _ 5 (c .if5 .left),
+    )))

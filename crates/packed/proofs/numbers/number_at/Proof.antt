@@ -1,5 +1,5 @@
--- `number_at` meets its contract. The invariant: what is left of the number, read where the loop stands, gives what all of it gives.
--- Assumes nothing.
+-- `number_at` meets its contract. The invariant: what is left of the number, read where the loop stands, gives what all of it
+-- gives. Assumes nothing.
 use Prim.Native.Nat.{ℕ, suc, _+_, _-_, _*_, _^_, _≤_, _<_}
 use mathlib.Core.Path.{_≡_, refl, sym, _∙_}
 use native.Mathlib.Omega.{arith}
@@ -63,12 +63,14 @@ returns-3 c =
     let l = c .before .before .before .before .before .loop in
     let a = c .before .before .before .before .before .before .before .before .args in
     c .last-group .ensures
-    ∙ read-last (l .left) (l .left - 1) (l .weight) (l .value) (l .at) (now (a .bytes)) (omega arith) (omega arith) (c .before .if3 .taken)
+    ∙ read-last (l .left) (l .left - 1) (l .weight) (l .value) (l .at) (now (a .bytes)) (omega arith) (omega arith)
+    (c .before .if3 .taken)
     ∙ l .inv .3
 
 -- the value with this group, and the next group's weight
 grown : (c : tie.Else3 Inv-loop μ-loop) → c .before .before .before .before .loop .value
-    + (getD (now (c .before .before .before .before .before .before .before .args .bytes)) (c .before .before .before .before .loop .at) 0 - 128)
+    + (getD (now (c .before .before .before .before .before .before .before .args .bytes))
+    (c .before .before .before .before .loop .at) 0 - 128)
     * c .before .before .before .before .loop .weight
     < c .before .before .before .before .loop .weight * 128
 grown c =

@@ -1,4 +1,5 @@
--- `number_length` meets its contract. The invariant: the groups passed and those of what is left are the groups of all. Assumes nothing.
+-- `number_length` meets its contract. The invariant: the groups passed and those of what is left are the groups of all. Assumes
+-- nothing.
 use Prim.Native.Nat.{_+_, _-_, _≤_}
 use mathlib.Core.Path.{_≡_, refl, ap}
 use native.Mathlib.Omega.{arith}
@@ -25,8 +26,15 @@ returns c =
 
 loop-again : tie.Need-loop-again Inv-loop μ-loop
 loop-again c =
-    let l = c .before .before .loop in
-    (omega arith, omega (arith, l .inv .1, ap length (groups-more (l .left) (l .left - 1) (l .rest) (omega arith) (c .if1 .left))))
+    let l = c .before .before .loop in (
+      omega arith,
+      omega (
+        arith,
+        l .inv .1,
+        ap length (groups-more (l .left) (l .left - 1) (l .rest) (omega arith)
+            (c .if1 .left)),
+      ),
+    )
 
 returns-2 : tie.Need-returns-2 Inv-loop μ-loop
 returns-2 c =

@@ -1,5 +1,5 @@
--- `put_number` meets its contract. The invariant: what is left of the groups, written where the loop stands, gives what all of them
--- give. Assumes nothing.
+-- `put_number` meets its contract. The invariant: what is left of the groups, written where the loop stands, gives what all of
+-- them give. Assumes nothing.
 use Prim.Native.Nat.{ℕ, _+_, _-_, _*_, _/_, _%_, _^_, _≤_, _<_}
 use mathlib.Core.Path.{_≡_, refl, sym, ap, _∙_}
 use mathlib.Core.List.{List}
@@ -47,7 +47,13 @@ loop-again c =
     )
 
 room-last : (c : tie.After-loop Inv-loop μ-loop) → c .before .loop .at < length (c .before .loop .out)
-room-last c = let l = c .before .loop in omega (arith, groups-some (l .left) (l .rest), l .inv .0, l .inv .2, c .before .before .pre)
+room-last c = let l = c .before .loop in omega (
+  arith,
+  groups-some (l .left) (l .rest),
+  l .inv .0,
+  l .inv .2,
+  c .before .before .pre,
+)
 
 returns-2 : tie.Need-returns-2 Inv-loop μ-loop
 returns-2 c =

@@ -16,7 +16,10 @@ function-at-spec =
     (λ c κs. tt)
     (λ c.
     let f = c .before .before .before in
-    rw (sym (f .before .before .number-at .ensures) ∙ f .function .given .1, eq-eqb _ 0 (sym (c .before .arity .ensures) ∙ c .if1 .taken)))
+    rw (
+      sym (f .before .before .number-at .ensures) ∙ f .function .given .1,
+      eq-eqb _ 0 (sym (c .before .arity .ensures) ∙ c .if1 .taken),
+    ))
     (λ c. search needs)
     (λ c.
     let f = c .before .before .before in

@@ -15,5 +15,6 @@ argument-length-spec =
     (λ c κs. tt)
     (λ c.
     let t = c .before .before in
-    rw (sym (t .before .arity .ensures), lt-ltb _ _ (t .if1 .taken), sym (c .before .argument-of .ensures)) (c .number-length .ensures))
+    rw (sym (t .before .arity .ensures), lt-ltb _ _ (t .if1 .taken), sym (c .before .argument-of .ensures))
+    (c .number-length .ensures))
     (λ c. rw (sym (c .before .arity .ensures), le-ltb _ _ (c .if1 .left))))

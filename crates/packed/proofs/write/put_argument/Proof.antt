@@ -25,7 +25,8 @@ put-number-requires c κs =
     let g = c .before in
     let t = g .before in
     let a = t .before .before .before .args in
-    rw (own (a .job) (a .k) _ _ (t .before .arity .ensures) (t .if1 .taken) (g .argument-of .ensures)) at (t .before .before .before .pre)
+    rw (own (a .job) (a .k) _ _ (t .before .arity .ensures) (t .if1 .taken) (g .argument-of .ensures)) at
+    (t .before .before .before .pre)
 
 returns : tie.Need-returns
 returns c =

@@ -39,7 +39,8 @@ put-job-requires c κs =
     let a = l .before .before .before .before .args in
     omega (arith, job-some (a .job), t .if2 .left, l .left-after .ensures, t .before .job-length .ensures)
 
-written : (l place next : ℕ) (j : Job) → (arityOf (j .function) ≡ 0 → ⊥) → jobLength j ≤ l - place → next ≡ place + length (jobBytes j)
+written : (l place next : ℕ) (j : Job) → (arityOf (j .function) ≡ 0 → ⊥) → jobLength j ≤ l - place
+    → next ≡ place + length (jobBytes j)
     → Next next ≡ writeAt l place j
 unfolding writeAt jobLength
 written l place next j h k e = rw (ne-eqb (arityOf (j .function)) 0 h, le-ltb (l - place) (length (jobBytes j)) k, e)

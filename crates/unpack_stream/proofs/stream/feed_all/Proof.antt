@@ -1,4 +1,5 @@
--- `feed_all` meets its contract. The invariant: what was fed so far is the block's beginning, and no refusal ended it. Assumes nothing.
+-- `feed_all` meets its contract. The invariant: what was fed so far is the block's beginning, and no refusal ended it. Assumes
+-- nothing.
 use Prim.Native.Nat.{ℕ, _+_, _-_, _*_, _≤_, _<_}
 use mathlib.Core.Path.{_≡_, refl, sym, ap, subst, _∙_}
 use mathlib.Core.Bool.{Bool, true, false}
@@ -20,7 +21,8 @@ use Rattle.unpack_stream.proofs.stream.feed_all.Tie as tie
 abbrev Inv-loop : tie.InvT-loop
 Inv-loop block size held₀ held-before out₀ n₀ used₀ taken₀ stop₀ i₀ held out n used taken stop i =
     (i ≤ size) × (used ≤ lineRoom * i) × (taken ≤ heldLength * i) × (length held ≡ heldLength) × (length out ≡ length out₀)
-    × Fed (unpackFrom (take held-before held₀) (take i block)) held out₀ 0 out (record { held = n; used = used; taken = taken; ended = false; stop = stop })
+    × Fed (unpackFrom (take held-before held₀) (take i block)) held out₀ 0 out
+    (record { held = n; used = used; taken = taken; ended = false; stop = stop })
 
 abbrev μ-loop : tie.MeasureT-loop
 μ-loop block size held₀ held-before out₀ n₀ used₀ taken₀ stop₀ i₀ held out n used taken stop i = size - i
@@ -64,7 +66,8 @@ step-requires c κs =
     (l .inv .3, (l .inv .5 .few, omega (arith, l .inv .4)))
 
 all-of :
-    (block held after before out : List ℕ) (i size : ℕ) (r : Progress) → i ≤ size → size ≤ i → Fed (unpackFrom held (take i block)) after before 0 out r
+    (block held after before out : List ℕ) (i size : ℕ) (r : Progress) → i ≤ size → size ≤ i
+    → Fed (unpackFrom held (take i block)) after before 0 out r
     → Fed (unpackFrom held (take size block)) after before 0 out r
 all-of block held after before out i size r h k p = let e : i ≡ size = omega arith in rw e at p
 
@@ -82,14 +85,16 @@ returns c =
       omega (arith, one-text _ _ _ _ _ _ _ _ _ _ inside f refl g),
     )
 
-add-taken : (c : tie.After-struct-known2 Inv-loop μ-loop) → c .before .before .before .before .before .before .step .result .taken ≤ heldLength
+add-taken : (c : tie.After-struct-known2 Inv-loop μ-loop)
+    → c .before .before .before .before .before .before .step .result .taken ≤ heldLength
 add-taken c =
     let s = c .before .before .before .before .before .before in
     let k = s .before .before .before .before .before in
     let inside : k .loop .i < length (now (k .before .before .before .before .args .block)) = omega arith in
     one-held _ _ _ _ _ _ _ _ _ _ inside (k .loop .inv .5) refl (s .step .ensures)
 
-add-taken-bad : (c : tie.After-struct-known Inv-loop μ-loop) → c .before .before .before .before .before .before .step .result .taken ≤ heldLength
+add-taken-bad : (c : tie.After-struct-known Inv-loop μ-loop)
+    → c .before .before .before .before .before .before .step .result .taken ≤ heldLength
 add-taken-bad c =
     let s = c .before .before .before .before .before .before in
     let k = s .before .before .before .before .before in
@@ -124,7 +129,14 @@ feed-all-spec =
     (tie.spec
     Inv-loop
     μ-loop
-    (λ c. let p = c .before .before .before .pre in (omega arith, omega arith, omega arith, p .1 .0, refl, none-fed _ _ _ _ (p .1 .1 .0) refl))
+    (λ c. let p = c .before .before .before .pre in (
+      omega arith,
+      omega arith,
+      omega arith,
+      p .1 .0,
+      refl,
+      none-fed _ _ _ _ (p .1 .1 .0) refl,
+    ))
     (λ c. omega arith)
     step-requires
     (λ c. omega (arith, add-taken-bad c))

@@ -15,8 +15,10 @@ use Rattle.unpack_stream.proofs.Lines.{held-more}
 use Rattle.unpack_stream.proofs.stream.step.Statement.{statement}
 use Rattle.unpack_stream.proofs.stream.step.Tie as tie
 
-held : (l after before out : List ℕ) (n b m at : ℕ) (r : Progress) → length l ≡ heldLength → n ≤ heldLength → after ≡ set l n b → m ≡ pushed n (length l)
-    → Fed (jobThen (readAt (take m after) 0) (length (take m after)) (nothing []) (nothing (take m after))) (take m after) before at out r
+held : (l after before out : List ℕ) (n b m at : ℕ) (r : Progress) → length l ≡ heldLength → n ≤ heldLength → after ≡ set l n b
+    → m ≡ pushed n (length l)
+    → Fed (jobThen (readAt (take m after) 0) (length (take m after)) (nothing []) (nothing (take m after))) (take m after)
+    before at out r
     → r .held ≤ length (take m after) → Fed (unpackFrom (take n l) (b ∷ [])) after before at out r
 unfolding unpackFrom
 held l after before out n b m at r e few a p f k =
@@ -34,14 +36,17 @@ returns c =
     let t = c .before .before in
     let p = t .before .before .before .before .before in
     let s = p .before .before .before .before in
-    held (now (s .args .held)) _ _ _ (s .args .n) _ _ _ _ (s .pre .0) (s .pre .1 .0) (p .push .ensures .0) (p .push .ensures .1) (t .tried .ensures .0)
+    held (now (s .args .held)) _ _ _ (s .args .n) _ _ _ _ (s .pre .0) (s .pre .1 .0) (p .push .ensures .0) (p .push .ensures .1)
+    (t .tried .ensures .0)
     (t .tried .ensures .1)
 
 -- what is held after the byte
 most : (p : tie.After-push) → (p .push .result ≤ heldLength) × (length (p .push .last .0) ≡ heldLength)
 most p =
-    let s = p .before .before .before .before in
-    (pushed-most (s .args .n) heldLength (p .push .result) (s .pre .1 .0) (rw (s .pre .0) at (p .push .ensures .1)), ap length (p .push .ensures .0) ∙ simp length-set (s .pre .0))
+    let s = p .before .before .before .before in (
+      pushed-most (s .args .n) heldLength (p .push .result) (s .pre .1 .0) (rw (s .pre .0) at (p .push .ensures .1)),
+      ap length (p .push .ensures .0) ∙ simp length-set (s .pre .0),
+    )
 
 pub step-spec : {M : Type 1} → statement M
 step-spec =
@@ -52,8 +57,10 @@ step-spec =
     (λ c. let m = most (c .before .before .before) in sym (length-take-le _ _ (omega (arith, m .0, m .1))))
     (λ c κs.
     let p = c .before .before .before .before in
-    let m = most p in
-    (rw (length-take-le (p .push .result) (p .push .last .0) (omega (arith, m .0, m .1))) (m .0), p .before .before .before .before .pre .1 .1))
+    let m = most p in (
+      rw (length-take-le (p .push .result) (p .push .last .0) (omega (arith, m .0, m .1))) (m .0),
+      p .before .before .before .before .pre .1 .1,
+    ))
     (λ c. search needs)
     (λ c. search needs)
     returns)

@@ -22,27 +22,47 @@ use Rattle.unpack_stream.proofs.stream.tried.Tie as tie
 
 module _ (r : Read) (h before : List ℕ) (at : ℕ) (few : length h ≤ heldLength) where
   found : (got : Got) (out : List ℕ) (next : ℕ) → r ≡ Found got → Put before at (jobText (got .job)) out next
-      → Fed (jobThen r (length h) (nothing []) (nothing h)) h before at out (record { held = 0; used = next; taken = length h; ended = false; stop = 0 })
+      → Fed (jobThen r (length h) (nothing []) (nothing h)) h before at out
+      (record { held = 0; used = next; taken = length h; ended = false; stop = 0 })
   unfolding jobThen
   found got out next e p =
-      rw e (record { rest = refl; few = omega arith; said = rw append-nil p; taken = sym (add-zero (length h)); ended = refl; stop = refl })
+      rw e (record {
+        rest = refl;
+        few = omega arith;
+        said = rw append-nil p;
+        taken = sym (add-zero (length h));
+        ended =
+            refl;
+        stop = refl;
+      })
 
   waits : Fed (nothing h) h before at before (record { held = length h; used = at; taken = 0; ended = false; stop = 0 })
   waits = record { rest = take-length h; few = few; said = put-none before at; taken = refl; ended = refl; stop = refl }
 
-  none : r ≡ Nothing → Fed (jobThen r (length h) (nothing []) (nothing h)) h before at before (record { held = length h; used = at; taken = 0; ended = false; stop = 0 })
+  none : r ≡ Nothing → Fed (jobThen r (length h) (nothing []) (nothing h)) h before at before
+      (record { held = length h; used = at; taken = 0; ended = false; stop = 0 })
   unfolding jobThen
   none e = rw e waits
 
   cut : (n : ℕ) → r ≡ Refused n → n ≡ list-cut
-      → Fed (jobThen r (length h) (nothing []) (nothing h)) h before at before (record { held = length h; used = at; taken = 0; ended = false; stop = 0 })
+      → Fed (jobThen r (length h) (nothing []) (nothing h)) h before at before
+      (record { held = length h; used = at; taken = 0; ended = false; stop = 0 })
   unfolding jobThen
   cut n e f = rw (e, eq-eqb n list-cut f) waits
 
   bad : (n : ℕ) → r ≡ Refused n → (n ≡ list-cut → ⊥)
-      → Fed (jobThen r (length h) (nothing []) (nothing h)) h before at before (record { held = 0; used = at; taken = 0; ended = true; stop = n })
+      → Fed (jobThen r (length h) (nothing []) (nothing h)) h before at before
+      (record { held = 0; used = at; taken = 0; ended = true; stop = n })
   unfolding jobThen
-  bad n e f = rw (e, ne-eqb n list-cut f) (record { rest = refl; few = omega arith; said = put-none before at; taken = refl; ended = refl; stop = refl })
+  bad n e f = rw (e, ne-eqb n list-cut f) (record {
+    rest = refl;
+    few = omega arith;
+    said = put-none before at;
+    taken =
+        refl;
+    ended = refl;
+    stop = refl;
+  })
 
 returns : tie.Need-returns
 returns c =

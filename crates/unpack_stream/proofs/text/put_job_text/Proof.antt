@@ -84,7 +84,8 @@ put-argument-requires-4 c κs =
     )
 
 -- there is room for the line's end
-room : (c : tie.After-slice-known6) → c .before .before .put-argument4 .result < length (c .before .before .put-argument4 .last .1 .1 .0)
+room : (c : tie.After-slice-known6) → c .before .before .put-argument4 .result < length
+    (c .before .before .put-argument4 .last .1 .1 .0)
 room c =
     let v = c .before .before in
     let u = v .before .before .before .before in
@@ -133,7 +134,8 @@ returns c =
     let p = q .before .before .before .before in
     put-more (p .put-name .ensures)
     (put-more (q .put-argument .ensures)
-    (put-more (r .put-argument2 .ensures) (put-more (u .put-argument3 .ensures) (put-more (v .put-argument4 .ensures) (put-byte _ _ _)))))
+    (put-more (r .put-argument2 .ensures) (put-more (u .put-argument3 .ensures)
+    (put-more (v .put-argument4 .ensures) (put-byte _ _ _)))))
 
 pub put-job-text-spec : {M : Type 1} → statement M
 put-job-text-spec =
