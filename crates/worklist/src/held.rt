@@ -1,6 +1,5 @@
 // A reader that holds the lent bytes and a place in them. It goes by value, so a refused read leaves its place: the caller
-// moves it on by
-// the place after a job that was found. The work is `packed`'s; these are thin, since each is a proof by hand.
+// moves it on by the place after a job that was found. The work is `packed`'s; these are thin, since each is a proof by hand.
 use packed::Read;
 use packed::read_job;
 ghost use mathlib.Core.Path.{_≡_};
