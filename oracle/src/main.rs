@@ -57,6 +57,8 @@ fn main() -> ExitCode {
         ["leaf", name, n, seed] => leaf::run(name, number(n), number(seed)),
         ["cases", name, n] => leaf::cases(name, number(n), 1),
         ["cases", name, n, seed] => leaf::cases(name, number(n), number(seed)),
+        ["lists", n] => lists::run(number(n), 1),
+        ["lists", n, seed] => lists::run(number(n), number(seed)),
         ["swing", n] => swing::run(number(n), 1),
         ["swing", n, seed] => swing::run(number(n), number(seed)),
         _ => {
