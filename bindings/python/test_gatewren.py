@@ -198,8 +198,8 @@ class Answers(unittest.TestCase):
             rf(-1, 1, 1).value = 1.0
 
     def test_every_number_has_a_meaning(self):
-        self.assertEqual([refusal.value for refusal in Refusal], list(range(1, 14)))
-        for number in (0, 14):
+        self.assertEqual([refusal.value for refusal in Refusal], list(range(1, 18)))
+        for number in (0, 18):
             with self.assertRaises(ValueError):
                 Refused(number)
 

@@ -6,3 +6,4 @@ pub mod LengthLaws
 pub mod NumberLaws
 pub mod JobLaws
 pub mod ListLaws
+pub mod MoreLaws

@@ -1,10 +1,10 @@
 -- A packed work list to lines, a byte after the other. Definitions only.
-use Prim.Native.Nat.{ℕ, _+_, _≤_}
+use Prim.Native.Nat.{ℕ, zero, suc, _+_, _≤_}
 use mathlib.Core.Path.{_≡_}
 use mathlib.Core.Bool.{Bool, true, false, cond}
 use mathlib.Core.List.{List, [], _∷_, _++_}
 use lib.Dec.{eqb}
-use lib.ListN.{length, take}
+use lib.ListN.{length, take, drop}
 use Rattle.packed.specs.Numbers.{list-cut}
 use Rattle.packed.specs.Reading.{readAt}
 use Rattle.packed.specs.declared.read.Read.{Read}
@@ -28,6 +28,23 @@ nothing held = record { said = []; rest = held; taken = 0; ended = false; stop =
 abbrev pub stopped : ℕ → Unpacking
 stopped n = record { said = []; rest = []; taken = 0; ended = true; stop = n }
 
+-- ---- what is right: the list's jobs in order, a line each, up to a refusal; so many jobs at most
+unfoldable pub listThen : Read → (ℕ → Unpacking) → Unpacking
+listThen (Found got) rest = record {
+  said = jobText (got .job) ++ rest (got .next) .said;
+  rest = rest (got .next) .rest;
+  taken = got .next + rest (got .next) .taken;
+  ended = rest (got .next) .ended;
+  stop = rest (got .next) .stop;
+}
+listThen Nothing rest = nothing []
+listThen (Refused n) rest = stopped n
+
+unfoldable pub unpackList : ℕ → List ℕ → Unpacking
+unpackList zero l = nothing []
+unpackList (suc most) l = listThen (readAt l 0) (λ next. unpackList most (drop next l))
+
+-- ---- how it is done
 -- so many bytes are held of a job at most: no job is longer
 abbrev pub heldLength : ℕ
 heldLength = 64
@@ -59,6 +76,10 @@ andUnpack p q =
     (record { said = p .said ++ q .said; rest = q .rest; taken = p .taken + q .taken; ended = q .ended; stop = q .stop })
 
 -- at the input's end: what is held is a job that was cut
+unfoldable pub lastOf : List ℕ → Unpacking
+lastOf [] = nothing []
+lastOf (b ∷ l) = stopped list-cut
+
 unfoldable pub leftOver : ℕ → ℕ
 leftOver held = cond (eqb held 0) 0 list-cut
 

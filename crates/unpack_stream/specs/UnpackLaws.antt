@@ -8,6 +8,7 @@ use lib.Dec.{eqb}
 use lib.ListN.{length, take}
 use Rattle.packed.specs.Numbers.{list-cut}
 use Rattle.packed.specs.Reading.{readAt}
+use Rattle.packed.specs.declared.read.Got.{Got}
 use Rattle.packed.specs.declared.read.Read.{Read}
 use Rattle.packed.specs.declared.read.Read.the-variants.{Found, Nothing, Refused}
 use Rattle.writing.specs.Written.{put-more}
@@ -39,7 +40,14 @@ found-and :
 found-and true s n p q = refl
 found-and false s n p q = rw (append-assoc, add-assoc)
 
-none-and : (held : List ℕ) (q : Unpacking) → q ≡ andUnpack (nothing held) q
+-- a job before a run is a job before what the run and another make
+pub job-and :
+    (got : Got) (n : ℕ) (p q more : Unpacking)
+    → jobThen (Found got) n (andUnpack p q) more ≡ andUnpack (jobThen (Found got) n p more) q
+unfolding jobThen andUnpack
+job-and got n p q more = found-and (p .ended) (jobText (got .job)) n p q
+
+pub none-and : (held : List ℕ) (q : Unpacking) → q ≡ andUnpack (nothing held) q
 unfolding andUnpack
 none-and held q = rw zero-add
 
