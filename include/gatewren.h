@@ -1,6 +1,6 @@
 /*
  * Gatewren: Carlson's elliptic integrals RC, RF, RD, RG and RJ on doubles, proved to the last bit, the leaves they stand on, and the
- * swing time of the knee bench.
+ * swing time of the knee bench, and the work lists of its controller.
  *
  * Link libgatewren.a (rt staticlib gatewren) or libgatewren.so (./gatewren shared). Neither wants the C maths library.
  * The code counts on what IEEE 754 and C start with: rounding to nearest, and subnormal numbers kept.
@@ -35,7 +35,11 @@ enum gatewren_outcome {
     GATEWREN_TOO_DEEP = 10,     /* a fifth nested RJ call would be needed */
     GATEWREN_OUT_OF_RANGE = 11, /* a swing's length is not 1 to 10,000,000 or its gravity not 1 to 20,000,000 */
     GATEWREN_HEIGHT = 12,       /* a swing's height is not 1 to 2 * length - 1 */
-    GATEWREN_SUM_TOO_LARGE = 13 /* the step log's total would pass 2^64 - 1 */
+    GATEWREN_SUM_TOO_LARGE = 13, /* the step log's total would pass 2^64 - 1 */
+    GATEWREN_LIST_CUT = 14,     /* a work list stops inside a job */
+    GATEWREN_NUMBER_BAD = 15,   /* a work list has a number over 64 bits or not in its shortest form */
+    GATEWREN_UNKNOWN_FUNCTION = 16, /* a job's function is none of those that work lists know */
+    GATEWREN_NO_ROOM = 17       /* a job is longer than what is left of the buffer */
 };
 
 /*
@@ -73,6 +77,32 @@ uint32_t gatewren_swing(uint64_t length, uint64_t height, uint64_t gravity, doub
    none or one adds 0. Right if fewer than 65,536 steps lie between two readings. Returns 0; or 13, and *total is as it was.
    total is not null and points to none of the readings; readings may be null only where n is 0. */
 uint32_t gatewren_steps(uint64_t *total, const uint16_t *readings, size_t n);
+
+/*
+ * Work lists in packed form: jobs one after another, each its function's number (RF 1, RC 2, RD 3, RG 4, RJ 5) and the 64 bits of
+ * each of its arguments, all as numbers in groups of seven bits, low group first, top bit set while more follow, shortest form only.
+ */
+
+/* A job: its function's number and the bits of its arguments, the unused ones 0. */
+typedef struct gatewren_job {
+    uint64_t function;
+    uint64_t arguments[4];
+} gatewren_job;
+
+/* What gatewren_read_job returns at the list's end. */
+#define GATEWREN_NOTHING_LEFT UINT32_MAX
+
+/* No job is longer than this many bytes, or shorter than 3. */
+#define GATEWREN_LONGEST_JOB 41
+
+/* Writes the job at *place and moves *place past it; arguments beyond the function's own are passed over. Returns 0; or 16 or 17,
+   tested in that order, and then no byte and not *place has changed. 17 is returned exactly when the job is longer than what is left.
+   bytes may be null only where length is 0; bytes, place and job lie apart. A place beyond the length is as one at its end. */
+uint32_t gatewren_write_job(uint8_t *bytes, size_t length, size_t *place, const gatewren_job *job);
+
+/* Reads the job at *place and moves *place past it. Returns 0; or 14, 15 or 16, or GATEWREN_NOTHING_LEFT where no byte is left, and
+   then *place and *job are as they were. The same of the pointers as above. */
+uint32_t gatewren_read_job(const uint8_t *bytes, size_t length, size_t *place, gatewren_job *job);
 
 /*
  * The leaves. A leaf always returns a number; where the exact result is none, that is a NaN, and which NaN is left open.

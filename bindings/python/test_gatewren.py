@@ -68,6 +68,21 @@ class Examples(unittest.TestCase):
         tiny = of_bits(1)
         self.assertEqual(rj(0, tiny, 0.25, -tiny), Refused(Refusal.TOO_DEEP))
 
+    def test_work_lists(self):
+        top = 2**64 - 1
+        jobs = [gatewren.Job(1, (0x3FF0000000000000, 127, 128, 0)), gatewren.Job(5, (top, 2**63, 2**63 - 1, 0))]
+        data = gatewren.write_list(jobs)
+        self.assertEqual(gatewren.read_list(data), (jobs, len(data), None))
+        for cut in range(1, len(data)):
+            read = gatewren.read_list(data[:cut])
+            whole = gatewren.write_list(read.jobs)
+            self.assertEqual(len(whole), read.place)
+            self.assertEqual(read.refused, None if read.place == cut else Refused(14))
+        self.assertEqual(gatewren.read_list(bytes([2, 0, 0, 0x81, 0])).refused, Refused(15))
+        self.assertEqual(gatewren.read_list(bytes([2, 0, 0, 0x81, 0])).place, 3)
+        self.assertEqual(gatewren.read_list(bytes([7])), ([], 0, Refused(16)))
+        self.assertEqual(gatewren.read_list(b""), ([], 0, None))
+
     def test_leaves(self):
         self.assertEqual(gatewren.sqrt(2), math.sqrt(2))
         self.assertTrue(math.isnan(gatewren.sqrt(-1)))
@@ -183,8 +198,8 @@ class Answers(unittest.TestCase):
             rf(-1, 1, 1).value = 1.0
 
     def test_every_number_has_a_meaning(self):
-        self.assertEqual([refusal.value for refusal in Refusal], list(range(1, 14)))
-        for number in (0, 14):
+        self.assertEqual([refusal.value for refusal in Refusal], list(range(1, 18)))
+        for number in (0, 18):
             with self.assertRaises(ValueError):
                 Refused(number)
 

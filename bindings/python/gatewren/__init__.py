@@ -1,5 +1,5 @@
-"""Gatewren for Python: Carlson's elliptic integrals rc, rf, rd, rg, rj, the leaves they stand on, and the knee bench's swing time
-and step log.
+"""Gatewren for Python: Carlson's elliptic integrals rc, rf, rd, rg, rj, the leaves they stand on, the knee bench's swing time and
+step log, and the packed work lists of its controller.
 
 What is called is the proved library as a shared object, which `./gatewren shared` builds and `pip install` takes along;
 GATEWREN_SO may name another place.
@@ -23,10 +23,10 @@ import operator
 import os
 import pathlib
 from collections.abc import Callable, Iterable
-from typing import NoReturn, SupportsFloat, SupportsIndex
+from typing import NamedTuple, NoReturn, SupportsFloat, SupportsIndex
 
 __all__ = ["Refusal", "Answer", "Value", "Total", "Refused", "rc", "rf", "rd", "rg", "rj"]
-__all__ += ["swing", "steps", "sqrt", "mul_add", "pow_neg_3_2", "atan", "ln", "ln_1p"]
+__all__ += ["Job", "ReadList", "read_list", "write_list", "swing", "steps", "sqrt", "mul_add", "pow_neg_3_2", "atan", "ln", "ln_1p"]
 
 __version__ = "0.2.0"
 
@@ -47,6 +47,10 @@ class Refusal(enum.Enum):
     OUT_OF_RANGE = 11  # a swing's length is not 1 to 10,000,000 or its gravity not 1 to 20,000,000
     HEIGHT = 12  # a swing's height is not 1 to 2L - 1
     SUM_TOO_LARGE = 13  # the step log's total would pass 2^64 - 1
+    LIST_CUT = 14  # a work list stops inside a job
+    NUMBER_BAD = 15  # a work list has a number over 64 bits or not in its shortest form
+    UNKNOWN_FUNCTION = 16  # a job's function is none of those that work lists know
+    NO_ROOM = 17  # a job is longer than what is left of the buffer
 
 
 class Answer:
@@ -176,6 +180,12 @@ _RG = _entry("rg", [_DOUBLE] * 3)
 _RJ = _entry("rj", [_DOUBLE] * 4)
 _SWING = _entry("swing", [ctypes.c_uint64] * 3)
 _STEPS = _symbol("steps", [ctypes.POINTER(ctypes.c_uint64), ctypes.POINTER(ctypes.c_uint16), ctypes.c_size_t], ctypes.c_uint32)
+_JOB = ctypes.c_uint64 * 5
+_SIZE = ctypes.POINTER(ctypes.c_size_t)
+_WRITE_JOB = _symbol("write_job", [ctypes.c_char_p, ctypes.c_size_t, _SIZE, ctypes.POINTER(_JOB)], ctypes.c_uint32)
+_READ_JOB = _symbol("read_job", [ctypes.c_char_p, ctypes.c_size_t, _SIZE, ctypes.POINTER(_JOB)], ctypes.c_uint32)
+_NOTHING_LEFT = 2**32 - 1
+_LONGEST_JOB = 41
 _SQRT = _symbol("sqrt", [_DOUBLE], _DOUBLE)
 _MUL_ADD = _symbol("mul_add", [_DOUBLE] * 3, _DOUBLE)
 _POW_NEG_3_2 = _symbol("pow_neg_3_2", [_DOUBLE], _DOUBLE)
@@ -274,6 +284,58 @@ def steps(total: SupportsIndex, readings: Iterable[SupportsIndex]) -> Total | Re
     sum_of = ctypes.c_uint64(_whole(total, 64))
     number = _STEPS(ctypes.byref(sum_of), (ctypes.c_uint16 * len(held))(*held), len(held))
     return Total(sum_of.value) if number == 0 else Refused(number)
+
+
+# Work lists in packed form.
+
+
+class Job(NamedTuple):
+    """A job: its function's number (RF 1, RC 2, RD 3, RG 4, RJ 5) and the bits of its arguments, the unused ones 0."""
+
+    function: int
+    arguments: tuple[int, int, int, int]
+
+
+class ReadList(NamedTuple):
+    """The jobs of a list; where one is refused those before it, the place at which it begins, and why."""
+
+    jobs: list[Job]
+    place: int
+    refused: Refused | None
+
+
+def read_list(data: bytes) -> ReadList:
+    """The jobs of a packed work list, up to its end or its first refusal.
+
+    >>> read_list(bytes([2, 0, 0xAC, 2]))
+    ReadList(jobs=[Job(function=2, arguments=(0, 300, 0, 0))], place=4, refused=None)
+    >>> read_list(bytes([2, 0, 0xAC]))
+    ReadList(jobs=[], place=0, refused=Refused(Refusal.LIST_CUT))
+    """
+    data = bytes(data)
+    place, words, jobs = ctypes.c_size_t(0), _JOB(), []
+    while (number := _READ_JOB(data, len(data), ctypes.byref(place), ctypes.byref(words))) == 0:
+        jobs.append(Job(words[0], tuple(words[1:])))
+    return ReadList(jobs, place.value, None if number == _NOTHING_LEFT else Refused(number))
+
+
+def write_list(jobs: Iterable[Job]) -> bytes | Refused:
+    """The jobs as a packed work list, or why there is none.
+
+    >>> write_list([Job(2, (0, 300, 0, 0))]).hex()
+    '0200ac02'
+    >>> write_list([Job(6, (0, 0, 0, 0))])
+    Refused(Refusal.UNKNOWN_FUNCTION)
+    """
+    held = []
+    for function, arguments in jobs:
+        words = _JOB(*(_whole(word, 64) for word in (function, *arguments)))
+        buffer, place = ctypes.create_string_buffer(_LONGEST_JOB), ctypes.c_size_t(0)
+        number = _WRITE_JOB(buffer, _LONGEST_JOB, ctypes.byref(place), ctypes.byref(words))
+        if number != 0:
+            return Refused(number)
+        held.append(buffer.raw[: place.value])
+    return b"".join(held)
 
 
 # The leaves. Which NaN a leaf gives is left open.

@@ -62,6 +62,10 @@ refusals! {
     OutOfRange = 11, "a swing's length is not 1 to 10,000,000 or its gravity not 1 to 20,000,000";
     Height = 12, "a swing's height is not 1 to 2L - 1";
     SumTooLarge = 13, "the step log's total would pass 2^64 - 1";
+    ListCut = 14, "the work list stops inside a job";
+    NumberBad = 15, "a number over 64 bits or not in its shortest form";
+    UnknownFunction = 16, "a job's function is none of those that work lists know";
+    NoRoom = 17, "the job is longer than what is left";
 }
 
 impl Refusal {

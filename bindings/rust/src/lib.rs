@@ -1,5 +1,5 @@
 //! Gatewren for Rust: Carlson's elliptic integrals [`rc`], [`rf`], [`rd`], [`rg`] and [`rj`], the [`leaf`] functions they
-//! stand on, and the knee [`bench`]'s swing time and step log. What is called is the proved library, libgatewren.a; here is only its dress.
+//! stand on, the knee [`bench`]'s swing time and step log, and the packed [`WorkList`] of its controller. What is called is the proved library, libgatewren.a; here is only its dress.
 //!
 //! ```
 //! use gatewren::{rf, Answer, Refusal};
@@ -13,9 +13,11 @@ pub mod bench;
 mod entries;
 pub mod leaf;
 mod symbols;
+mod work_list;
 
 pub use answer::{Answer, Refusal};
 pub use entries::{rc, rd, rf, rg, rj};
+pub use work_list::{Job, WorkList};
 
 /// The version of this crate, and of the header and the Python package beside it.
 pub const VERSION: &str = env!("CARGO_PKG_VERSION");

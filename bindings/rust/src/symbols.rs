@@ -1,5 +1,7 @@
 //! The C interface, as include/gatewren.h has it.
 
+use crate::work_list::Job;
+
 extern "C" {
     pub fn gatewren_rc(x: f64, y: f64, value: &mut f64, rounds: &mut u32) -> u32;
     pub fn gatewren_rf(x: f64, y: f64, z: f64, value: &mut f64, rounds: &mut u32) -> u32;
@@ -8,6 +10,8 @@ extern "C" {
     pub fn gatewren_rj(x: f64, y: f64, z: f64, p: f64, value: &mut f64, rounds: &mut u32) -> u32;
     pub fn gatewren_swing(length: u64, height: u64, gravity: u64, value: &mut f64, rounds: &mut u32) -> u32;
     pub fn gatewren_steps(total: &mut u64, readings: *const u16, n: usize) -> u32;
+    pub fn gatewren_write_job(bytes: *mut u8, length: usize, place: &mut usize, job: &Job) -> u32;
+    pub fn gatewren_read_job(bytes: *const u8, length: usize, place: &mut usize, job: &mut Job) -> u32;
     pub fn gatewren_sqrt(x: f64) -> f64;
     pub fn gatewren_mul_add(a: f64, b: f64, c: f64) -> f64;
     pub fn gatewren_pow_neg_3_2(a: f64) -> f64;

@@ -1,6 +1,6 @@
 //! Document 01's settled and printed examples, and the leaves at a few points, through the binding.
 
-use gatewren::{bench, leaf, rc, rd, rf, rg, rj, Answer, Refusal};
+use gatewren::{bench, leaf, rc, rd, rf, rg, rj, Answer, Job, Refusal, WorkList};
 
 const INF: f64 = f64::INFINITY;
 const NAN: f64 = f64::NAN;
@@ -60,10 +60,10 @@ fn rounds_are_counted() {
 #[test]
 fn every_number_has_a_meaning() {
     let numbers: Vec<u32> = Refusal::ALL.iter().map(|refusal| refusal.number()).collect();
-    assert_eq!(numbers, (1..=13).collect::<Vec<u32>>());
+    assert_eq!(numbers, (1..=17).collect::<Vec<u32>>());
     assert!(Refusal::ALL.iter().all(|&refusal| Refusal::of(refusal.number()) == Some(refusal)));
     assert_eq!(Refusal::of(0), None);
-    assert_eq!(Refusal::of(14), None);
+    assert_eq!(Refusal::of(18), None);
     assert_eq!(Refusal::TooDeep.to_string(), "refused 10: a fifth nested RJ call would be needed");
 }
 
@@ -129,4 +129,32 @@ fn the_step_log() {
     assert_eq!(bench::steps(7, &[9, 9, 9]), Ok(7));
     assert_eq!(bench::steps(u64::MAX - 1, &[3, 4]), Ok(u64::MAX));
     assert_eq!(bench::steps(u64::MAX, &[3, 4]), Err(Refusal::SumTooLarge));
+}
+
+#[test]
+fn work_lists_go_there_and_back() {
+    let jobs = [
+        Job { function: 1, arguments: [0x3FF0_0000_0000_0000, 127, 128, 0] },
+        Job { function: 5, arguments: [u64::MAX, 1 << 63, (1 << 63) - 1, 0] },
+        Job { function: 2, arguments: [0, 16384, 0, 0] },
+    ];
+    let mut bytes = [0; 3 * Job::LONGEST];
+    let mut place = 0;
+    for job in jobs {
+        place = job.write(&mut bytes, place).unwrap();
+    }
+    let list = &bytes[..place];
+    assert_eq!(WorkList::new(list).collect::<Result<Vec<_>, _>>(), Ok(jobs.to_vec()));
+    let no = |bytes: &[u8]| {
+        let mut list = WorkList::new(bytes);
+        let last = list.by_ref().last().unwrap();
+        (last, list.place())
+    };
+    assert_eq!(no(&list[..place - 1]).0, Err(Refusal::ListCut));
+    assert_eq!(no(&[2, 0, 0, 0x81, 0]), (Err(Refusal::NumberBad), 3));
+    assert_eq!(no(&[7]), (Err(Refusal::UnknownFunction), 0));
+    assert_eq!(Job { function: 7, ..jobs[0] }.write(&mut [], 0), Err(Refusal::UnknownFunction));
+    assert_eq!(jobs[2].write(&mut [0; 4], 0), Err(Refusal::NoRoom));
+    assert_eq!(jobs[2].write(&mut [0; 9], usize::MAX), Err(Refusal::NoRoom));
+    assert_eq!(WorkList::new(&[]).next(), None);
 }

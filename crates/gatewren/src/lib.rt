@@ -5,3 +5,4 @@ mod leaves;
 mod power_leaf;
 mod series_leaf;
 mod swing_layer;
+mod work_lists;

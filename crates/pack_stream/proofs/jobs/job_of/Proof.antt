@@ -1,0 +1,22 @@
+-- `job_of` meets its contract, case by case. Assumes nothing.
+use borrow.Author.Needs.{needs}
+use Rattle.calls.specs.Calls.{argumentsOf, numberOf}
+use Rattle.pack_stream.specs.Pack.{jobOf}
+use Rattle.pack_stream.proofs.jobs.job_of.Statement.{statement}
+use Rattle.pack_stream.proofs.jobs.job_of.Tie as tie
+
+pub job-of-spec : {M : Type 1} → statement M
+unfolding jobOf argumentsOf numberOf
+job-of-spec =
+    tie.close
+    (tie.spec
+    (λ c. search needs)
+    (λ c. search needs)
+    (λ c. search needs)
+    (λ c. search needs)
+    (λ c. search needs)
+    (λ c. rw (c .before .call .given .1))
+    (λ c. rw (c .before .call2 .given .1))
+    (λ c. rw (c .before .call3 .given .1))
+    (λ c. rw (c .before .call4 .given .1))
+    (λ c. rw (c .before .call5 .given .1)))

@@ -1,0 +1,42 @@
+-- `last` meets its contract: an empty rest is no line. Assumes nothing.
+use Prim.Native.Nat.{ℕ, zero, suc, _≤_}
+use mathlib.Core.Path.{_≡_, refl, sym}
+use mathlib.Core.Bool.{false}
+use mathlib.Core.List.{List, [], _∷_}
+use native.Mathlib.Omega.{arith}
+use borrow.Author.Needs.{needs}
+use denote.Ref.{now}
+use lib.ListN.{length, take}
+use lib.Seq.{length-take-le}
+use Rattle.listing_read.specs.Lines.{callOf}
+use Rattle.writing.specs.Written.{put-none}
+use Rattle.pack_stream.specs.Pack.{nothing, lineThen, packLast, Fed}
+use Rattle.pack_stream.proofs.Bounds.{line-short}
+use Rattle.pack_stream.proofs.stream.last.Statement.{statement}
+use Rattle.pack_stream.proofs.stream.last.Tie as tie
+
+none : (o l : List ℕ) (n : ℕ) → n ≡ 0 → Fed (packLast (take n l)) [] o 0 o (record { held = 0; used = 0; lines = 0; bad = false })
+unfolding packLast
+none o l n e = rw e (record { rest = refl; few = omega arith; said = put-none o 0; lines = refl; bad = refl })
+
+some : (l : List ℕ) (n : ℕ) → (n ≡ 0 → ⊥) → n ≤ length l → packLast (take n l) ≡ lineThen (callOf (take n l)) (nothing [])
+unfolding packLast
+some l zero ne h = absurd (ne refl)
+some [] (suc n) ne h = absurd (omega arith)
+some (b ∷ l) (suc n) ne h = refl
+
+returns-2 : tie.Need-returns-2
+returns-2 c =
+    let k = c .before .before in
+    let s = k .before .before .before .before .before .before in
+    let p = k .ended .ensures .0 in (
+      rw (some (now (s .args .held)) (s .args .n) (k .before .before .before .if1 .left) (s .pre .0)) p,
+      omega (arith, p .said .place, line-short (callOf (take (s .args .n) (now (s .args .held)))) .0),
+    )
+
+pub last-spec : {M : Type 1} → statement M
+last-spec =
+    tie.close
+    (tie.spec (λ c. (none _ _ _ (c .if1 .taken), omega arith)) (λ c. sym (length-take-le _ _ (omega arith)))
+    (λ c κs. search needs)
+    (λ c. search needs) returns-2)

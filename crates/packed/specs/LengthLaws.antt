@@ -1,0 +1,106 @@
+-- How long numbers and jobs are, so that a caller can size a buffer. Assumes nothing.
+use Prim.Native.Nat.{ℕ, zero, suc, _+_, _/_, _%_, _≤_, _<_}
+use mathlib.Core.Path.{_≡_, refl}
+use mathlib.Core.Bool.{Bool, true, false, cond}
+use mathlib.Core.List.{List, [], _∷_, _++_}
+use native.Mathlib.Omega.{arith}
+use borrow.Author.Tests.{eqb-true, lt-ltb}
+use lib.Dec.{eqb, ltb}
+use lib.ListN.{length, length-append}
+use Rattle.packed.specs.Numbers.{groupsOf, numberBytes}
+use Rattle.packed.specs.Jobs.{arityOf, argumentOf, argumentBytes, jobBytes, jobLength}
+use Rattle.packed.specs.declared.jobs.Job.{Job}
+
+-- ---- a number takes from one to ten bytes
+pub groups-some : (left n : ℕ) → 1 ≤ length (groupsOf left n)
+unfolding groupsOf
+groups-some zero n = omega arith
+groups-some (suc left) n = go (ltb n 128)
+  where
+    go : (t : Bool) → 1 ≤ length (cond t (n ∷ []) ((128 + n % 128) ∷ groupsOf left (n / 128)))
+    go true = omega arith
+    go false = omega arith
+
+groups-most : (left n : ℕ) → length (groupsOf left n) ≤ suc left
+unfolding groupsOf
+groups-most zero n = omega arith
+groups-most (suc left) n = go (ltb n 128) (groups-most left (n / 128))
+  where
+    go : (t : Bool) → length (groupsOf left (n / 128)) ≤ suc left
+        → length (cond t (n ∷ []) ((128 + n % 128) ∷ groupsOf left (n / 128))) ≤ suc (suc left)
+    go true h = omega arith
+    go false h = omega arith
+
+pub number-least : (n : ℕ) → 1 ≤ length (numberBytes n)
+unfolding numberBytes
+number-least n = groups-some 9 n
+
+pub number-most : (n : ℕ) → length (numberBytes n) ≤ 10
+unfolding numberBytes
+number-most n = groups-most 9 n
+
+pub argument-most : (j : Job) (k : ℕ) → length (argumentBytes j k) ≤ 10
+unfolding argumentBytes
+argument-most j k = go (ltb k (arityOf (j .function)))
+  where
+    go : (t : Bool) → length (cond t (numberBytes (argumentOf j k)) []) ≤ 10
+    go true = number-most (argumentOf j k)
+    go false = omega arith
+
+-- ---- a job
+pub job-length-sum :
+    (j : Job) → jobLength j ≡ length (numberBytes (j .function))
+    + (length (argumentBytes j 0) + (length (argumentBytes j 1) + (length (argumentBytes j 2) + length (argumentBytes j 3))))
+unfolding jobLength jobBytes
+job-length-sum j = simp length-append
+
+pub job-some : (j : Job) → 1 ≤ jobLength j
+job-some j = omega (arith, job-length-sum j, number-least (j .function))
+
+-- a known function's number is one byte long, and it has two arguments at least
+known-is : (f : ℕ) → (arityOf f ≡ 0 → ⊥) → (f < 128) × (2 ≤ arityOf f)
+unfolding arityOf
+known-is f h = go (eqb f 1) (eqb f 2) (eqb f 3) (eqb f 4) (eqb f 5) refl refl refl refl refl h
+  where
+    go :
+        (p q r s t : Bool) → eqb f 1 ≡ p → eqb f 2 ≡ q → eqb f 3 ≡ r → eqb f 4 ≡ s → eqb f 5 ≡ t
+        → (_≡_ {A = ℕ} (cond p 3 (cond q 2 (cond r 3 (cond s 3 (cond t 4 0))))) 0 → ⊥)
+        → (f < 128) × (2 ≤ cond p 3 (cond q 2 (cond r 3 (cond s 3 (cond t 4 0)))))
+    go true q r s t i j k l m h = (omega (arith, eqb-true f 1 i), omega arith)
+    go false true r s t i j k l m h = (omega (arith, eqb-true f 2 j), omega arith)
+    go false false true s t i j k l m h = (omega (arith, eqb-true f 3 k), omega arith)
+    go false false false true t i j k l m h = (omega (arith, eqb-true f 4 l), omega arith)
+    go false false false false true i j k l m h = (omega (arith, eqb-true f 5 m), omega arith)
+    go false false false false false i j k l m h = absurd (h refl)
+
+byte-number : (n : ℕ) → n < 128 → length (numberBytes n) ≡ 1
+unfolding numberBytes groupsOf
+byte-number n h = rw (lt-ltb n 128 h)
+
+argument-least : (j : Job) (k : ℕ) → k < arityOf (j .function) → 1 ≤ length (argumentBytes j k)
+unfolding argumentBytes
+argument-least j k h = rw (lt-ltb k (arityOf (j .function)) h) (number-least (argumentOf j k))
+
+-- from three bytes to 41
+pub job-length-bounds : (j : Job) → (arityOf (j .function) ≡ 0 → ⊥) → (3 ≤ jobLength j) × (jobLength j ≤ 41)
+job-length-bounds j h =
+    let k = known-is (j .function) h in
+    let one = byte-number (j .function) (k .0) in
+    let first = argument-least j 0 (omega (arith, k .1)) in
+    let second = argument-least j 1 (omega (arith, k .1)) in (
+      omega (arith, job-length-sum j, one, first, second),
+      omega (arith, job-length-sum j, one, argument-most j 0, argument-most j 1, argument-most j 2, argument-most j 3),
+    )
+
+-- whatever its function, no more than fifty
+pub job-most : (j : Job) → jobLength j ≤ 50
+job-most j =
+    omega (
+      arith,
+      job-length-sum j,
+      number-most (j .function),
+      argument-most j 0,
+      argument-most j 1,
+      argument-most j 2,
+      argument-most j 3,
+    )

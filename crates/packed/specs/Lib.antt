@@ -1,0 +1,9 @@
+pub mod Numbers
+pub mod Jobs
+pub mod Reading
+pub mod Writing
+pub mod LengthLaws
+pub mod NumberLaws
+pub mod JobLaws
+pub mod ListLaws
+pub mod MoreLaws

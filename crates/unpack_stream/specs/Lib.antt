@@ -1,0 +1,4 @@
+pub mod Text
+pub mod Unpack
+pub mod UnpackLaws
+pub mod WholeLaws

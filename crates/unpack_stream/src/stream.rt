@@ -1,0 +1,160 @@
+// The bytes as they come: what is held of a job that is not whole, and the lines of those that are. A refusal ends it.
+use crate::text::put_job_text;
+use packed::LIST_CUT;
+use packed::Read;
+use packed::read_job;
+use writing::OUT;
+use writing::least;
+use writing::push;
+ghost use mathlib.Core.Path.{_≡_};
+ghost use mathlib.Core.List.{[], _∷_};
+ghost use Prim.Native.Nat.{_+_, _*_, _≤_};
+ghost use lib.ListN.{length, take};
+ghost use Rattle.io.specs.Counts.{Counts};
+ghost use Rattle.packed.specs.Reading.{readAt};
+ghost use Rattle.unpack_stream.specs.Text.{lineRoom};
+ghost use Rattle.unpack_stream.specs.Unpack.{nothing, jobThen, unpackFrom, leftOver, heldLength, Fed};
+
+// So many bytes are held of a job: no job is longer.
+pub const HELD: usize = 64;
+
+// So many bytes are read at once: there is room for a line after each.
+pub const BLOCK: usize = 512;
+
+// How many bytes are held now, how many were written, how many bytes the whole jobs took, and whether a refusal ended it,
+// with its number.
+pub struct Progress {
+    pub held: usize,
+    pub used: usize,
+    pub taken: usize,
+    pub ended: bool,
+    pub stop: u32,
+}
+
+// A try at what is held.
+fn tried(held: &[u8], out: &mut [u8], used: usize) -> Progress
+    requires { ⌜ length (now held) ≤ heldLength ⌝ }
+    requires { ⌜ used + lineRoom ≤ length (now out) ⌝ }
+    ensures { λ r. ⌜ Fed (jobThen (readAt (now (held .entry)) 0) (length (now (held .entry))) (nothing []) (nothing (now (held .entry)))) (now (held .entry)) (now (out .entry)) used (now (out .exit)) r ⌝ }
+    ensures { λ r. ⌜ r .held ≤ length (now (held .entry)) ⌝ }
+{
+    match read_job(held, 0) {
+        Read::Found(got) => {
+            let job = got.job;
+            Progress {
+                held: 0,
+                used: put_job_text(job, out, used),
+                taken: held.len(),
+                ended: false,
+                stop: 0,
+            }
+        }
+        Read::Nothing => Progress {
+            held: held.len(),
+            used,
+            taken: 0,
+            ended: false,
+            stop: 0,
+        },
+        Read::Refused(n) => {
+            if n == LIST_CUT {
+                return Progress {
+                    held: held.len(),
+                    used,
+                    taken: 0,
+                    ended: false,
+                    stop: 0,
+                };
+            }
+            Progress {
+                held: 0,
+                used,
+                taken: 0,
+                ended: true,
+                stop: n,
+            }
+        }
+    }
+}
+
+fn step(b: u8, held: &mut [u8], n: usize, out: &mut [u8], used: usize) -> Progress
+    requires { ⌜ length (now held) ≡ heldLength ⌝ }
+    requires { ⌜ n ≤ heldLength ⌝ }
+    requires { ⌜ used + lineRoom ≤ length (now out) ⌝ }
+    ensures { λ r. ⌜ Fed (unpackFrom (take n (now (held .entry))) (b ∷ [])) (now (held .exit)) (now (out .entry)) used (now (out .exit)) r ⌝ }
+{
+    let m = push(held, n, b);
+    tried(&held[..m], out, used)
+}
+
+// Feeds the first `size` bytes, up to a refusal.
+fn feed_all(
+    block: &[u8],
+    size: usize,
+    held: &mut [u8],
+    held_before: usize,
+    out: &mut [u8],
+) -> Progress
+    requires { ⌜ size ≤ length (now block) ⌝ }
+    requires { ⌜ length (now held) ≡ heldLength ⌝ }
+    requires { ⌜ «held_before» ≤ heldLength ⌝ }
+    requires { ⌜ lineRoom * size ≤ length (now out) ⌝ }
+    ensures { λ r. ⌜ Fed (unpackFrom (take «held_before» (now (held .entry))) (take size (now (block .entry)))) (now (held .exit)) (now (out .entry)) 0 (now (out .exit)) r ⌝ }
+    ensures { λ r. ⌜ r .used ≤ lineRoom * size ⌝ }
+{
+    let mut n = held_before;
+    let mut used: usize = 0;
+    let mut taken: usize = 0;
+    let mut stop: u32 = 0;
+    let mut i = 0;
+    while i < size {
+        let fed = step(block[i], held, n, out, used);
+        if fed.ended {
+            return Progress {
+                held: fed.held,
+                used: fed.used,
+                taken: taken + fed.taken,
+                ended: true,
+                stop: fed.stop,
+            };
+        }
+        n = fed.held;
+        used = fed.used;
+        taken = taken + fed.taken;
+        stop = fed.stop;
+        i += 1;
+    }
+    Progress {
+        held: n,
+        used,
+        taken,
+        ended: false,
+        stop,
+    }
+}
+
+// Feeds the block's first bytes: the lines of the jobs that end there are put at the start of `out`, up to a refusal, and
+// `held` keeps what is not
+// whole. A size beyond the block counts as all of it, and n above HELD as HELD.
+pub fn feed(
+    block: &[u8; BLOCK],
+    size: usize,
+    held: &mut [u8; HELD],
+    n: usize,
+    out: &mut [u8; OUT],
+) -> Progress
+    ensures { λ r. ⌜ Fed (unpackFrom (take n (now (held .entry))) (take size (now (block .entry)))) (now (held .exit)) (now (out .entry)) 0 (now (out .exit)) r ⌝ }
+    ensures { λ r. ⌜ Counts (r .used) (now (out .exit)) ⌝ }
+{
+    feed_all(block, least(BLOCK, size), held, least(HELD, n), out)
+}
+
+// What the input's end means, with so many bytes held: 0, or the number of a job that was cut.
+pub fn left_over(n: usize) -> u32
+    ensures { λ r. ⌜ r ≡ leftOver n ⌝ }
+{
+    if n == 0 {
+        return 0;
+    }
+    LIST_CUT
+}
