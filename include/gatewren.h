@@ -117,8 +117,7 @@ double gatewren_mul_add(double a, double b, double c);
 /* a to the power -3/2, rounded once. A zero of either sign gives +infinity, +infinity gives +0, a number below zero NaN. */
 double gatewren_pow_neg_3_2(double a);
 
-/* The arc tangent, by one whole-number rule within one unit in the last place of the exact one: every finite number, and both
- * infinities. */
+/* The arc tangent, by one whole-number rule within one unit of the exact one: every finite number, and both infinities. */
 double gatewren_atan(double x);
 
 /* The natural logarithm, likewise: every finite number above zero; 1 gives +0. A zero of either sign gives -infinity, +infinity

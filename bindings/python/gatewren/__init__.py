@@ -369,7 +369,7 @@ def pow_neg_3_2(a: SupportsFloat) -> float:
 
 
 def atan(x: SupportsFloat) -> float:
-    """The arc tangent, within one unit in the last place; at every finite number and both infinities.
+    """The arc tangent, within one unit; at every finite number and both infinities.
 
     >>> atan(1)
     0.7853981633974483
@@ -378,7 +378,7 @@ def atan(x: SupportsFloat) -> float:
 
 
 def ln(x: SupportsFloat) -> float:
-    """The natural logarithm, within one unit in the last place; at every finite number above zero, and 1 gives +0.
+    """The natural logarithm, within one unit; at every finite number above zero, and 1 gives +0.
 
     A zero of either sign gives -infinity, +infinity itself, a number below zero NaN.
 
@@ -393,7 +393,7 @@ def ln(x: SupportsFloat) -> float:
 
 
 def ln_1p(x: SupportsFloat) -> float:
-    """The natural logarithm of 1 + x, within one unit in the last place; for x from -3/4 to 3/4, else NaN.
+    """The natural logarithm of 1 + x, within one unit; for x from -3/4 to 3/4, else NaN.
 
     >>> ln_1p(-0.5)
     -0.6931471805599453

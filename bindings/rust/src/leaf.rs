@@ -19,18 +19,18 @@ pub fn pow_neg_3_2(a: f64) -> f64 {
     unsafe { symbols::gatewren_pow_neg_3_2(a) }
 }
 
-/// The arc tangent, within one unit in the last place; at every finite number and both infinities.
+/// The arc tangent, within one unit; at every finite number and both infinities.
 pub fn atan(x: f64) -> f64 {
     unsafe { symbols::gatewren_atan(x) }
 }
 
-/// The natural logarithm, within one unit in the last place; at every finite number above zero, and 1 gives +0. A zero of
-/// either sign gives -infinity, +infinity itself, a number below zero NaN.
+/// The natural logarithm, within one unit; at every finite number above zero, and 1 gives +0. A zero of either sign gives
+/// -infinity, +infinity itself, a number below zero NaN.
 pub fn ln(x: f64) -> f64 {
     unsafe { symbols::gatewren_ln(x) }
 }
 
-/// The natural logarithm of 1 + x, within one unit in the last place; for x from -3/4 to 3/4, else NaN.
+/// The natural logarithm of 1 + x, within one unit; for x from -3/4 to 3/4, else NaN.
 pub fn ln_1p(x: f64) -> f64 {
     unsafe { symbols::gatewren_ln_1p(x) }
 }
