@@ -1,16 +1,12 @@
 -- Fed block by block, the input gives the work list of its lines, wherever the blocks are cut. Assumes nothing.
-use Prim.Native.Nat.{ℕ, _≤_, _<_}
-use mathlib.Core.Path.{_≡_, refl, sym, ap, _∙_}
+use Prim.Native.Nat.{ℕ}
+use mathlib.Core.Path.{_≡_, refl, ap, _∙_}
 use mathlib.Core.Bool.{Bool, true, false, cond}
 use mathlib.Core.List.{List, [], _∷_, _++_}
-use mathlib.Core.Logic.{⊎-elim}
-use native.Mathlib.Omega.{arith}
 use lib.Dec.{eqb}
-use lib.ListN.{length, take}
-use lib.Seq.{take-all, length-take-le}
-use Rattle.algebra.specs.Order.{lt-or-le}
+use lib.ListN.{take}
 use Rattle.listing_read.specs.Lines.{callOf}
-use Rattle.listing_read.specs.LineLaws.{too-long}
+use Rattle.listing_read.specs.LineLaws.{held-call}
 use Rattle.listing_read.specs.declared.Line.{Line}
 use Rattle.listing_read.specs.declared.Line.the-variants.{Good, Bad}
 use Rattle.writing.specs.Fed.{Ran, quiet, andRan, run}
@@ -18,16 +14,6 @@ use Rattle.writing.specs.FedLaws.{quiet-and, and-assoc, run-over}
 use Rattle.writing.specs.Input.{lastLine, linesFrom}
 use Rattle.writing.specs.Parts.{held-again}
 use Rattle.pack_stream.specs.Pack.{Held, holding, lineEnd, packLines, heldLength, packByte, packFrom, packLast}
-
--- ---- a line that is held in part
-held-call : (l : List ℕ) → callOf (take heldLength l) ≡ callOf l
-held-call l = ⊎-elim long (λ h. rw (take-all heldLength l h)) (lt-or-le heldLength (length l))
-  where
-    long : heldLength < length l → callOf (take heldLength l) ≡ callOf l
-    long h = rw (
-      too-long (take heldLength l) (omega (arith, length-take-le heldLength l (omega arith))),
-      too-long l (omega arith),
-    )
 
 -- ---- the whole input
 -- what comes of bytes and of the input's end
