@@ -1,9 +1,9 @@
 -- A packed work list to lines, a byte after the other. Definitions only.
-use Prim.Native.Nat.{ℕ}
+use Prim.Native.Nat.{ℕ, _-_, _≤_, _<_}
 use mathlib.Core.Bool.{Bool, true, false, cond}
 use mathlib.Core.List.{List, [], _∷_, _++_}
 use lib.Dec.{eqb}
-use lib.ListN.{length, take}
+use lib.ListN.{length, take, drop}
 use Rattle.packed.specs.Jobs.{listBytes}
 use Rattle.packed.specs.Numbers.{list-cut}
 use Rattle.packed.specs.Reading.{readAt, Jobs, jobs, stopped}
@@ -13,6 +13,7 @@ use Rattle.packed.specs.declared.read.Read.the-variants.{Found, Nothing, Refuse
 use Rattle.writing.specs.Fed.{Ran, quiet, Fed, run}
 use Rattle.unpack_stream.specs.Text.{jobText}
 use Rattle.unpack_stream.specs.declared.stream.Progress.{Progress}
+use Rattle.unpack_stream.specs.declared.stream.Turned.{Turned}
 
 -- the state: what is held of a job that is not whole, and whether a refusal ended it, with its number
 pub record Held : Type 0 where
@@ -58,16 +59,20 @@ unpackByte h b = tryOf (take heldLength (h .rest ++ b ∷ []))
 abbrev pub unpackFrom : Held → List ℕ → Ran Held
 unpackFrom = run unpackByte (λ h. h .ended)
 
+-- what is read ahead: the job at a place, where none is held
+unfoldable pub aheadAt : List ℕ → ℕ → ℕ → Read
+aheadAt bytes i held = cond (eqb held 0) (readAt bytes i) Nothing
+
 -- at the input's end: what is held is a job that was cut
 unfoldable pub leftOver : ℕ → ℕ
 leftOver held = cond (eqb held 0) 0 list-cut
 
-unfoldable pub lastOf : List ℕ → Held
-lastOf [] = holding []
-lastOf (b ∷ l) = refused list-cut
+unfoldable pub lastOf : Held → List ℕ → Held
+lastOf h [] = h
+lastOf h (b ∷ l) = refused list-cut
 
 unfoldable pub unpackLast : Held → Ran Held
-unpackLast h = quiet (cond (h .ended) h (lastOf (h .rest)))
+unpackLast h = quiet (cond (h .ended) h (lastOf h (h .rest)))
 
 -- ---- what a function that is fed some bytes does: some of the bytes in `after` are held, and what is said was put into `out`
 abbrev pub stateOf : List ℕ → Progress → Held
@@ -75,3 +80,10 @@ stateOf after r = record { rest = take (r .held) after; ended = r .ended; stop =
 
 abbrev pub Unpacks : Ran Held → List ℕ → List ℕ → ℕ → List ℕ → Progress → Type 0
 Unpacks p after before at out r = Fed p (stateOf after r) before at out (r .used) (r .taken)
+
+-- a turn takes the bytes from a place to a later one
+pub record Turns (bytes : List ℕ) (i : ℕ) (held after before : List ℕ) (at : ℕ) (out : List ℕ) (r : Turned) : Type 0 where
+  pub later : i < r .next
+  pub inside : r .next ≤ length bytes
+  pub few : r .fed .held ≤ heldLength
+  pub fed : Unpacks (unpackFrom (holding held) (take (r .next - i) (drop i bytes))) after before at out (r .fed)

@@ -18,9 +18,10 @@ use Rattle.packed.specs.Reading.{readAt, Jobs, jobs, stopped, withJob, readOn, 
 use Rattle.packed.specs.LengthLaws.{job-some}
 use Rattle.packed.specs.NumberLaws.{Bytes}
 use Rattle.packed.specs.JobLaws.{Proper, Is, gotten, read-back, read-is}
-use Rattle.packed.specs.ListLaws.{nothing-left}
+use Rattle.packed.specs.ListLaws.{nothing-left, jobs-back}
 use Rattle.packed.specs.MoreLaws.{Good, read-more, cut-short}
 use Rattle.packed.specs.PlaceLaws.{jobsLater, list-later}
+use Rattle.packed.specs.declared.jobs.Job.{Job}
 use Rattle.packed.specs.declared.read.Got.{Got}
 use Rattle.packed.specs.declared.read.Read.{Read}
 use Rattle.packed.specs.declared.read.Read.the-variants.{Found, Nothing, Refused}
@@ -49,7 +50,7 @@ Waits h = (h ≡ []) ⊎ (readAt h 0 ≡ Refused list-cut)
 waits-short : (h : List ℕ) → Waits h → length h ≤ 50
 waits-short h w = ⊎-elim (λ e. rw e (omega arith)) (λ e. cut-short h e) w
 
-bytes-front : (l m : List ℕ) → Bytes (l ++ m) → Bytes l
+pub bytes-front : (l m : List ℕ) → Bytes (l ++ m) → Bytes l
 bytes-front [] m h = tt
 bytes-front (b ∷ l) m h = (h .0, bytes-front l m (h .1))
 
@@ -218,3 +219,34 @@ from-held (b ∷ bs) h most bytes w len = fed-any b bs h most bytes w len (λ k 
 pub whole : (input : List ℕ) → Bytes input → unpackAll (holding []) input ≡ unpackOf (readAll input)
 unfolding readAll
 whole input bytes = from-held input [] (suc (length input)) bytes (inl refl) (omega arith)
+
+-- ---- a job that lies whole in the bytes: its bytes one after the other, from nothing held, give its line
+nothing-held : (h : Held) → unpackLast h .left ≡ holding [] → h ≡ holding []
+unfolding unpackLast lastOf
+nothing-held h = go (h .ended) (h .rest)
+  where
+    go : (t : Bool) (l : List ℕ) → cond t h (lastOf h l) ≡ holding [] → h ≡ holding []
+    go true l e = e
+    go false [] e = e
+    go false (b ∷ l) e =
+        let f : true ≡ false = ap (λ (k : Held). k .ended) e in let z : _≡_ {A = ℕ} 0 1 = cc in absurd (omega arith)
+
+ran-is : (r : Ran Held) {l : List ℕ} {n : ℕ} {h : Held} → r .said ≡ l → r .count ≡ n → r .left ≡ h
+    → r ≡ record { said = l; count = n; left = h }
+ran-is r {l} {n} e f g =
+    ap (λ (m : List ℕ). record { said = m; count = r .count; left = r .left }) e
+    ∙ ap (λ (m : ℕ). record { said = l; count = m; left = r .left }) f
+    ∙ ap (λ (k : Held). record { said = l; count = n; left = k }) g
+
+pub job-run : (j : Job) → Proper j → Bytes (jobBytes j)
+    → unpackFrom (holding []) (jobBytes j) ≡ record { said = jobText j; count = length (jobBytes j); left = holding [] }
+unfolding andRan unpackLast unpackOf linesOf listBytes
+job-run j p b =
+    let r : Ran Held = unpackFrom (holding []) (jobBytes j) in
+    let e : unpackAll (holding []) (jobBytes j) ≡ unpackOf (jobs (j ∷ [])) =
+    whole (jobBytes j) b ∙ ap unpackOf (rw append-nil at (jobs-back (j ∷ []) (p, tt))) in
+    let said : r .said ≡ jobText j = sym (append-nil (r .said)) ∙ ap (λ (q : Ran Held). q .said) e ∙ append-nil (jobText j) in
+    let count : r .count ≡ length (jobBytes j) =
+    sym (add-zero (r .count)) ∙ ap (λ (q : Ran Held). q .count) e ∙ ap length (append-nil (jobBytes j)) in
+    let left : r .left ≡ holding [] = nothing-held (r .left) (ap (λ (q : Ran Held). q .left) e) in
+    ran-is r said count left

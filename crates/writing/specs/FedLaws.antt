@@ -1,13 +1,13 @@
 -- A run over input that comes in parts, wherever it is cut. Assumes nothing.
-use Prim.Native.Nat.{ℕ, _+_, _*_, _≤_, _<_}
+use Prim.Native.Nat.{ℕ, suc, _+_, _*_, _≤_, _<_}
 use mathlib.Core.Path.{_≡_, refl, sym, ap, subst, _∙_}
 use mathlib.Core.Bool.{Bool, true, false, cond}
 use mathlib.Core.List.{List, [], _∷_, _++_, append-assoc, append-nil}
-use native.Mathlib.Nat.{add-assoc, add-zero, zero-add, mul-suc}
+use native.Mathlib.Nat.{add-assoc, add-zero, zero-add, mul-add, mul-suc}
 use native.Mathlib.Numerals.{add-one}
 use native.Mathlib.Omega.{arith}
-use lib.ListN.{length, getD, take, drop, take-append-drop}
-use lib.Seq.{take-suc, take-take}
+use lib.ListN.{length, getD, take, drop, length-append, length-drop, take-append-drop}
+use lib.Seq.{take-suc, take-take, take-add, length-take-le}
 use Rattle.writing.specs.Fed.{Ran, quiet, andRan, Fed, run}
 use Rattle.writing.specs.Written.{put-more, put-none}
 
@@ -89,6 +89,23 @@ module _ {S : Type 0} where
   abbrev pub Short : ℕ → ℕ → Ran S → Type 0
   Short room most p = (length (p .said) ≤ room) × (p .count ≤ most)
 
+  pub run-short :
+      (step : S → ℕ → Ran S) (over : S → Bool) (room most : ℕ) → ((s : S) (b : ℕ) → Short room most (step s b)) → (xs : List ℕ)
+      (s : S) → Short (room * length xs) (most * length xs) (run step over s xs)
+  unfolding run andRan
+  run-short step over room most short [] s = (omega arith, omega arith)
+  run-short step over room most short (x ∷ xs) s =
+      go (over s) (short s x) (run-short step over room most short xs (step s x .left))
+    where
+      go :
+          (t : Bool) → Short room most (step s x)
+          → (let q : Ran S = run step over (step s x .left) xs in
+          Short (room * length xs) (most * length xs) q
+          → Short (room * suc (length xs)) (most * suc (length xs)) (cond t (quiet s) (andRan (step s x) q)))
+      go true h k = (omega arith, omega arith)
+      go false h k =
+          (rw (length-append, mul-suc) (omega (arith, h .0, k .0)), rw mul-suc (omega (arith, h .1, k .1)))
+
   module _ (step : S → ℕ → Ran S) (over : S → Bool) (room most : ℕ) (block : List ℕ) (s₀ : S) (out₀ : List ℕ) where
     -- the invariant of a loop in code: the first i bytes were fed
     pub record Upto (i : ℕ) (s : S) (out : List ℕ) (used count : ℕ) : Type 0 where
@@ -102,19 +119,34 @@ module _ {S : Type 0} {step : S → ℕ → Ran S} {over : S → Bool} {room mos
   upto-none = record { fed = fed-quiet s₀ out₀ 0; used-most = omega arith; count-most = omega arith }
 
   module _ {i : ℕ} {s : S} {out : List ℕ} {used count : ℕ} (u : Upto step over room most block s₀ out₀ i s out used count) where
+    more :
+        (ys : List ℕ) {t : S} {after : List ℕ} {next d : ℕ} → take (i + length ys) block ≡ take i block ++ ys
+        → ((s : S) (b : ℕ) → Short room most (step s b)) → Fed (run step over s ys) t out used after next d
+        → Upto step over room most block s₀ out₀ (i + length ys) t after next (count + d)
+    more ys e short f =
+        let k = run-short step over room most short ys s in
+        record {
+          fed = rw e (fed-more step over s₀ (take i block) ys (u .fed) f);
+          used-most = rw mul-add (omega (arith, u .used-most, f .said .place, k .0));
+          count-most = rw mul-add (omega (arith, u .count-most, f .counted, k .1));
+        }
+
     -- one byte more
     pub upto-byte :
         {t : S} {after : List ℕ} {next d : ℕ} → i < length block → over s ≡ false
-        → ((s : S) (b : ℕ) → Short room most (step s b))
-        → Fed (step s (getD block i 0)) t out used after next d
+        → ((s : S) (b : ℕ) → Short room most (step s b)) → Fed (step s (getD block i 0)) t out used after next d
         → Upto step over room most block s₀ out₀ (i + 1) t after next (count + d)
-    upto-byte h e short f = record {
-      fed =
-          rw (add-one, take-suc block i 0 h)
-          (fed-more step over s₀ (take i block) (getD block i 0 ∷ []) (u .fed) (rw (run-one step over s (getD block i 0) e) f));
-      used-most = rw (add-one, mul-suc room i) (omega (arith, u .used-most, f .said .place, short s (getD block i 0) .0));
-      count-most = rw (add-one, mul-suc most i) (omega (arith, u .count-most, f .counted, short s (getD block i 0) .1));
-    }
+    upto-byte h e short f =
+        more (getD block i 0 ∷ []) (rw add-one (take-suc block i 0 h)) short (rw (run-one step over s (getD block i 0) e) f)
+
+    -- k bytes more
+    pub upto-part :
+        (k : ℕ) {t : S} {after : List ℕ} {next d : ℕ} → i + k ≤ length block → ((s : S) (b : ℕ) → Short room most (step s b))
+        → Fed (run step over s (take k (drop i block))) t out used after next d
+        → Upto step over room most block s₀ out₀ (i + k) t after next (count + d)
+    upto-part k h short f =
+        let size : length (take k (drop i block)) ≡ k = length-take-le k (drop i block) (rw length-drop (omega arith)) in
+        rw size at (more (take k (drop i block)) (rw size (take-add i k block)) short f)
 
     -- all of them
     pub upto-all : (size : ℕ) → i ≤ size → size ≤ i → Fed (run step over s₀ (take size block)) s out₀ 0 out used count

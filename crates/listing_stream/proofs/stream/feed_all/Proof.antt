@@ -15,7 +15,7 @@ use Rattle.listing_stream.proofs.stream.feed_all.Tie as tie
 
 abbrev Inv-loop : tie.InvT-loop
 Inv-loop block size held₀ held-before out₀ n₀ used₀ i₀ held out n used i =
-    (i ≤ size) × (n ≤ heldLength) × (length held ≡ heldLength) × (length out ≡ length out₀)
+    (i ≤ size) × (n ≤ heldLength) × (length held ≡ heldLength)
     × Upto listingByte (λ held. false) longestReply 0 block (take held-before held₀) out₀ i (take n held) out used 0
 
 abbrev μ-loop : tie.MeasureT-loop
@@ -24,7 +24,8 @@ abbrev μ-loop : tie.MeasureT-loop
 step-requires : tie.Need-step-requires Inv-loop μ-loop
 step-requires c κs =
     let l = c .before .before .before .before .loop in
-    (l .inv .2, (l .inv .1, omega (arith, l .inv .3, l .inv .4 .used-most)))
+    let u = l .inv .3 in
+    (l .inv .2, (l .inv .1, omega (arith, put-length (u .fed .said), u .used-most)))
 
 loop-again : tie.Need-loop-again Inv-loop μ-loop
 loop-again c =
@@ -35,14 +36,13 @@ loop-again c =
       omega arith,
       s .step .ensures .1,
       s .step .kept .1 .0 ∙ l .inv .2,
-      put-length (s .step .ensures .0 .said) ∙ l .inv .3,
-      upto-byte (l .inv .4) inside refl byte-short (s .step .ensures .0),
+      upto-byte (l .inv .3) inside refl byte-short (s .step .ensures .0),
     )
 
 returns : tie.Need-returns Inv-loop μ-loop
 returns c =
     let l = c .before .loop in
-    let u = l .inv .4 in
+    let u = l .inv .3 in
     (upto-all u _ (l .inv .0) (c .loop-test .left), (l .inv .1, omega (arith, l .inv .0, u .used-most)))
 
 pub feed-all-spec : {M : Type 1} → statement M
@@ -51,12 +51,12 @@ feed-all-spec =
     (tie.spec
     Inv-loop
     μ-loop
-    (λ c. let p = c .before .before .before .pre in (omega arith, p .1 .1 .0, p .1 .0, refl, upto-none))
+    (λ c. let p = c .before .before .before .pre in (omega arith, p .1 .1 .0, p .1 .0, upto-none))
     (λ c. omega arith)
     step-requires
     (λ c. omega arith)
     (λ c. omega arith)
     loop-again
     (λ c. c .before .loop .inv .2 ∙ sym (c .before .before .before .before .before .pre .1 .0))
-    (λ c. c .before .loop .inv .3)
+    (λ c. put-length (c .before .loop .inv .3 .fed .said))
     returns)

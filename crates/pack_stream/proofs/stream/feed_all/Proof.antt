@@ -1,7 +1,7 @@
 -- `feed_all` meets its contract. The invariant: what was fed so far is the block's beginning, and no line in it was bad.
 -- Assumes nothing.
 use Prim.Native.Nat.{ℕ, _+_, _-_, _*_, _^_, _≤_, _<_}
-use mathlib.Core.Path.{_≡_, refl, sym, ap, subst, _∙_}
+use mathlib.Core.Path.{_≡_, refl, sym, _∙_}
 use mathlib.Core.Bool.{false}
 use mathlib.Core.List.{List}
 use native.Mathlib.Omega.{arith}
@@ -23,7 +23,7 @@ Fed-to block held out₀ i after out all =
 
 abbrev Inv-loop : tie.InvT-loop
 Inv-loop block size held₀ n out₀ all₀ i₀ held out all i =
-    (i ≤ size) × (all .held ≤ heldLength) × (length held ≡ heldLength) × (length out ≡ length out₀) × (all .bad ≡ false)
+    (i ≤ size) × (all .held ≤ heldLength) × (length held ≡ heldLength) × (all .bad ≡ false)
     × Fed-to block (take n held₀) out₀ i held out all
 
 abbrev μ-loop : tie.MeasureT-loop
@@ -52,7 +52,7 @@ turn s =
     let k = s .before .before .before .before .before in
     let inside : k .loop .i < length (now (k .before .before .before .before .before .args .block)) =
     omega (arith, k .before .before .before .before .before .pre .0) in
-    upto-byte (k .loop .inv .5) inside (k .loop .inv .4) byte-short (s .step .ensures .0)
+    upto-byte (k .loop .inv .4) inside (k .loop .inv .3) byte-short (s .step .ensures .0)
 
 -- the room is in the machine, so there are few bytes
 few-bytes : (k : tie.At-loop Inv-loop μ-loop) → jobRoom * k .before .before .before .before .before .args .size < 2 ^ 64
@@ -61,14 +61,15 @@ few-bytes k = omega (arith, k .before .before .before .before .before .pre .1 .1
 step-requires : tie.Need-step-requires Inv-loop μ-loop
 step-requires c κs =
     let l = c .before .before .before .before .loop in
-    (l .inv .2, (l .inv .1, omega (arith, l .inv .3, l .inv .5 .used-most)))
+    let u = l .inv .4 in
+    (l .inv .2, (l .inv .1, omega (arith, put-length (u .fed .said), u .used-most)))
 
 loop-holds : tie.Need-loop-holds Inv-loop μ-loop
 loop-holds c =
     let s = c .before .before .before .before in
     let b = begins (now (s .args .block)) (now (s .args .held)) (now (s .args .out)) (s .args .n) _ (s .pre .1 .1 .0)
     (c .nothing .ensures) in
-    (omega arith, b .0, s .pre .1 .0, refl, b .1, b .2)
+    (omega arith, b .0, s .pre .1 .0, b .1, b .2)
 
 returns : tie.Need-returns Inv-loop μ-loop
 returns c =
@@ -82,12 +83,10 @@ returns c =
 loop-again : tie.Need-loop-again Inv-loop μ-loop
 loop-again c =
     let s = c .before .before .before .before .before .before .before in
-    let l = s .before .before .before .before .before .loop in
-    let g = s .step .ensures in (
+    let l = s .before .before .before .before .before .loop in (
       omega arith,
-      g .1,
+      s .step .ensures .1,
       s .step .kept .1 .0 ∙ l .inv .2,
-      put-length (g .0 .said) ∙ l .inv .3,
       c .if1 .left,
       turn s,
     )
@@ -95,7 +94,7 @@ loop-again c =
 returns-2 : tie.Need-returns-2 Inv-loop μ-loop
 returns-2 c =
     let l = c .before .loop in
-    let u = l .inv .5 in
+    let u = l .inv .4 in
     (upto-all u _ (l .inv .0) (c .loop-test .left), (l .inv .1, omega (arith, l .inv .0, u .used-most)))
 
 pub feed-all-spec : {M : Type 1} → statement M
@@ -115,13 +114,11 @@ feed-all-spec =
     let s = c .before .before .before .before .before .before .before in
     let k = s .before .before .before .before .before in
     s .step .kept .1 .0 ∙ k .loop .inv .2 ∙ sym (k .before .before .before .before .before .pre .1 .0))
-    (λ c.
-    let s = c .before .before .before .before .before .before .before in
-    put-length (s .step .ensures .0 .said) ∙ s .before .before .before .before .before .loop .inv .3)
+    (λ c. put-length (turn (c .before .before .before .before .before .before .before) .fed .said))
     returns
     (λ c. omega arith)
     (λ c. omega arith)
     loop-again
     (λ c. c .before .loop .inv .2 ∙ sym (c .before .before .before .before .before .before .pre .1 .0))
-    (λ c. c .before .loop .inv .3)
+    (λ c. put-length (c .before .loop .inv .4 .fed .said))
     returns-2)

@@ -1,6 +1,6 @@
 -- `feed_all` meets its contract. The invariant: what was fed so far is the block's beginning. Assumes nothing.
 use Prim.Native.Nat.{_-_, _≤_, _<_}
-use mathlib.Core.Path.{_≡_, refl, _∙_}
+use mathlib.Core.Path.{refl}
 use mathlib.Core.Bool.{false}
 use native.Mathlib.Omega.{arith}
 use lib.ListN.{length}
@@ -15,7 +15,7 @@ use Rattle.swing_stream.proofs.stream.feed_all.Tie as tie
 
 abbrev Inv-loop : tie.InvT-loop
 Inv-loop block size out₀ s used₀ i₀ out state used i =
-    (i ≤ size) × (length out ≡ length out₀) × Upto swingByte (λ s. false) longestSwing 0 block s out₀ i state out used 0
+    (i ≤ size) × Upto swingByte (λ s. false) longestSwing 0 block s out₀ i state out used 0
 
 abbrev μ-loop : tie.MeasureT-loop
 μ-loop block size out₀ s used₀ i₀ out state used i = size - i
@@ -27,14 +27,13 @@ loop-again c =
     let l = a .loop in
     let inside : l .i < length (now (a .before .before .before .args .block)) = omega arith in (
       omega arith,
-      put-length (k .byte .ensures .said) ∙ l .inv .1,
-      upto-byte (l .inv .2) inside refl byte-short (k .byte .ensures),
+      upto-byte (l .inv .1) inside refl byte-short (k .byte .ensures),
     )
 
 returns : tie.Need-returns Inv-loop μ-loop
 returns c =
     let l = c .before .loop in
-    let u = l .inv .2 in
+    let u = l .inv .1 in
     (upto-all u _ (l .inv .0) (c .loop-test .left), omega (arith, l .inv .0, u .used-most))
 
 pub feed-all-spec : {M : Type 1} → statement M
@@ -43,11 +42,11 @@ feed-all-spec =
     (tie.spec
     Inv-loop
     μ-loop
-    (λ c. (omega arith, refl, upto-none))
+    (λ c. (omega arith, upto-none))
     (λ c. omega arith)
-    (λ c κs. let l = c .before .before .before .loop in omega (arith, l .inv .1, l .inv .2 .used-most))
+    (λ c κs. let u = c .before .before .before .loop .inv .1 in omega (arith, put-length (u .fed .said), u .used-most))
     (λ c. omega arith)
     (λ c. omega arith)
     loop-again
-    (λ c. c .before .loop .inv .1)
+    (λ c. put-length (c .before .loop .inv .1 .fed .said))
     returns)

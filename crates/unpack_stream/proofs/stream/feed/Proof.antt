@@ -12,8 +12,8 @@ use Rattle.unpack_stream.specs.Unpack.{heldLength}
 use Rattle.unpack_stream.proofs.stream.feed.Statement.{statement}
 use Rattle.unpack_stream.proofs.stream.feed.Tie as tie
 
-feed-all-requires : tie.Need-feed-all-requires
-feed-all-requires c κs =
+feed-part-requires : tie.Need-feed-part-requires
+feed-part-requires c κs =
     let a = c .before in
     let k = a .before .before in
     let s = k .before .before in
@@ -26,11 +26,11 @@ returns c =
     let a = c .before .before in
     let k = a .before .before in
     let s = k .before .before in
-    let f = c .feed-all .ensures in
+    let f = c .feed-part .ensures in
     let held : length (now (s .args .held)) ≡ heldLength = search needs in
     let block : length (now (s .args .block)) ≡ 512 = search needs in
     let full : length (now (s .args .out)) ≡ 65536 = search needs in
-    let most : c .feed-all .result .used ≤ length (c .feed-all .last .1 .1 .1 .1 .0) =
+    let most : c .feed-part .result .used ≤ length (c .feed-part .last .1 .1 .1 .1 .0) =
     omega (arith, put-length (f .0 .said), f .1 .1, k .least .ensures .0) in (
       rw (
         take-least (now (s .args .held)) heldLength _ _ held (a .least2 .ensures .2),
@@ -40,4 +40,4 @@ returns c =
     )
 
 pub feed-spec : {M : Type 1} → statement M
-feed-spec = tie.close (tie.spec (λ c κs. tt) (λ c κs. tt) feed-all-requires returns)
+feed-spec = tie.close (tie.spec (λ c κs. tt) (λ c κs. tt) feed-part-requires returns)
