@@ -1,8 +1,9 @@
-//! Times each leaf and entry of the proved library beside what a Rust program would use in its place, and the listing.
+//! Times each leaf and entry of the proved library beside what a Rust program would use in its place, the work lists and the listing.
 
 mod clock;
 mod entries;
 mod inputs;
+mod jobs;
 mod leaves;
 mod listing;
 #[path = "../../oracle/src/random.rs"]
@@ -25,11 +26,14 @@ fn main() {
     let mut rows = leaves::rows();
     rows.extend(entries::rows());
     rows.retain(|row| chosen(&row.name));
+    let mut lists = jobs::rows();
+    lists.retain(|row| chosen(&row.name));
     let mut listings = listing::rows();
     listings.retain(|row| chosen(&row.name));
     // All rows in turn, and again: a slow spell of the machine then falls on all alike and the least time passes over it.
     for _ in 0..REPEATS {
         rows.iter_mut().for_each(Row::time);
+        lists.iter_mut().for_each(jobs::Row::time);
     }
     for _ in 0..LISTING_REPEATS {
         listings.iter_mut().for_each(listing::Row::time);
@@ -38,8 +42,13 @@ fn main() {
     if !rows.is_empty() {
         functions(&rows);
     }
+    if !lists.is_empty() {
+        println!("\npacked work lists, jobs of all five functions in turn, least of {REPEATS} repeats");
+        println!("{:<32}{:>9}{:>17}{:>17}", "jobs", "ns a job", "million a second", "bytes a job");
+        lists.iter().for_each(jobs::Row::print);
+    }
     if listings.is_empty() {
-        println!("\nthe listing: left out, by its name or because there is no target/bin/listing (./gatewren build)");
+        println!("\nthe listing: left out, by its name, or because there is no target/bin/listing (./gatewren build) or it is x86-64 code");
     } else {
         println!("\na million lines from a file, least of {LISTING_REPEATS} repeats, the program's start included");
         println!("{:<32}{:>9}{:>17}{:>17}", "lines", "ns a line", "million a second", "bytes a line");
@@ -63,7 +72,8 @@ fn machine() -> String {
     let day = Command::new("date").args(["-u", "+%F"]).output().map(|it| String::from_utf8_lossy(&it.stdout).trim().to_string());
     let info = std::fs::read_to_string("/proc/cpuinfo").unwrap_or_default();
     let named = info.lines().find_map(|line| line.strip_prefix("model name")?.split_once(':'));
-    let processor = named.map_or("a processor without a name", |(_, name)| name.trim());
+    let kind = format!("{} with no name", std::env::consts::ARCH);
+    let processor = named.map_or(kind.as_str(), |(_, name)| name.trim());
     let count = std::thread::available_parallelism().map_or(1, |n| n.get());
     format!("{}, {processor}, {count} processors", day.unwrap_or_default())
 }

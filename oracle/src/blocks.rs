@@ -1,7 +1,9 @@
-//! `make-blocks`: an input of several blocks for each program that reads lines, and what it must print, for examples/cuts.
+//! `make-blocks`: an input of several blocks for each program that reads its input in parts, and what it must print, for
+//! examples/cuts.
 
 use crate::fuzz::{good, numbers, piece};
 use crate::lines::{root, Program};
+use crate::lists::runs::examples;
 use crate::random::Random;
 use std::path::PathBuf;
 
@@ -58,15 +60,28 @@ fn push(text: &mut Vec<u8>, line: Vec<u8>) {
     text.push(b'\n');
 }
 
-fn path(program: Program, ending: &str) -> PathBuf {
-    root().join("examples/blocks").join(format!("{}.{ending}", program.name()))
+/// The files: their names, and what they hold.
+fn files() -> Vec<(String, Vec<u8>)> {
+    let of_lines = Program::ALL.map(|program| {
+        let text = input(program);
+        let replies = program.replies(&text);
+        (format!("{}.txt", program.name()), text, replies)
+    });
+    let of_lists = examples().map(|(name, input, output)| (name.to_string(), input, output));
+    let both = |(name, input, output): (String, Vec<u8>, Vec<u8>)| {
+        let stem = name.split('.').next().expect("a name").to_string();
+        [(name, input), (format!("{stem}.expected"), output)]
+    };
+    of_lines.into_iter().chain(of_lists).flat_map(both).collect()
+}
+
+fn path(name: &str) -> PathBuf {
+    root().join("examples/blocks").join(name)
 }
 
 pub fn make() -> bool {
-    for program in Program::ALL {
-        let text = input(program);
-        std::fs::write(path(program, "txt"), &text).expect("the input can be written");
-        std::fs::write(path(program, "expected"), program.replies(&text)).expect("the output can be written");
+    for (name, bytes) in files() {
+        std::fs::write(path(&name), bytes).expect("the file can be written");
     }
     true
 }
@@ -78,10 +93,8 @@ mod tests {
 
     #[test]
     fn the_files_are_those_made_here() {
-        for program in Program::ALL {
-            let file = |ending| std::fs::read(path(program, ending)).expect("the file");
-            assert!(file("txt") == input(program), "{}", program.name());
-            assert!(file("expected") == program.replies(&file("txt")), "{}", program.name());
+        for (name, bytes) in files() {
+            assert!(std::fs::read(path(&name)).expect("the file") == bytes, "{name}");
         }
     }
 

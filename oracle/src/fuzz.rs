@@ -1,11 +1,12 @@
-//! `fuzz`: good lines, mutated lines and noise through each of the three programs that read lines, against what the oracle's own
-//! readers make of them.
+//! `fuzz`: good lines, mutated lines and noise through each of the three programs that answer lines, and good lists, mutated
+//! lists and noise through `unpack` (`lists/runs.rs`), against what the oracle's own readers make of them.
 
 mod calls;
 mod mutate;
 pub mod numbers;
 
 use crate::lines::Program;
+use crate::lists;
 use crate::random::Random;
 use std::io::Write;
 use std::process::Stdio;
@@ -80,7 +81,8 @@ impl Counts {
 
 /// So many seconds for each program.
 pub fn run(seconds: u64, seed: u64) -> bool {
-    Program::ALL.map(|program| fuzzed(program, seconds, seed)) == [true; 3]
+    let lines = Program::ALL.map(|program| fuzzed(program, seconds, seed)) == [true; 3];
+    lists::runs::fuzz(seconds, seed) && lines
 }
 
 fn fuzzed(program: Program, seconds: u64, seed: u64) -> bool {

@@ -4,8 +4,9 @@
 use crate::call::{shown, Call};
 use crate::swing::{judged, summed};
 use doc01::Answer;
-use std::path::PathBuf;
+use std::path::{Path, PathBuf};
 use std::process::Command;
+use std::sync::OnceLock;
 
 /// A program over lines, and what is asked of it.
 #[derive(Clone, Copy, Debug, PartialEq, Eq)]
@@ -33,14 +34,8 @@ impl Program {
         root().join("target/bin").join(crate_name)
     }
 
-    /// The command that runs it: on another machine than x86-64 by the kit's emulator.
     pub fn command(self) -> Command {
-        if cfg!(target_arch = "x86_64") {
-            return Command::new(self.path());
-        }
-        let mut command = Command::new(root().join("tools/x86-64"));
-        command.arg(self.path());
-        command
+        command(&self.path())
     }
 
     /// Whether a line is answered: a call; three numbers; one that is a reading.
@@ -65,6 +60,22 @@ impl Program {
 
 pub fn root() -> PathBuf {
     PathBuf::from(env!("CARGO_MANIFEST_DIR")).join("..")
+}
+
+/// The command that runs a program that was built: on another machine than x86-64 by the kit's emulator, whose words are asked
+/// for once.
+pub fn command(path: &Path) -> Command {
+    static BEFORE: OnceLock<Vec<String>> = OnceLock::new();
+    let before = BEFORE.get_or_init(|| {
+        let asked = Command::new(root().join("tools/x86-64")).output().expect("tools/x86-64 runs");
+        String::from_utf8(asked.stdout).expect("words").split_whitespace().map(str::to_string).collect()
+    });
+    let Some((first, rest)) = before.split_first() else {
+        return Command::new(path);
+    };
+    let mut command = Command::new(first);
+    command.args(rest).arg(path);
+    command
 }
 
 /// A line ends at a newline or with the input; after the last newline there is none.

@@ -29,7 +29,7 @@ use std::process::ExitCode;
 
 const USAGE: &str = "oracle examples | make-list | check-list | call | diff N [SEED] | leaf NAME N [SEED] | cases NAME N [SEED] |
        answers NAME | compare N [SEED [THREADS]] | units N [SEED] | effect N [SEED] | swing N [SEED] |
-       fuzz SECONDS [SEED] | lists N [SEED] | make-units | make-blocks";
+       fuzz SECONDS [SEED] | lists N [SEED] | round N [SEED] | make-units | make-blocks";
 
 fn main() -> ExitCode {
     let words: Vec<String> = std::env::args().skip(1).collect();
@@ -57,8 +57,10 @@ fn main() -> ExitCode {
         ["leaf", name, n, seed] => leaf::run(name, number(n), number(seed)),
         ["cases", name, n] => leaf::cases(name, number(n), 1),
         ["cases", name, n, seed] => leaf::cases(name, number(n), number(seed)),
-        ["lists", n] => lists::run(number(n), 1),
-        ["lists", n, seed] => lists::run(number(n), number(seed)),
+        ["lists", n] => lists::runs::run(number(n), 1),
+        ["lists", n, seed] => lists::runs::run(number(n), number(seed)),
+        ["round", n] => lists::runs::round(number(n), 1),
+        ["round", n, seed] => lists::runs::round(number(n), number(seed)),
         ["swing", n] => swing::run(number(n), 1),
         ["swing", n, seed] => swing::run(number(n), number(seed)),
         _ => {

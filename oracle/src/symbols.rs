@@ -41,3 +41,9 @@ linked! {
     "lib-swing" SWING = gatewren_swing(u64, u64, u64, *mut f64, *mut u32) -> u32;
     "lib-swing" STEPS = gatewren_steps(*mut u64, *const u16, usize) -> u32;
 }
+
+// Request 2026-03: bytes and their length, a place, and a job as five words.
+linked! {
+    "lib-lists" READ_JOB = gatewren_read_job(*const u8, usize, *mut usize, *mut [u64; 5]) -> u32;
+    "lib-lists" WRITE_JOB = gatewren_write_job(*mut u8, usize, *mut usize, *const [u64; 5]) -> u32;
+}

@@ -26,7 +26,7 @@ use Rattle.asked.specs.Helper.{lnOf, logs-asked, ln-asked}
 
 -- with ln and ln_1p themselves the steps are RC's
 pub own-text : (prefix x y : Float) → rcCasesWith ln ln-1p prefix x y ≡ rcCases prefix x y
-unfolding rcCasesWith rcCases byLnWith rc.byLn byLn1pWith rc.byLn1p
+unfolding rcCasesWith rcCases byLnWith rc.rcByLn byLn1pWith rc.rcByLn1p
 own-text prefix x y = refl
 
 -- ---- THEOREMS

@@ -14,7 +14,7 @@ use Rattle.scaling.specs.Units.{Is}
 use Rattle.scaling.specs.Nothing.{root-itself}
 use Rattle.scaling.specs.Pick.{choose}
 use Rattle.carlson.specs.Constants.{zero, two, half}
-use Rattle.elliprc.specs.Rc.{byLn1p, byLn, rcCases}
+use Rattle.elliprc.specs.Rc.{rcByLn1p, rcByLn, rcCases}
 use Rattle.asked.specs.With.{FromTwo, Within, Agrees, Agrees1p, byLn1pWith, byLnWith, rcCasesWith}
 use Rattle.asked.specs.Lost.{Lost, split, root-lost, sum-lost, less-lost, less-lost-last, over-lost, over-nan, over-nothing}
 use Rattle.asked.specs.Lost.{lost-two, lost-within}
@@ -71,7 +71,7 @@ turned (fin false m e) t = absurd (T-not (ltb (m * up e * 1) (0 * 1 * down e)) (
 module _ (log log1p : Float → Float) (A : Agrees log) (B : Agrees1p log1p) where
   pub cases-ask : (prefix x y : Float) → T (fits binary64 x) → T (fits binary64 y) → T (not (lt y zero))
       → rcCasesWith log log1p prefix x y ≡ rcCases prefix x y
-  unfolding rcCasesWith rcCases byLnWith byLn1pWith byLn byLn1p
+  unfolding rcCasesWith rcCases byLnWith byLn1pWith rcByLn rcByLn1p
   cases-ask prefix x y F G N =
       choose _≡_ (eq x zero) (eq x zero) refl (λ z. refl)
       (λ z.

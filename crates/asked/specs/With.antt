@@ -14,7 +14,7 @@ use Rattle.carlson.specs.Constants.{zero, one, two, half}
 use Rattle.carlson.specs.Rescaling.{rescaling2}
 use Rattle.carlson.specs.Answer.{closedAt}
 use Rattle.carlson.specs.declared.answer.Found.{Found}
-use Rattle.elliprc.specs.Rc.{atZero, atEqual, byAtan, overRoot}
+use Rattle.elliprc.specs.Rc.{rcAtZero, rcAtEqual, rcByAtan, overRoot}
 use Rattle.rj_positive.specs.Helper.{byAtan1p}
 
 abbrev pub three-quarters : Float
@@ -45,9 +45,9 @@ module _ (log log1p : Float → Float) where
 
   unfoldable pub rcCasesWith : Float → Float → Float → Float
   rcCasesWith prefix x y =
-      cond (eq x zero) (atZero prefix y)
-      (cond (eq x y) (atEqual prefix x)
-      (cond (lt x y) (byAtan prefix x y)
+      cond (eq x zero) (rcAtZero prefix y)
+      (cond (eq x y) (rcAtEqual prefix x)
+      (cond (lt x y) (rcByAtan prefix x y)
       (cond (lt half (y ⊘ x)) (byLn1pWith prefix x y) (byLnWith prefix x y))))
 
   unfoldable pub rcStepsWith : Float → Float → Float

@@ -16,31 +16,31 @@ use Rattle.carlson.specs.declared.answer.Answer.the-variants.{Refused}
 
 -- ---- the closed forms, in the Rust's order
 -- RC(0, y)
-unfoldable pub atZero : Float → Float → Float
-atZero prefix y = prefix ⊗ half-pi ⊘ root y
+unfoldable pub rcAtZero : Float → Float → Float
+rcAtZero prefix y = prefix ⊗ half-pi ⊘ root y
 
 -- RC(x, x)
-unfoldable pub atEqual : Float → Float → Float
-atEqual prefix x = prefix ⊘ root x
+unfoldable pub rcAtEqual : Float → Float → Float
+rcAtEqual prefix x = prefix ⊘ root x
 
 -- for y > x: the arctangent of the root of the whole quotient (y - x) / x
-unfoldable pub byAtan : Float → Float → Float → Float
-byAtan prefix x y = prefix ⊗ atan (root ((y ⊖ x) ⊘ x)) ⊘ root (y ⊖ x)
+unfoldable pub rcByAtan : Float → Float → Float → Float
+rcByAtan prefix x y = prefix ⊗ atan (root ((y ⊖ x) ⊘ x)) ⊘ root (y ⊖ x)
 
 -- for y < x with y / x above one half
-unfoldable pub byLn1p : Float → Float → Float → Float
-byLn1p prefix x y = let arg = root ((x ⊖ y) ⊘ x) in prefix ⊗ (ln-1p arg ⊖ ln-1p (neg arg)) ⊘ (two ⊗ root (x ⊖ y))
+unfoldable pub rcByLn1p : Float → Float → Float → Float
+rcByLn1p prefix x y = let arg = root ((x ⊖ y) ⊘ x) in prefix ⊗ (ln-1p arg ⊖ ln-1p (neg arg)) ⊘ (two ⊗ root (x ⊖ y))
 
 -- for y < x else
-unfoldable pub byLn : Float → Float → Float → Float
-byLn prefix x y = prefix ⊗ ln ((root x ⊕ root (x ⊖ y)) ⊘ root y) ⊘ root (x ⊖ y)
+unfoldable pub rcByLn : Float → Float → Float → Float
+rcByLn prefix x y = prefix ⊗ ln ((root x ⊕ root (x ⊖ y)) ⊘ root y) ⊘ root (x ⊖ y)
 
 unfoldable pub rcCases : Float → Float → Float → Float
 rcCases prefix x y =
-    cond (eq x zero) (atZero prefix y)
-    (cond (eq x y) (atEqual prefix x)
-    (cond (lt x y) (byAtan prefix x y)
-    (cond (lt half (y ⊘ x)) (byLn1p prefix x y) (byLn prefix x y))))
+    cond (eq x zero) (rcAtZero prefix y)
+    (cond (eq x y) (rcAtEqual prefix x)
+    (cond (lt x y) (rcByAtan prefix x y)
+    (cond (lt half (y ⊘ x)) (rcByLn1p prefix x y) (rcByLn prefix x y))))
 
 -- for y < 0, the Cauchy principal value
 unfoldable pub rcSteps : Float → Float → Float

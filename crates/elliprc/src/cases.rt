@@ -5,32 +5,32 @@ use series::atan;
 use series::ln;
 use series::ln_1p;
 ghost use mathlib.Core.Path.{_≡_};
-ghost use Rattle.elliprc.specs.Rc.{rcSteps, rcCases, atZero, atEqual, byAtan, byLn1p, byLn};
+ghost use Rattle.elliprc.specs.Rc.{rcSteps, rcCases, rcAtZero, rcAtEqual, rcByAtan, rcByLn1p, rcByLn};
 
 // RC(0, y)
 fn at_zero(prefix: f64, y: f64) -> f64
-    ensures { λ r. ⌜ r ≡ atZero prefix y ⌝ }
+    ensures { λ r. ⌜ r ≡ rcAtZero prefix y ⌝ }
 {
     prefix * PI_2 / sqrt(y)
 }
 
 // RC(x, x)
 fn at_equal(prefix: f64, x: f64) -> f64
-    ensures { λ r. ⌜ r ≡ atEqual prefix x ⌝ }
+    ensures { λ r. ⌜ r ≡ rcAtEqual prefix x ⌝ }
 {
     prefix / sqrt(x)
 }
 
 // x < y
 fn by_atan(prefix: f64, x: f64, y: f64) -> f64
-    ensures { λ r. ⌜ r ≡ byAtan prefix x y ⌝ }
+    ensures { λ r. ⌜ r ≡ rcByAtan prefix x y ⌝ }
 {
     prefix * atan(sqrt((y - x) / x)) / sqrt(y - x)
 }
 
 // y < x, with y near x: a difference of two logarithms near 1 keeps its digits.
 fn by_ln_1p(prefix: f64, x: f64, y: f64) -> f64
-    ensures { λ r. ⌜ r ≡ byLn1p prefix x y ⌝ }
+    ensures { λ r. ⌜ r ≡ rcByLn1p prefix x y ⌝ }
 {
     let arg = sqrt((x - y) / x);
     prefix * (ln_1p(arg) - ln_1p(-arg)) / (2.0 * sqrt(x - y))
@@ -38,7 +38,7 @@ fn by_ln_1p(prefix: f64, x: f64, y: f64) -> f64
 
 // y < x, with y at most x / 2
 fn by_ln(prefix: f64, x: f64, y: f64) -> f64
-    ensures { λ r. ⌜ r ≡ byLn prefix x y ⌝ }
+    ensures { λ r. ⌜ r ≡ rcByLn prefix x y ⌝ }
 {
     prefix * ln((sqrt(x) + sqrt(x - y)) / sqrt(y)) / sqrt(x - y)
 }

@@ -12,21 +12,21 @@ use Rattle.carlson.specs.declared.answer.Found.{Found}
 use Rattle.elliprf.specs.Duplicate.{rfCap}
 use Rattle.elliprf.specs.declared.means.Means.{Means}
 
-unfoldable pub meansOf : Means → Means
-meansOf m = record { xn = (m .xn ⊕ m .yn) ⊘ two; yn = root (m .xn ⊗ m .yn) }
+unfoldable pub rfMeansOf : Means → Means
+rfMeansOf m = record { xn = (m .xn ⊕ m .yn) ⊘ two; yn = root (m .xn ⊗ m .yn) }
 
-unfoldable pub agmValue : Means → Float
-agmValue m = pi ⊘ (m .xn ⊕ m .yn)
+unfoldable pub rfAgmValue : Means → Float
+rfAgmValue m = pi ⊘ (m .xn ⊕ m .yn)
 
-unfoldable pub agmStart : Float → Float → Means
-agmStart x y = record { xn = root x; yn = root y }
+unfoldable pub rfAgmStart : Float → Float → Means
+rfAgmStart x y = record { xn = root x; yn = root y }
 
-abbrev pub agmCount : Means → ℕ → Found
-agmCount m n = agmAt (agmValue m) n
+abbrev pub rfAgmCount : Means → ℕ → Found
+rfAgmCount m n = agmAt (rfAgmValue m) n
 
-abbrev pub together : Means → Bool
-together m = not (apart (m .xn) (m .yn))
+abbrev pub rfTogether : Means → Bool
+rfTogether m = not (apart (m .xn) (m .yn))
 
 -- document 01, Rounds: with RF's cap spent the mean answers all the same. Counted are the passes that replaced the means.
-unfoldable pub agmOf : Float → Float → Found
-agmOf x y = capped meansOf together agmCount agmCount rfCap (together (agmStart x y)) (agmStart x y) 0
+unfoldable pub rfAgmOf : Float → Float → Found
+rfAgmOf x y = capped rfMeansOf rfTogether rfAgmCount rfAgmCount rfCap (rfTogether (rfAgmStart x y)) (rfAgmStart x y) 0

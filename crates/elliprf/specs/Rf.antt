@@ -11,31 +11,31 @@ use Rattle.carlson.specs.declared.answer.Found.{Found}
 use Rattle.carlson.specs.declared.answer.Answer.{Answer}
 use Rattle.carlson.specs.declared.answer.Answer.the-variants.{Refused}
 use Rattle.elliprc.specs.Rc.{overRoot, rcUnchecked}
-use Rattle.elliprf.specs.Means.{agmOf}
+use Rattle.elliprf.specs.Means.{rfAgmOf}
 use Rattle.elliprf.specs.Duplicate.{rfDuplication}
 
 -- ---- special cases (DLMF 19.20(i))
 -- RF(x, x, x)
-unfoldable pub allEqual : Float → Found
-allEqual x = closedAt (one ⊘ root x)
+unfoldable pub rfEqual : Float → Found
+rfEqual x = closedAt (one ⊘ root x)
 
 -- RF(0, y, y)
-unfoldable pub oneZero : Float → Found
-oneZero y = closedAt (pi ⊘ (two ⊗ root y))
+unfoldable pub rfZero : Float → Found
+rfZero y = closedAt (pi ⊘ (two ⊗ root y))
 
 -- RF(x, y, y) = RC(x, y)
-unfoldable pub twoEqual : Float → Float → Found
-twoEqual x y = rcUnchecked x y
+unfoldable pub rfTwo : Float → Float → Found
+rfTwo x y = rcUnchecked x y
 
 -- a zero is exchanged with z, and the mean is of the other two; else duplication, in the order given
 unfoldable pub rfGeneral : Float → Float → Float → Found
-rfGeneral x y z = cond (eq x zero) (agmOf z y) (cond (eq y zero) (agmOf x z) (cond (eq z zero) (agmOf x y) (rfDuplication x y z)))
+rfGeneral x y z = cond (eq x zero) (rfAgmOf z y) (cond (eq y zero) (rfAgmOf x z) (cond (eq z zero) (rfAgmOf x y) (rfDuplication x y z)))
 
 unfoldable pub rfSteps : Float → Float → Float → Found
 rfSteps x y z =
-    cond (eq x y) (cond (eq x z) (allEqual x) (cond (eq z zero) (oneZero x) (twoEqual z x)))
-    (cond (eq x z) (cond (eq y zero) (oneZero x) (twoEqual y x))
-    (cond (eq y z) (cond (eq x zero) (oneZero y) (twoEqual x y)) (rfGeneral x y z)))
+    cond (eq x y) (cond (eq x z) (rfEqual x) (cond (eq z zero) (rfZero x) (rfTwo z x)))
+    (cond (eq x z) (cond (eq y zero) (rfZero x) (rfTwo y x))
+    (cond (eq y z) (cond (eq x zero) (rfZero y) (rfTwo x y)) (rfGeneral x y z)))
 
 -- ---- rescaling: "the result is divided by the scale's root"
 unfoldable pub rfUnchecked : Float → Float → Float → Found

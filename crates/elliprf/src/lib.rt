@@ -24,25 +24,25 @@ use elliprc::elliprc_unchecked;
 use elliprc::over_root;
 use root::sqrt;
 ghost use mathlib.Core.Path.{_≡_};
-ghost use Rattle.elliprf.specs.Rf.{allEqual, oneZero, twoEqual, rfGeneral, rfSteps, rfUnchecked, rf};
+ghost use Rattle.elliprf.specs.Rf.{rfEqual, rfZero, rfTwo, rfGeneral, rfSteps, rfUnchecked, rf};
 
 // RF(x, x, x)
 fn all_equal(x: f64) -> Found
-    ensures { λ r. ⌜ r ≡ allEqual x ⌝ }
+    ensures { λ r. ⌜ r ≡ rfEqual x ⌝ }
 {
     closed(1.0 / sqrt(x))
 }
 
 // RF(0, y, y)
 fn one_zero(y: f64) -> Found
-    ensures { λ r. ⌜ r ≡ oneZero y ⌝ }
+    ensures { λ r. ⌜ r ≡ rfZero y ⌝ }
 {
     closed(PI / (2.0 * sqrt(y)))
 }
 
 // RF(x, y, y), which is RC's answer whole
 fn two_equal(x: f64, y: f64) -> Found
-    ensures { λ r. ⌜ r ≡ twoEqual x y ⌝ }
+    ensures { λ r. ⌜ r ≡ rfTwo x y ⌝ }
 {
     elliprc_unchecked(x, y)
 }

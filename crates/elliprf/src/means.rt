@@ -5,7 +5,7 @@ use carlson::common::still_apart;
 use carlson::constants::PI;
 use root::sqrt;
 ghost use mathlib.Core.Path.{_≡_};
-ghost use Rattle.elliprf.specs.Means.{meansOf, agmValue, agmOf};
+ghost use Rattle.elliprf.specs.Means.{rfMeansOf, rfAgmValue, rfAgmOf};
 
 // The Rust's cap on its passes, which it shares with duplication.
 const CAP: u32 = 11;
@@ -17,7 +17,7 @@ pub struct Means {
 }
 
 fn next_means(m: Means) -> Means
-    ensures { λ r. ⌜ r ≡ meansOf m ⌝ }
+    ensures { λ r. ⌜ r ≡ rfMeansOf m ⌝ }
 {
     let t = sqrt(m.xn * m.yn);
     Means {
@@ -27,14 +27,14 @@ fn next_means(m: Means) -> Means
 }
 
 fn value_of(m: Means) -> f64
-    ensures { λ r. ⌜ r ≡ agmValue m ⌝ }
+    ensures { λ r. ⌜ r ≡ rfAgmValue m ⌝ }
 {
     PI / (m.xn + m.yn)
 }
 
 // With the cap spent it answers all the same.
 pub fn agm_of(x: f64, y: f64) -> Found
-    ensures { λ r. ⌜ r ≡ agmOf x y ⌝ }
+    ensures { λ r. ⌜ r ≡ rfAgmOf x y ⌝ }
 {
     let mut m = Means {
         xn: sqrt(x),

@@ -11,8 +11,8 @@ use native.Mathlib.Omega.{arith}
 use lib.Pow.{pow-pos, pow-add}
 use Rattle.algebra.specs.Ring.{con, nxt, _:+_, _:*_, _≈_, _⊩_, _times_≼_, Law, by-ring, Order, by-below}
 use Rattle.algebra.specs.Order.{lt-or-le}
-use Rattle.enclosure.specs.Quotient.{Quotient, _≼_, whole, units, _⊞_, _⊟_, _⊠_}
-use Rattle.enclosure.specs.Order.{≼-refl, ≼-trans, ⊞-mono, ⊠-mono, ≼-more, ⊞-under, units-join}
+use Rattle.enclosure.specs.Quotient.{Quotient, _≼_, whole, parts, _⊞_, _⊟_, _⊠_}
+use Rattle.enclosure.specs.Order.{≼-refl, ≼-trans, ⊞-mono, ⊠-mono, ≼-more, ⊞-under, parts-join}
 use Rattle.enclosure.specs.Enclosure.{T-factor, T-lower, T-upper, third, third-proper}
 use Rattle.enclosure.specs.Nested.{T-nested}
 use Rattle.enclosure.specs.Tiny.{T-tiny-high}
@@ -182,12 +182,12 @@ mid-last : Order 6 (λ a b c d J K.
 mid-last = by-below tt
 
 -- in 2 ^ i steps
-walk : (i j : ℕ) (x y : Quotient) (hx : 3 * x .num ≤ x .den) (hy : 3 * y .num ≤ y .den) → x ≼ y → y ≼ x ⊞ units j 1 → (n k : ℕ)
-    → both y hy n k ≼ both x hx n k ⊞ units (2 * j + i) 1
+walk : (i j : ℕ) (x y : Quotient) (hx : 3 * x .num ≤ x .den) (hy : 3 * y .num ≤ y .den) → x ≼ y → y ≼ x ⊞ parts j 1 → (n k : ℕ)
+    → both y hy n k ≼ both x hx n k ⊞ parts (2 * j + i) 1
 walk zero j x y hx hy up near n k =
     let e : 2 ^ (2 * j + 0) ≡ 2 ^ j * 2 ^ j = let f : 2 * j + 0 ≡ j + j = omega arith in ap (λ (m : ℕ). 2 ^ m) f
     ∙ pow-add 2 j j in
-    ≼-trans (step x y hx hy up (units j 1) near n k) (⊞-mono ≼-refl (record { cross = le-of-eq (omega (arith, e)) }))
+    ≼-trans (step x y hx hy up (parts j 1) near n k) (⊞-mono ≼-refl (record { cross = le-of-eq (omega (arith, e)) }))
 walk (suc i) j x y hx hy up near n k =
     let a = x .num in
     let b = x .den in
@@ -206,11 +206,11 @@ walk (suc i) j x y hx hy up near n k =
     let m = 2 * suc j + i in
     let e : 2 * suc j + i ≡ suc (2 * j + suc i) = omega arith in
     let twice : 2 ^ m ≡ 2 * 2 ^ (2 * j + suc i) = ap (λ (z : ℕ). 2 ^ z) e ∙ pow-succ' 2 (2 * j + suc i) in
-    let sum : units m 1 ⊞ units m 1
-    ≼ units (2 * j + suc i) 1 = ≼-trans (units-join m 1 1) (record { cross = le-of-eq (omega (arith, twice)) }) in
-    ≼-trans last (≼-trans (⊞-mono first ≼-refl) (≼-trans (⊞-under (both x hx n k) (units m 1) (units m 1)) (⊞-mono ≼-refl sum)))
+    let sum : parts m 1 ⊞ parts m 1
+    ≼ parts (2 * j + suc i) 1 = ≼-trans (parts-join m 1 1) (record { cross = le-of-eq (omega (arith, twice)) }) in
+    ≼-trans last (≼-trans (⊞-mono first ≼-refl) (≼-trans (⊞-under (both x hx n k) (parts m 1) (parts m 1)) (⊞-mono ≼-refl sum)))
 
--- ---- what is at most any unit too much is not too much
+-- ---- what is at most any part too much is not too much
 power-more : (n : ℕ) → n < 2 ^ n
 power-more zero = omega arith
 power-more (suc n) = omega (arith, power-more n, pow-succ' 2 n)
@@ -220,7 +220,7 @@ too-much : Order 5 (λ x x' y y' P. (P times nxt (y :* x') ≼ x :* y')
     ⊩ P ≈ y' :* x')
 too-much = by-below tt
 
-no-more : (x y : Quotient) → ((i : ℕ) → x ≼ y ⊞ units i 1) → x ≼ y
+no-more : (x y : Quotient) → ((i : ℕ) → x ≼ y ⊞ parts i 1) → x ≼ y
 no-more x y h = elim (lt-or-le (y .num * x .den) (x .num * y .den)) [
   | inl l ↦
       let i = y .den * x .den in
@@ -235,10 +235,10 @@ one-more = by-below tt
 both-falls : (x y : Quotient) (hx : 3 * x .num ≤ x .den) (hy : 3 * y .num ≤ y .den) → x ≼ y → (n k : ℕ) → both y hy n k
     ≼ both x hx n k
 both-falls x y hx hy up n k =
-    let near : y ≼ x ⊞ units 0 1 = record { cross = one-more .law (x .num) (x .den) (y .num) (y .den) (omega arith) } in
+    let near : y ≼ x ⊞ parts 0 1 = record { cross = one-more .law (x .num) (x .den) (y .num) (y .den) (omega arith) } in
     no-more (both y hy n k) (both x hx n k) (λ i.
     let e : 2 * 0 + i ≡ i = omega arith in
-    subst (λ (m : ℕ). both y hy n k ≼ both x hx n k ⊞ units m 1) e (walk i 0 x y hx hy up near n k))
+    subst (λ (m : ℕ). both y hy n k ≼ both x hx n k ⊞ parts m 1) e (walk i 0 x y hx hy up near n k))
 
 -- an upper end keeps the order, too
 none-on-top : Order 2 (λ n d. (n :* con 1 :+ con 0 :* d) :* d ≈ n :* (d :* con 1))

@@ -1,14 +1,14 @@
--- What is proved of the rules, gathered: each answer lies near every enclosure, for every n. Assumes nothing. An f64's unit is
--- 256 units of the rule at least for atan up to 1, 512 for atan above 1 and for ln, 128 for ln_1p (`Sizes`); so half an f64's
--- unit is more than what is given away here, and the other half is left for the last rounding (`within-rounded`).
+-- What is proved of the rules, gathered: each answer lies near every enclosure, for every n. Assumes nothing. An f64's last
+-- place is 256 parts of the rule at least for atan up to 1, 512 for atan above 1 and for ln, 128 for ln_1p (`Sizes`); so half
+-- of it is more than what is given away here, and the other half is left for the last rounding (`within-rounded`).
 use Prim.Native.Nat.{ℕ, suc, _+_, _-_, _*_, _/_, _^_, _≤_, _<_}
 use mathlib.Core.List.{[], _∷_}
 use native.Mathlib.Nat.{le-of-mul-le-mul-right}
 use native.Mathlib.Omega.{arith}
 use lib.Pow.{pow-add}
 use Rattle.algebra.specs.Ring.{con, _:+_, _:*_, _≈_, _⊩_, _times_≼_, Order, by-below}
-use Rattle.enclosure.specs.Quotient.{Quotient, _≼_, whole, units, _⊞_, _⊠_}
-use Rattle.enclosure.specs.Order.{≼-refl, ≼-trans, ⊞-mono, ⊞-under, units-join, units-split, units-mono}
+use Rattle.enclosure.specs.Quotient.{Quotient, _≼_, whole, parts, _⊞_, _⊠_}
+use Rattle.enclosure.specs.Order.{≼-refl, ≼-trans, ⊞-mono, ⊞-under, parts-join, parts-split, parts-mono}
 use Rattle.enclosure.specs.Enclosure.{atan-lower, atan-upper, steep-lower, steep-upper, ln-argument, ln-proper, ln-lower}
 use Rattle.enclosure.specs.Enclosure.{ln-upper, ln-below-lower, ln-below-upper, gain, gain-proper, loss, loss-proper}
 use Rattle.enclosure.specs.Enclosure.{double-lower, double-upper, T-lower, T-upper, Within}
@@ -26,20 +26,20 @@ use Rattle.enclosure.specs.Sizes.{exact-floor}
 
 -- ---- atan of t = tau * 2 ^ -(62 + j)
 pub atan-within : (j tau : ℕ) → tau ≤ 2 ^ 62
-    → Within (atan-lower (units (62 + j) tau)) (atan-upper (units (62 + j) tau)) (units (62 + j) (atan-answer j tau))
-    (units (62 + j) 10)
-    (units (62 + j) 30)
-atan-within j tau high = atan-near (units (62 + j) tau) j tau (exact-floor j tau high)
+    → Within (atan-lower (parts (62 + j) tau)) (atan-upper (parts (62 + j) tau)) (parts (62 + j) (atan-answer j tau))
+    (parts (62 + j) 10)
+    (parts (62 + j) 30)
+atan-within j tau high = atan-near (parts (62 + j) tau) j tau (exact-floor j tau high)
 
 -- ---- atan of t > 1
 pub steep-within : (t : Quotient) (h : t .den < t .num)
-    → Within (steep-lower t h) (steep-upper t h) (units 62 (steep-answer (t .den * 2 ^ 62 / t .num))) (units 62 30) (units 62 11)
+    → Within (steep-lower t h) (steep-upper t h) (parts 62 (steep-answer (t .den * 2 ^ 62 / t .num))) (parts 62 30) (parts 62 11)
 steep-within t h = steep-near t h
 
 -- ---- ln of m * 2 ^ (e - 52)
 pub ln-within : (m b e : ℕ) → 2 ^ 52 ≤ m → m < 2 ^ 53 → 1 ≤ e → e < 2 ^ b → b ≤ 63
-    → Within (ln-lower (units 52 m) e) (ln-upper (units 52 m) e) (units (63 - b) (ln-answer b e m)) (units (63 - b) 12)
-    (units (63 - b) 42)
+    → Within (ln-lower (parts 52 m) e) (ln-upper (parts 52 m) e) (parts (63 - b) (ln-answer b e m)) (parts (63 - b) 12)
+    (parts (63 - b) 42)
 ln-within m b e low high some fits few = ln-near m b e low high some fits few
 
 -- ---- ln_1p of a = m * 2 ^ -(53 + j), and of -a
@@ -57,8 +57,8 @@ doubled-high : Order 6 (λ v b x x' p q.
 doubled-high = by-below tt
 
 pub doubled : {lower upper : ℕ → Quotient} (j B : ℕ)
-    → Within lower upper (units (62 + j) B) (units (62 + j) 12) (units (62 + j) 39)
-    → Within (λ n. whole 2 ⊠ lower n) (λ n. whole 2 ⊠ upper n) (units (61 + j) B) (units (61 + j) 12) (units (61 + j) 39)
+    → Within lower upper (parts (62 + j) B) (parts (62 + j) 12) (parts (62 + j) 39)
+    → Within (λ n. whole 2 ⊠ lower n) (λ n. whole 2 ⊠ upper n) (parts (61 + j) B) (parts (61 + j) 12) (parts (61 + j) 39)
 doubled {lower} {upper} j B near =
     let p = 2 ^ (62 + j) in
     let q = 2 ^ (61 + j) in
@@ -80,56 +80,56 @@ doubled {lower} {upper} j B near =
     }
 
 pub double-near : (s : Quotient) (proper : s .num < s .den) (j sg : ℕ) → Seed s j sg
-    → Within (double-lower s) (double-upper s proper) (units (61 + j) (T-answer j sg)) (units (61 + j) 12) (units (61 + j) 39)
+    → Within (double-lower s) (double-upper s proper) (parts (61 + j) (T-answer j sg)) (parts (61 + j) 12) (parts (61 + j) 39)
 unfolding double-lower double-upper
 double-near s proper j sg seed = doubled j (T-answer j sg) (T-near s proper j sg seed)
 
 pub gain-within : (j m : ℕ) → m ≤ 2 ^ 53
-    → let s = gain (units (53 + j) m) in let h = gain-proper (units (53 + j) m) in
-    Within (double-lower s) (double-upper s h) (units (61 + j) (T-answer j (gain-seed j m))) (units (61 + j) 12)
-    (units (61 + j) 39)
-gain-within j m fits = let a = units (53 + j) m in double-near (gain a) (gain-proper a) j (gain-seed j m) (gain-seeds j m fits)
+    → let s = gain (parts (53 + j) m) in let h = gain-proper (parts (53 + j) m) in
+    Within (double-lower s) (double-upper s h) (parts (61 + j) (T-answer j (gain-seed j m))) (parts (61 + j) 12)
+    (parts (61 + j) 39)
+gain-within j m fits = let a = parts (53 + j) m in double-near (gain a) (gain-proper a) j (gain-seed j m) (gain-seeds j m fits)
 
 pub loss-within : (j m : ℕ) (proper : m < 2 ^ (53 + j)) → m ≤ 2 ^ 53 → 4 * m ≤ 3 * 2 ^ (53 + j)
-    → let s = loss (units (53 + j) m) proper in let h = loss-proper (units (53 + j) m) proper in
-    Within (double-lower s) (double-upper s h) (units (61 + j) (T-answer j (loss-seed j m))) (units (61 + j) 12)
-    (units (61 + j) 39)
+    → let s = loss (parts (53 + j) m) proper in let h = loss-proper (parts (53 + j) m) proper in
+    Within (double-lower s) (double-upper s h) (parts (61 + j) (T-answer j (loss-seed j m))) (parts (61 + j) 12)
+    (parts (61 + j) 39)
 loss-within j m proper fits small =
-    let a = units (53 + j) m in
+    let a = parts (53 + j) m in
     double-near (loss a proper) (loss-proper a proper) j (loss-seed j m) (loss-seeds j m proper fits small)
 
 -- ---- ln of m * 2 ^ -(e + 53), below 1/2
 pub ln-below-within : (m b e : ℕ) → 2 ^ 52 ≤ m → m < 2 ^ 53 → 1 ≤ e → e < 2 ^ b → b ≤ 63
-    → Within (ln-below-lower (units 52 m) (suc e)) (ln-below-upper (units 52 m) (suc e))
-    (units (63 - b) (ln-below-answer b e m)) (units (63 - b) 12)
-    (units (63 - b) 42)
+    → Within (ln-below-lower (parts 52 m) (suc e)) (ln-below-upper (parts 52 m) (suc e))
+    (parts (63 - b) (ln-below-answer b e m)) (parts (63 - b) 12)
+    (parts (63 - b) 42)
 unfolding ln-below-answer
 ln-below-within m b e low high some fits few =
     let h = ln-third m low high in
-    let proper = across-proper (ln-argument (units 52 m)) h in
+    let proper = across-proper (ln-argument (parts 52 m)) h in
     let tight = T-tight (beyond m low high) proper 1 (inverse-seed m) (inverse-seeds m low high) in
-    below-near (units 52 m) h e (terms odd) (multiple-near b e (T-answer 1 (inverse-seed m)) some fits few tight)
+    below-near (parts 52 m) h e (terms odd) (multiple-near b e (T-answer 1 (inverse-seed m)) some fits few tight)
 
--- ---- ln between 1 and 2, where x - 1 is n units of 2 ^ -53; and between 1/2 and 1, where 1 - x is
+-- ---- ln between 1 and 2, where x - 1 is n parts of 2 ^ -53; and between 1/2 and 1, where 1 - x is
 pub above-one-within : (m j : ℕ) → 2 ^ 52 ≤ m → m < 2 ^ 53 → let n = 2 * (m - 2 ^ 52) in n * 2 ^ j ≤ 2 ^ 53
-    → Within (ln-lower (units 52 m) 0) (ln-upper (units 52 m) 0) (units (61 + j) (gain-answer j n)) (units (61 + j) 12)
-    (units (61 + j) 39)
+    → Within (ln-lower (parts 52 m) 0) (ln-upper (parts 52 m) 0) (parts (61 + j) (gain-answer j n)) (parts (61 + j) 12)
+    (parts (61 + j) 39)
 unfolding gain-answer ln-lower ln-upper
 above-one-within m j low high fits =
     let sg = gain-seed j (2 * (m - 2 ^ 52) * 2 ^ j) in
     with-none (doubled j (T-answer j sg)
-    (T-near (ln-argument (units 52 m)) (ln-proper (units 52 m)) j sg (above-seeds m j low high fits)))
+    (T-near (ln-argument (parts 52 m)) (ln-proper (parts 52 m)) j sg (above-seeds m j low high fits)))
 
 pub below-one-within : (m j : ℕ) → 2 ^ 52 ≤ m → m < 2 ^ 53 → let n = 2 ^ 53 - m in n * 2 ^ j ≤ 2 ^ 53
-    → Within (ln-below-lower (units 52 m) 1) (ln-below-upper (units 52 m) 1) (units (61 + j) (loss-answer j n))
-    (units (61 + j) 12) (units (61 + j) 39)
+    → Within (ln-below-lower (parts 52 m) 1) (ln-below-upper (parts 52 m) 1) (parts (61 + j) (loss-answer j n))
+    (parts (61 + j) 12) (parts (61 + j) 39)
 unfolding loss-answer
 below-one-within m j low high fits =
     let h = ln-third m low high in
-    let proper = across-proper (ln-argument (units 52 m)) h in
+    let proper = across-proper (ln-argument (parts 52 m)) h in
     let sg = loss-seed j ((2 ^ 53 - m) * 2 ^ j) in
     let tight = T-tight (beyond m low high) proper j sg (below-seeds m j low high fits) in
-    below-near (units 52 m) h 0 (terms odd) (with-none (doubled j (T-answer j sg) tight))
+    below-near (parts 52 m) h 0 (terms odd) (with-none (doubled j (T-answer j sg) tight))
 
 -- ---- the same number written otherwise, and wider distances
 pub within-same : {lower upper : ℕ → Quotient} {v w down up down' up' : Quotient} → Within lower upper v down up → w ≼ v → v ≼ w
@@ -141,20 +141,20 @@ within-same near below above d u = record {
   high = λ n. ≼-trans (near .high n) (⊞-mono above u);
 }
 
--- ---- the last rounding: y units, at most h from v units, lie within one f64's unit where the distances leave room for h
-pub within-rounded : {lower upper : ℕ → Quotient} (k v down up y h unit : ℕ)
-    → Within lower upper (units k v) (units k down) (units k up)
-    → y ≤ v + h → v ≤ y + h → down + h ≤ unit → up + h ≤ unit → Within lower upper (units k y) (units k unit) (units k unit)
-within-rounded {lower} {upper} k v down up y h unit near below above d u =
-    let rounded : units k y ≼ units k v ⊞ units k h = ≼-trans (units-mono k y (v + h) below) (units-split k v h) in
-    let back : units k v ≼ units k y ⊞ units k h = ≼-trans (units-mono k v (y + h) above) (units-split k y h) in
-    let gathered : (a b : ℕ) → a + b ≤ unit → units k a ⊞ units k b
-    ≼ units k unit = λ a b e. ≼-trans (units-join k a b) (units-mono k (a + b) unit e) in
+-- ---- the last rounding: y parts, at most h from v parts, lie within a last place where the distances leave room for h
+pub within-rounded : {lower upper : ℕ → Quotient} (k v down up y h place : ℕ)
+    → Within lower upper (parts k v) (parts k down) (parts k up)
+    → y ≤ v + h → v ≤ y + h → down + h ≤ place → up + h ≤ place → Within lower upper (parts k y) (parts k place) (parts k place)
+within-rounded {lower} {upper} k v down up y h place near below above d u =
+    let rounded : parts k y ≼ parts k v ⊞ parts k h = ≼-trans (parts-mono k y (v + h) below) (parts-split k v h) in
+    let back : parts k v ≼ parts k y ⊞ parts k h = ≼-trans (parts-mono k v (y + h) above) (parts-split k y h) in
+    let gathered : (a b : ℕ) → a + b ≤ place → parts k a ⊞ parts k b
+    ≼ parts k place = λ a b e. ≼-trans (parts-join k a b) (parts-mono k (a + b) place e) in
     record {
       low = λ n.
-          let end = ≼-trans (⊞-under (upper n) (units k down) (units k h)) (⊞-mono ≼-refl (gathered down h d)) in
+          let end = ≼-trans (⊞-under (upper n) (parts k down) (parts k h)) (⊞-mono ≼-refl (gathered down h d)) in
           ≼-trans rounded (≼-trans (⊞-mono (near .low n) ≼-refl) end);
       high = λ n.
-          let end = ≼-trans (⊞-under (units k y) (units k h) (units k up)) (⊞-mono ≼-refl (gathered h up (omega arith))) in
+          let end = ≼-trans (⊞-under (parts k y) (parts k h) (parts k up)) (⊞-mono ≼-refl (gathered h up (omega arith))) in
           ≼-trans (near .high n) (≼-trans (⊞-mono back ≼-refl) end);
     }

@@ -1,5 +1,6 @@
 -- The enclosures of document 01, "What the leaves mean": the ends between which T, atan, ln and ln_1p lie after n terms,
--- and what it is for an answer to lie near every one of them. Definitions only.
+-- and what it is for an answer to lie near every one of them. Definitions, with the six inequalities that they need to be
+-- written: a denominator is above zero, and the argument of T below 1.
 -- T and atan are odd, so all is said of sizes: the sign of an argument is the sign of the answer.
 use Prim.Native.Nat.{ℕ, zero, suc, _+_, _-_, _*_, _<_}
 use native.Mathlib.Nat.{mul-pos, mul-le-mul}

@@ -48,7 +48,7 @@ ln-700 : ln-answer 4 9 6157265115545600 ≡ 3776440698339284654
 unfolding ln-answer T-answer value row numerators
 ln-700 = refl
 
--- ---- ln at 1.5 and 0.75, where x - 1 is 2 ^ 52 and -2 ^ 51 units of 2 ^ -53, and at 0.1
+-- ---- ln at 1.5 and 0.75, where x - 1 is 2 ^ 52 and -2 ^ 51 parts of 2 ^ -53, and at 0.1
 ln-1-5 : gain-answer 0 4503599627370496 ≡ 934938885011285496
 unfolding gain-answer T-answer value row numerators
 ln-1-5 = refl

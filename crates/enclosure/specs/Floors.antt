@@ -1,6 +1,6 @@
 -- What the rounding down of a row and of Horner's rule loses, and what the terms that a row leaves out amount to: at a point
--- of the piece the rule is at most 3 units too low for its 12 terms, and the rest is at most the sum of its coefficients.
--- (A step multiplies by at most 1/16, and loses less than 1 unit twice.) Assumes nothing.
+-- of the piece the rule is at most 3 parts too low for its 12 terms, and the rest is at most the sum of its coefficients.
+-- (A step multiplies by at most 1/16, and loses less than 1 part twice.) Assumes nothing.
 use Prim.Native.Nat.{ℕ, zero, suc, _+_, _*_, _/_, _^_, _≤_, _<_}
 use mathlib.Core.Path.{_≡_, refl}
 use mathlib.Core.Bool.{Bool, true, _&&_}
@@ -61,7 +61,8 @@ below-total [] p q h = omega arith
 below-total (b ∷ bs) p q h =
     rw (pow-succ' q (length bs)) (total-step .law b p q (q ^ length bs) (evaluate bs p q) (total bs) (below-total bs p q h) h)
 
--- ---- one step: r an entry, h the rule's value of the later ones and f the quotient of 4 p h. Q = (2 ^ 58) ^ length, e the exact value
+-- ---- one step: r an entry, h the rule's value of the later ones and f the quotient of 4 p h. Q = (2 ^ 58) ^ length, e the
+-- exact value
 step-low : Order 9 (λ W g b p Q e r h f.
     (con (2 ^ 122) :* Q times r :* W ≼ b :* g) ∷ (con (2 ^ 58) :* W :* Q times f :* con (2 ^ 64) ≼ con 4 :* p :* h)
     ∷ (con (2 ^ 60) :* p times h :* (W :* Q) ≼ con 16 :* g :* e) ∷ []
@@ -70,10 +71,12 @@ step-low = by-below tt
 
 -- (R what is left out)
 step-high : Order 10 (λ W g b p Q e r h f R.
-    (con (2 ^ 122) :* Q times nxt (b :* g) ≼ r :* W :+ W) ∷ (con (2 ^ 58) :* W :* Q times nxt (con 4 :* p :* h) ≼ f :* con (2 ^ 64) :+ con (2 ^ 64))
+    (con (2 ^ 122) :* Q times nxt (b :* g) ≼ r :* W :+ W)
+    ∷ (con (2 ^ 58) :* W :* Q times nxt (con 4 :* p :* h) ≼ f :* con (2 ^ 64) :+ con (2 ^ 64))
     ∷ (con (2 ^ 60) :* p times con 16 :* g :* e ≼ ((h :+ con 3) :* W :+ con 16 :* g :* R) :* Q)
     ∷ (con 12 :* con (2 ^ 58) :* W :* Q :+ con (2 ^ 64) :* g :* R :* Q times p ≼ con (2 ^ 58)) ∷ []
-    ⊩ g :* (b :* (con (2 ^ 58) :* Q) :+ p :* e) :* con (2 ^ 64) ≈ ((r :+ f :+ con 3) :* W :+ g :* R) :* (con (2 ^ 58) :* Q) :* con (2 ^ 64))
+    ⊩ g :* (b :* (con (2 ^ 58) :* Q) :+ p :* e) :* con (2 ^ 64)
+    ≈ ((r :+ f :+ con 3) :* W :+ g :* R) :* (con (2 ^ 58) :* Q) :* con (2 ^ 64))
 step-high = by-below tt
 
 nothing-left : Order 5 (λ W g Q e t. (g times e ≼ t :* Q) ∷ [] ⊩ g :* e ≈ ((con 0 :+ con 3) :* W :+ g :* t) :* Q)
@@ -86,13 +89,15 @@ module _ (W : ℕ) (pos : 0 < W) (p : ℕ) (inside : p ≤ 2 ^ 58) where
   entry-high : (g b : ℕ) → b * g < entry W g b * W + W
   entry-high g b = lt-div-mul-add pos
 
-  pub floors-low : (k g : ℕ) (bs : List ℕ) → horner (4 * p) (entries k W g bs) * (W * (2 ^ 58) ^ length bs) ≤ g * evaluate bs p (2 ^ 58)
+  pub floors-low : (k g : ℕ) (bs : List ℕ) → horner (4 * p) (entries k W g bs) * (W * (2 ^ 58) ^ length bs)
+      ≤ g * evaluate bs p (2 ^ 58)
   floors-low zero g bs = omega arith
   floors-low (suc k) g [] = omega arith
   floors-low (suc k) g (b ∷ bs) =
       let h = horner (4 * p) (entries k W (16 * g) bs) in
       rw (horner-step (4 * p) (entry W g b) (entries k W (16 * g) bs), pow-succ' (2 ^ 58) (length bs))
-      (le-of-mul-le-mul-right (step-low .law W g b p ((2 ^ 58) ^ length bs) (evaluate bs p (2 ^ 58)) (entry W g b) h (4 * p * h / 2 ^ 64)
+      (le-of-mul-le-mul-right (step-low .law W g b p ((2 ^ 58) ^ length bs) (evaluate bs p (2 ^ 58)) (entry W g b) h
+      (4 * p * h / 2 ^ 64)
       (entry-low g b) (div-mul-le-self (4 * p * h) (2 ^ 64)) (floors-low k (16 * g) bs)) (pow-pos 64))
 
   pub floors-high : (k g : ℕ) (bs : List ℕ)
@@ -103,6 +108,7 @@ module _ (W : ℕ) (pos : 0 < W) (p : ℕ) (inside : p ≤ 2 ^ 58) where
   floors-high (suc k) g (b ∷ bs) =
       let h = horner (4 * p) (entries k W (16 * g) bs) in
       rw (horner-step (4 * p) (entry W g b) (entries k W (16 * g) bs), pow-succ' (2 ^ 58) (length bs))
-      (le-of-mul-le-mul-right (step-high .law W g b p ((2 ^ 58) ^ length bs) (evaluate bs p (2 ^ 58)) (entry W g b) h (4 * p * h / 2 ^ 64)
+      (le-of-mul-le-mul-right (step-high .law W g b p ((2 ^ 58) ^ length bs) (evaluate bs p (2 ^ 58)) (entry W g b) h
+      (4 * p * h / 2 ^ 64)
       (left-out k bs)
       (entry-high g b) (lt-div-mul-add (pow-pos 64)) (floors-high k (16 * g) bs) inside) (pow-pos 64))

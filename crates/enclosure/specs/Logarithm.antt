@@ -1,5 +1,5 @@
--- The rule for T(s) is near every enclosure, from a seed: s in units of 2 ^ -(62 + j), 3 too low or 1 too high at most. In
--- these units: the square is 26 units of 2 ^ -64 too low or 9 too high at most, so the sum loses 6 + 2 * 26 units of 2 ^ -63
+-- The rule for T(s) is near every enclosure, from a seed: s in parts of 2 ^ -(62 + j), 3 too low or 1 too high at most. In
+-- these parts: the square is 26 parts of 2 ^ -64 too low or 9 too high at most, so the sum loses 6 + 2 * 26 parts of 2 ^ -63
 -- and gains 2 * 9; what the series leaves out after 44 terms is 2 at most. Assumes nothing.
 use Prim.Native.Nat.{ℕ, _+_, _-_, _*_, _/_, _^_, _≤_, _<_}
 use mathlib.Core.Path.{_≡_, sym, _∙_, ap}
@@ -9,7 +9,7 @@ use native.Mathlib.Omega.{arith}
 use lib.Dec.{leb→le}
 use lib.Pow.{pow-pos, pow-add}
 use Rattle.algebra.specs.Ring.{con, nxt, _:+_, _:*_, _≈_, _⊩_, _times_≼_, Order, by-below}
-use Rattle.enclosure.specs.Quotient.{Quotient, _≼_, over, units, _⊞_, _⊠_}
+use Rattle.enclosure.specs.Quotient.{Quotient, _≼_, over, parts, _⊞_, _⊠_}
 use Rattle.enclosure.specs.Order.{≼-refl, ≼-trans, ⊞-mono, ⊠-mono}
 use Rattle.enclosure.specs.Enclosure.{odd-power, T-term, T-factor, T-lower, T-upper, Within}
 use Rattle.enclosure.specs.Nested.{T-falls, T-nested, near-all, gathered}
@@ -19,7 +19,7 @@ use Rattle.enclosure.specs.Rules.{seed-square, T-answer}
 use Rattle.enclosure.specs.Rows.{value-fits}
 use Rattle.enclosure.specs.Values.{partial, Near, value-low, value-high}
 
--- s is from sg - 1 to sg + 3 units, and at most 3/5
+-- s is from sg - 1 to sg + 3 parts, and at most 3/5
 pub record Seed (s : Quotient) (j sg : ℕ) : Type 0 where
   pub low : sg * s .den ≤ s .num * 2 ^ (62 + j) + s .den
   pub high : s .num * 2 ^ (62 + j) ≤ (sg + 3) * s .den
@@ -133,13 +133,13 @@ module _ (s : Quotient) (proper : s .num < s .den) (j sg : ℕ) (seed : Seed s j
   h-fits : h < 2 ^ 64
   h-fits = value-fits odd w (near .inside)
 
-  partial-low : units (62 + j) B ≼ s ⊠ poly ⊞ units (62 + j) 12
+  partial-low : parts (62 + j) B ≼ s ⊠ poly ⊞ parts (62 + j) 12
   partial-low =
       let k = answer-low .law B sg h (s .num) (s .den) Q (poly .num) (poly .den) (div-mul-le-self (sg * h) (2 ^ 63)) (seed .low)
       (value-low odd z w 9 26 near) h-fits (seed .high) (seed .fits) in
       record { cross = le-of-mul-le-mul-right k (pow-pos 63) }
 
-  partial-high : s ⊠ poly ≼ units (62 + j) (B + 37)
+  partial-high : s ⊠ poly ≼ parts (62 + j) (B + 37)
   partial-high =
       let k = answer-high .law B sg h (s .num) (s .den) Q (poly .num) (poly .den) (lt-div-mul-add (pow-pos 63)) (seed .high)
       (value-high odd z w 9 26 near) h-fits (seed .fits) in
@@ -148,20 +148,20 @@ module _ (s : Quotient) (proper : s .num < s .den) (j sg : ℕ) (seed : Seed s j
   enough : Enough z (terms odd)
   enough = enough-by {y = over 9 24} (terms odd) (record { cross = omega (arith, small-square s (seed .small)) }) (leb→le _ _ tt)
 
-  tail-high : T-factor s proper ⊠ T-term s (terms odd) ≼ units (62 + j) 2
+  tail-high : T-factor s proper ⊠ T-term s (terms odd) ≼ parts (62 + j) 2
   unfolding odd-power
   tail-high =
       let x = power z (terms odd) in
       let D = s .den * s .den - s .num * s .num in
       let d : 16 * (s .den * s .den) ≤ 25 * D = omega (arith, small-square s (seed .small)) in
       let k = tail-fits .law (x .num) (x .den) (s .num) (s .den) Q sg D (seed .high) enough d (seed .fits) in
-      let fits : T-factor s proper ⊠ (x ⊠ (s ⊠ over 1 0)) ≼ units (62 + j) 2 =
+      let fits : T-factor s proper ⊠ (x ⊠ (s ⊠ over 1 0)) ≼ parts (62 + j) 2 =
       record { cross = le-of-mul-le-mul-right k (pow-pos 66) } in
       ≼-trans (⊠-mono ≼-refl (late (T-term s) z (T-factor s proper) (T-falls s proper) (terms odd))) fits
 
   -- THE LAW, of one enclosure: the answer is no higher above its lower end, nor lower below its upper end
   pub T-tight : Within (λ n. T-upper s proper (terms odd)) (λ n. T-lower s (terms odd))
-      (units (62 + j) (T-answer j sg)) (units (62 + j) 12) (units (62 + j) 39)
+      (parts (62 + j) (T-answer j sg)) (parts (62 + j) 12) (parts (62 + j) 39)
   unfolding T-answer T-lower T-upper
   T-tight = record {
     low = λ n. ≼-trans partial-low (⊞-mono (T-expansion s (terms odd) .0) ≼-refl);
@@ -169,5 +169,5 @@ module _ (s : Quotient) (proper : s .num < s .den) (j sg : ℕ) (seed : Seed s j
   }
 
   -- and so of all
-  pub T-near : Within (T-lower s) (T-upper s proper) (units (62 + j) (T-answer j sg)) (units (62 + j) 12) (units (62 + j) 39)
+  pub T-near : Within (T-lower s) (T-upper s proper) (parts (62 + j) (T-answer j sg)) (parts (62 + j) 12) (parts (62 + j) 39)
   T-near = near-all (T-nested s proper) (terms odd) (T-tight .low 0) (T-tight .high 0)

@@ -7,9 +7,22 @@ use mathlib.Core.List.{[], _∷_}
 use native.Mathlib.Nat.{mul-le-mul}
 use native.Mathlib.Omega.{arith}
 use Rattle.algebra.specs.Ring.{con, nxt, _:+_, _:*_, _≈_, _⊩_, _times_≼_, Order, by-below}
-use Rattle.enclosure.specs.Quotient.{Quotient, _≼_, whole, units, _⊞_, _⊠_}
-use Rattle.enclosure.specs.Order.{≼-refl, ≼-trans, ⊞-mono, ⊠-mono, ≼-more, ⊞-under, units-join, units-split}
-use Rattle.enclosure.specs.Enclosure.{sum, odd-power, T-term, T-factor, T-lower, T-upper, one-and-square, euler-ratio, euler-term, atan-lower, atan-upper, Within}
+use Rattle.enclosure.specs.Quotient.{Quotient, _≼_, whole, parts, _⊞_, _⊠_}
+use Rattle.enclosure.specs.Order.{≼-refl, ≼-trans, ⊞-mono, ⊠-mono, ≼-more, ⊞-under, parts-join, parts-split}
+use Rattle.enclosure.specs.Enclosure.{
+  sum,
+  odd-power,
+  T-term,
+  T-factor,
+  T-lower,
+  T-upper,
+  one-and-square,
+  euler-ratio,
+  euler-term,
+  atan-lower,
+  atan-upper,
+  Within,
+}
 
 pub record Falls (a : ℕ → Quotient) (z k : Quotient) : Type 0 where
   pub ratio : (i : ℕ) → a (suc i) ≼ z ⊠ a i
@@ -105,6 +118,7 @@ pub near-all : {lower upper : ℕ → Quotient} → ((n m : ℕ) → lower n ≼
 near-all nest N low high = record { low = λ n. ≼-trans low (⊞-mono (nest N n) ≼-refl); high = λ n. ≼-trans (nest n N) high }
 
 -- (a bound of the partial sum and one of the rest, gathered)
-pub gathered : {x y : Quotient} (k v a b : ℕ) → x ≼ units k (v + a) → y ≼ units k b → x ⊞ y ≼ units k v ⊞ units k (a + b)
+pub gathered : {x y : Quotient} (k v a b : ℕ) → x ≼ parts k (v + a) → y ≼ parts k b → x ⊞ y ≼ parts k v ⊞ parts k (a + b)
 gathered k v a b h g =
-    ≼-trans (⊞-mono (≼-trans h (units-split k v a)) g) (≼-trans (⊞-under (units k v) (units k a) (units k b)) (⊞-mono ≼-refl (units-join k a b)))
+    ≼-trans (⊞-mono (≼-trans h (parts-split k v a)) g)
+    (≼-trans (⊞-under (parts k v) (parts k a) (parts k b)) (⊞-mono ≼-refl (parts-join k a b)))

@@ -5,7 +5,7 @@ use mathlib.Core.List.{[], _∷_}
 use native.Mathlib.Nat.{le-of-mul-le-mul-right, le-of-eq, mul-le-mul-right}
 use native.Mathlib.Omega.{arith}
 use Rattle.algebra.specs.Ring.{_:+_, _:*_, _≈_, _⊩_, _times_≼_, Law, by-ring, Order, by-below}
-use Rattle.enclosure.specs.Quotient.{Quotient, _≼_, units, _⊞_, _⊠_}
+use Rattle.enclosure.specs.Quotient.{Quotient, _≼_, parts, _⊞_, _⊠_}
 
 pub ≼-refl : {x : Quotient} → x ≼ x
 ≼-refl {x} = record { cross = omega arith }
@@ -15,7 +15,8 @@ through = by-below tt
 
 pub ≼-trans : {x y z : Quotient} → x ≼ y → y ≼ z → x ≼ z
 ≼-trans {x} {y} {z} h g = record {
-  cross = le-of-mul-le-mul-right (through .law (x .num) (x .den) (y .num) (y .den) (z .num) (z .den) (h .cross) (g .cross)) (y .pos);
+  cross = le-of-mul-le-mul-right (through .law (x .num) (x .den) (y .num) (y .den) (z .num) (z .den) (h .cross) (g .cross))
+      (y .pos);
 }
 
 sums : Order 8 (λ a b c d a' b' c' d'. (d :* d' times a :* b' ≼ a' :* b) ∷ (b :* b' times c :* d' ≼ c' :* d) ∷ []
@@ -53,15 +54,15 @@ pub ⊞-under : (x y z : Quotient) → x ⊞ y ⊞ z ≼ x ⊞ (y ⊞ z)
 pub ⊞-over : (x y z : Quotient) → x ⊞ (y ⊞ z) ≼ x ⊞ y ⊞ z
 ⊞-over x y z = record { cross = le-of-eq (sym (grouped .law (x .num) (x .den) (y .num) (y .den) (z .num) (z .den))) }
 
--- ---- units
+-- ---- parts
 joined : Law 3 (λ a b q. (a :* q :+ b :* q) :* q ≈ (a :+ b) :* (q :* q))
 joined = by-ring tt
 
-pub units-join : (k a b : ℕ) → units k a ⊞ units k b ≼ units k (a + b)
-units-join k a b = record { cross = le-of-eq (joined .law a b (2 ^ k)) }
+pub parts-join : (k a b : ℕ) → parts k a ⊞ parts k b ≼ parts k (a + b)
+parts-join k a b = record { cross = le-of-eq (joined .law a b (2 ^ k)) }
 
-pub units-split : (k a b : ℕ) → units k (a + b) ≼ units k a ⊞ units k b
-units-split k a b = record { cross = le-of-eq (sym (joined .law a b (2 ^ k))) }
+pub parts-split : (k a b : ℕ) → parts k (a + b) ≼ parts k a ⊞ parts k b
+parts-split k a b = record { cross = le-of-eq (sym (joined .law a b (2 ^ k))) }
 
-pub units-mono : (k a b : ℕ) → a ≤ b → units k a ≼ units k b
-units-mono k a b h = record { cross = mul-le-mul-right (2 ^ k) h }
+pub parts-mono : (k a b : ℕ) → a ≤ b → parts k a ≼ parts k b
+parts-mono k a b h = record { cross = mul-le-mul-right (2 ^ k) h }

@@ -2,7 +2,7 @@
 -- 0 ≤ z ≤ 1/2: Euler's, c_n = (2/3) (4/5) .. (2n / (2n+1)) with 64 terms, and that of T(s)/s, c_n = 1 / (2n+1) with 44 terms.
 -- [0, 1/2] is cut into pieces of 1/64. On the piece from i/64 the sum is taken as the first 12 terms of its expansion there,
 --   S(i/64 + y) = h_0 + h_1 y + h_2 y^2 + ..,
--- whose coefficients, scaled by 4 ^ -k and rounded down to units of 2 ^ -63, are the row i of a table. Definitions only.
+-- whose coefficients, scaled by 4 ^ -k and rounded down to parts of 2 ^ -63, are the row i of a table. Definitions only.
 use Prim.Native.Nat.{ℕ, zero, suc, _+_, _*_, _/_, _%_, _^_}
 use mathlib.Core.Bool.{Bool, true, false, _&&_}
 use mathlib.Core.List.{List, [], _∷_}
@@ -78,20 +78,20 @@ row-denominator s = denominator s * 64 ^ terms s
 unfoldable pub row : Series → ℕ → List ℕ
 row s i = entries row-length (row-denominator s) (2 ^ 63) (shifted i (numerators s))
 
--- ---- Horner's rule in whole numbers: the row and the answer in units of 2 ^ -63, d in units of 2 ^ -64
+-- ---- Horner's rule in whole numbers: the row and the answer in parts of 2 ^ -63, d in parts of 2 ^ -64
 abbrev pub horner : ℕ → List ℕ → ℕ
 horner d [] = 0
 horner d (r ∷ []) = r
 horner d (r ∷ q ∷ rs) = r + d * horner d (q ∷ rs) / 2 ^ 64
 
--- z's piece i, and 4 (z - i/64) in units of 2 ^ -64, where x is z in units of 2 ^ -64
+-- z's piece i, and 4 (z - i/64) in parts of 2 ^ -64, where x is z in parts of 2 ^ -64
 abbrev pub piece : ℕ → ℕ
 piece x = x / 2 ^ 58
 
 abbrev pub offset : ℕ → ℕ
 offset x = 4 * (x % 2 ^ 58)
 
--- S(z) in units of 2 ^ -63
+-- S(z) in parts of 2 ^ -63
 unfoldable pub value : Series → ℕ → ℕ
 value s x = horner (offset x) (row s (piece x))
 

@@ -24,9 +24,9 @@ whole n = record { num = n; den = 1; pos = omega arith }
 abbrev pub over : ℕ → ℕ → Quotient
 over a b = record { num = a; den = suc b; pos = omega arith }
 
--- n units of 2 ^ -k
-abbrev pub units : ℕ → ℕ → Quotient
-units k n = record { num = n; den = 2 ^ k; pos = pow-pos k }
+-- n parts of 2 ^ -k
+abbrev pub parts : ℕ → ℕ → Quotient
+parts k n = record { num = n; den = 2 ^ k; pos = pow-pos k }
 
 abbrev pub _⊞_ : Quotient → Quotient → Quotient
 x ⊞ y = record { num = x .num * y .den + y .num * x .den; den = x .den * y .den; pos = mul-pos (x .pos) (y .pos) }

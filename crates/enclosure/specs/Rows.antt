@@ -1,4 +1,4 @@
--- What is computed of the rows: the entries fit a word, the first is 1 at least, and what a row leaves out is at most 3 units of
+-- What is computed of the rows: the entries fit a word, the first is 1 at least, and what a row leaves out is at most 3 parts of
 -- 2 ^ -63. So `value` fits a word, too. And a table that passes the test `right-row` holds the rows. Assumes nothing.
 use Prim.Native.Nat.{ℕ, zero, suc, _+_, _*_, _^_, _≤_, _<_}
 use mathlib.Core.Path.{_≡_, refl, sym, ap₂}
@@ -12,7 +12,23 @@ use lib.ListN.{length, getD}
 use lib.Pow.{pow-pos}
 use lib.Ieee.Fits.{and-l, and-r}
 use Rattle.algebra.specs.Order.{lt-or-le}
-use Rattle.enclosure.specs.Pieces.{Series, euler, odd, pieces, row-length, row-denominator, numerators, shifted, row, piece, offset, value, same-list, right-row, right-rows}
+use Rattle.enclosure.specs.Pieces.{
+  Series,
+  euler,
+  odd,
+  pieces,
+  row-length,
+  row-denominator,
+  numerators,
+  shifted,
+  row,
+  piece,
+  offset,
+  value,
+  same-list,
+  right-row,
+  right-rows,
+}
 use Rattle.enclosure.specs.Floors.{horner-least, all-fit, horner-fits, left-out}
 
 -- ---- a test of all numbers below n
@@ -27,7 +43,7 @@ all-at f (suc n) t i h = elim (lt-or-le i n) [
   | inr l ↦ let e : i ≡ n = omega arith in rw e (and-l (f n) (all-below f n) t)
 ]
 
--- ---- computed: the entries fit a word and the first is 1 at least, and what the rows leave out is at most 3 units
+-- ---- computed: the entries fit a word and the first is 1 at least, and what the rows leave out is at most 3 parts
 abbrev pub good-row : List ℕ → Bool
 good-row rs = leb (2 ^ 63) (getD rs 0 0) && all-fit rs
 
@@ -40,7 +56,8 @@ pub row-fits : (s : Series) (i : ℕ) → i < pieces s → T (all-fit (row s i))
 row-fits s i h = and-r (leb (2 ^ 63) (getD (row s i) 0 0)) (all-fit (row s i)) (row-good s i h)
 
 row-first : (s : Series) (i : ℕ) → i < pieces s → 2 ^ 63 ≤ getD (row s i) 0 0
-row-first s i h = leb→le (2 ^ 63) (getD (row s i) 0 0) (and-l (leb (2 ^ 63) (getD (row s i) 0 0)) (all-fit (row s i)) (row-good s i h))
+row-first s i h = leb→le (2 ^ 63) (getD (row s i) 0 0)
+    (and-l (leb (2 ^ 63) (getD (row s i) 0 0)) (all-fit (row s i)) (row-good s i h))
 
 abbrev pub little-left : Series → ℕ → Bool
 little-left s i = leb (2 ^ 63 * left-out row-length (shifted i (numerators s))) (3 * row-denominator s)
@@ -73,7 +90,8 @@ same-list-is (x ∷ xs) (y ∷ ys) t =
 pub row-is : (s : Series) (i : ℕ) (rs : List ℕ) → T (right-row s i rs) → row s i ≡ rs
 row-is s i rs t = sym (same-list-is rs (row s i) t)
 
-pub rows-are : (s : Series) (i : ℕ) (rows : List (List ℕ)) → T (right-rows s i rows) → (k : ℕ) → k < length rows → row s (i + k) ≡ getD rows k []
+pub rows-are : (s : Series) (i : ℕ) (rows : List (List ℕ)) → T (right-rows s i rows) → (k : ℕ) → k < length rows → row s (i + k)
+    ≡ getD rows k []
 rows-are s i [] t k h = absurd (omega arith)
 rows-are s i (rs ∷ rows) t zero h =
     let e : i + 0 ≡ i = omega arith in

@@ -1,4 +1,4 @@
--- The seeds of ln and ln_1p are seeds: s in units of 2 ^ -(62 + j), 3 too low or 1 too high at most. Assumes nothing.
+-- The seeds of ln and ln_1p are seeds: s in parts of 2 ^ -(62 + j), 3 too low or 1 too high at most. Assumes nothing.
 use Prim.Native.Nat.{ℕ, zero, suc, _+_, _-_, _*_, _^_, _≤_, _<_}
 use mathlib.Core.Path.{_≡_, sym, ap}
 use mathlib.Core.List.{[], _∷_}
@@ -7,7 +7,7 @@ use native.Mathlib.Nat.{mul-le-mul-right}
 use native.Mathlib.Omega.{arith}
 use lib.Pow.{pow-pos, pow-add}
 use Rattle.algebra.specs.Ring.{con, nxt, _:+_, _:*_, _≈_, _⊩_, _times_≼_, Order, by-below}
-use Rattle.enclosure.specs.Quotient.{Quotient, units}
+use Rattle.enclosure.specs.Quotient.{Quotient, parts}
 use Rattle.enclosure.specs.Enclosure.{ln-argument, gain, loss}
 use Rattle.enclosure.specs.Rules.{part, gain-seed, loss-seed, ln-seed, inverse-seed}
 use Rattle.enclosure.specs.Addition.{across}
@@ -24,7 +24,7 @@ ln-high = by-below tt
 ln-fits : Order 2 (λ p q. (con (2 ^ 62) times con 3 :* p ≼ q) ∷ [] ⊩ con 2 :* p :* con (2 ^ 62) ≈ q :* con (2 ^ 62))
 ln-fits = by-below tt
 
-pub ln-seeds : (m : ℕ) → 2 ^ 52 ≤ m → m < 2 ^ 53 → Seed (ln-argument (units 52 m)) 1 (ln-seed m)
+pub ln-seeds : (m : ℕ) → 2 ^ 52 ≤ m → m < 2 ^ 53 → Seed (ln-argument (parts 52 m)) 1 (ln-seed m)
 ln-seeds m low high =
     let p = m - 2 ^ 52 in
     let q = m + 2 ^ 52 in
@@ -47,12 +47,12 @@ inverse-high : Order 3 (λ g p q. (con 2 times nxt (con 2 :* p :* con (2 ^ 62)) 
 inverse-high = by-below tt
 
 -- (m-1) / (m+1) is at most 1/3, and across it lies r
-pub ln-third : (m : ℕ) → 2 ^ 52 ≤ m → m < 2 ^ 53 → let s = ln-argument (units 52 m) in 3 * s .num ≤ s .den
+pub ln-third : (m : ℕ) → 2 ^ 52 ≤ m → m < 2 ^ 53 → let s = ln-argument (parts 52 m) in 3 * s .num ≤ s .den
 ln-third m low high = omega arith
 
 module _ (m : ℕ) (low : 2 ^ 52 ≤ m) (high : m < 2 ^ 53) where
   abbrev pub beyond : Quotient
-  beyond = across (ln-argument (units 52 m)) (ln-third m low high)
+  beyond = across (ln-argument (parts 52 m)) (ln-third m low high)
 
   pub beyond-num : beyond .num ≡ 2 * (2 ^ 53 - m)
   beyond-num = omega arith
@@ -94,7 +94,7 @@ gain-fits = by-below tt
 gain-small : (m J : ℕ) → m ≤ 2 ^ 53 → 1 ≤ J → 5 * m ≤ 3 * (2 * (2 ^ 53 * J) + m)
 gain-small m J h p = omega arith
 
-pub gain-seeds : (j m : ℕ) → m ≤ 2 ^ 53 → Seed (gain (units (53 + j) m)) j (gain-seed j m)
+pub gain-seeds : (j m : ℕ) → m ≤ 2 ^ 53 → Seed (gain (parts (53 + j) m)) j (gain-seed j m)
 gain-seeds j m h =
     let J = 2 ^ j in
     let c = part j m in
@@ -187,7 +187,7 @@ rests (suc i) m q h a e =
     }
 
 pub loss-seeds : (j m : ℕ) (proper : m < 2 ^ (53 + j)) → m ≤ 2 ^ 53 → 4 * m ≤ 3 * 2 ^ (53 + j)
-    → Seed (loss (units (53 + j) m) proper) j (loss-seed j m)
+    → Seed (loss (parts (53 + j) m) proper) j (loss-seed j m)
 loss-seeds j m proper h a =
     let J = 2 ^ j in
     let q = 2 * 2 ^ (53 + j) - m in
@@ -237,7 +237,7 @@ seed-same r r' j sg e h =
       small = le-of-mul-le-mul-right (same-small .law n d (r' .num) (r' .den) (h .small) back) (r .pos);
     }
 
--- ---- ln between 1/2 and 2: the distance from 1 is n units of 2 ^ -53, shifted up by j (J = 2 ^ j)
+-- ---- ln between 1/2 and 2: the distance from 1 is n parts of 2 ^ -53, shifted up by j (J = 2 ^ j)
 above-same : (p q J : ℕ) → q ≡ 2 ^ 53 + p → 2 * p * J * q ≡ p * (2 * (2 ^ 53 * J) + 2 * p * J)
 above-same p q J e = rw e (omega arith)
 
@@ -254,11 +254,11 @@ module _ (m j : ℕ) (low : 2 ^ 52 ≤ m) (high : m < 2 ^ 53) where
   scale : 2 ^ (53 + j) ≡ 2 ^ 53 * J
   scale = pow-add 2 53 j
 
-  pub above-seeds : let n = 2 * (m - 2 ^ 52) in n * J ≤ 2 ^ 53 → Seed (ln-argument (units 52 m)) j (gain-seed j (n * J))
+  pub above-seeds : let n = 2 * (m - 2 ^ 52) in n * J ≤ 2 ^ 53 → Seed (ln-argument (parts 52 m)) j (gain-seed j (n * J))
   above-seeds fits =
       let n = 2 * (m - 2 ^ 52) in
       let same = above-same (m - 2 ^ 52) (m + 2 ^ 52) J (omega arith) in
-      seed-same (gain (units (53 + j) (n * J))) (ln-argument (units 52 m)) j (gain-seed j (n * J)) (rw scale same)
+      seed-same (gain (parts (53 + j) (n * J))) (ln-argument (parts 52 m)) j (gain-seed j (n * J)) (rw scale same)
       (gain-seeds j (n * J) fits)
 
   pub below-seeds : let n = 2 ^ 53 - m in n * J ≤ 2 ^ 53 → Seed (beyond m low high) j (loss-seed j (n * J))
@@ -271,5 +271,5 @@ module _ (m j : ℕ) (low : 2 ^ 52 ≤ m) (high : m < 2 ^ 53) where
       let den : 2 * 2 ^ (53 + j) - n * J ≡ (2 ^ 53 + m) * J = rw scale (loss-den n (2 ^ 53 + m) J (omega arith)) in
       let same : n * J * beyond m low high .den ≡ beyond m low high .num * (2 * 2 ^ (53 + j) - n * J) =
       rw (beyond-num m low high, beyond-den m low high, den) (below-same n (2 ^ 53 + m) J) in
-      seed-same (loss (units (53 + j) (n * J)) proper) (beyond m low high) j (loss-seed j (n * J)) same
+      seed-same (loss (parts (53 + j) (n * J)) proper) (beyond m low high) j (loss-seed j (n * J)) same
       (loss-seeds j (n * J) proper fits small)

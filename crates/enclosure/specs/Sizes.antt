@@ -1,4 +1,4 @@
--- The answers have enough digits, so that the rules' units are small beside an f64's, and not too many for a word. Assumes
+-- The answers have enough digits, so that the rules' parts are small beside an f64's, and not too many for a word. Assumes
 -- nothing.
 use Prim.Native.Nat.{ℕ, _+_, _-_, _*_, _/_, _^_, _≤_, _<_}
 use mathlib.Core.List.{[], _∷_}
@@ -7,7 +7,7 @@ use native.Mathlib.Nat.{mul-le-mul-left, mul-le-mul-right}
 use native.Mathlib.Omega.{arith}
 use lib.Pow.{pow-pos}
 use Rattle.algebra.specs.Ring.{con, nxt, _:+_, _:*_, _≈_, _⊩_, _times_≼_, Order, by-below}
-use Rattle.enclosure.specs.Quotient.{Quotient, units}
+use Rattle.enclosure.specs.Quotient.{Quotient, parts}
 use Rattle.enclosure.specs.Enclosure.{ln-argument}
 use Rattle.enclosure.specs.Pieces.{euler, odd, pieces, piece, value}
 use Rattle.enclosure.specs.Rules.{square, share, front, atan-answer, steep-answer, seed-square, T-answer, part, gain-seed}
@@ -19,8 +19,8 @@ use Rattle.enclosure.specs.Logarithm as logarithm
 use Rattle.enclosure.specs.Seeds.{ln-seeds, beyond, inverse-seeds, above-seeds, below-seeds}
 use Rattle.enclosure.specs.Steep.{inverse-most}
 
--- t is a whole number of units
-pub exact-floor : (j tau : ℕ) → tau ≤ 2 ^ 62 → atan.Floor (units (62 + j) tau) j tau
+-- t is a whole number of parts
+pub exact-floor : (j tau : ℕ) → tau ≤ 2 ^ 62 → atan.Floor (parts (62 + j) tau) j tau
 exact-floor j tau h = record {
   low = omega arith;
   high = omega (arith, pow-pos (62 + j));
@@ -38,7 +38,7 @@ module _ (j tau : ℕ) (high : tau ≤ 2 ^ 62) where
   f = share (square j tau)
 
   pub share-small : f ≤ 2 ^ 61
-  share-small = atan.share-fits (units (62 + j) tau) j tau (exact-floor j tau high)
+  share-small = atan.share-fits (parts (62 + j) tau) j tau (exact-floor j tau high)
 
   pub share-inside : piece (4 * f) < pieces euler
   share-inside = omega (arith, share-small)
@@ -121,7 +121,7 @@ ln-size b e m = multiple-size b e (T-answer 1 (ln-seed m))
 pub ln-fits : (m b e : ℕ) → 2 ^ 52 ≤ m → m < 2 ^ 53 → 1 ≤ e → e < 2 ^ b → ln-answer b e m < 2 ^ 64
 unfolding ln-answer
 ln-fits m b e low high =
-    multiple-fits b e (T-answer 1 (ln-seed m)) (T-fits (ln-argument (units 52 m)) 1 (ln-seed m) (ln-seeds m low high))
+    multiple-fits b e (T-answer 1 (ln-seed m)) (T-fits (ln-argument (parts 52 m)) 1 (ln-seed m) (ln-seeds m low high))
 
 pub ln-below-size : (b e m : ℕ) → 2 ^ b ≤ 2 * e → 2 ^ 61 ≤ ln-below-answer b e m
 unfolding ln-below-answer
@@ -132,13 +132,13 @@ unfolding ln-below-answer
 ln-below-fits m b e low high =
     multiple-fits b e (T-answer 1 (inverse-seed m)) (T-fits (beyond m low high) 1 (inverse-seed m) (inverse-seeds m low high))
 
--- ---- ln between 1/2 and 2, where the distance from 1 is n units of 2 ^ -53, n of 53 - j digits
+-- ---- ln between 1/2 and 2, where the distance from 1 is n parts of 2 ^ -53, n of 53 - j digits
 pub above-one-size : (m j : ℕ) → 2 ^ 52 ≤ m → m < 2 ^ 53 → let n = 2 * (m - 2 ^ 52) in 2 ^ 52 ≤ n * 2 ^ j → n * 2 ^ j ≤ 2 ^ 53
     → (2 ^ 59 ≤ gain-answer j n) × (gain-answer j n < 2 ^ 63)
 unfolding gain-answer
 above-one-size m j low high some fits =
     let k = 2 * (m - 2 ^ 52) * 2 ^ j in
-    let s = ln-argument (units 52 m) in
+    let s = ln-argument (parts 52 m) in
     let seed = above-seeds m j low high fits in
     (le-trans (gain-size j k some) (T-size s j (gain-seed j k) seed), T-fits s j (gain-seed j k) seed)
 

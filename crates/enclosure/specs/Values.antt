@@ -1,5 +1,5 @@
--- `value` is near the exact partial sum: 6 units of 2 ^ -63 too low at most where its argument is exact, and 2 more for each
--- unit of 2 ^ -64 that the argument is off. Assumes nothing.
+-- `value` is near the exact partial sum: 6 parts of 2 ^ -63 too low at most where its argument is exact, and 2 more for each
+-- part of 2 ^ -64 that the argument is off. Assumes nothing.
 use Prim.Native.Nat.{ℕ, zero, suc, _+_, _*_, _%_, _^_, _≤_, _<_}
 use mathlib.Core.Path.{_≡_, sym, _∙_, ap}
 use mathlib.Core.List.{List, [], _∷_}
@@ -9,9 +9,23 @@ use lib.Dec.{leb→le}
 use lib.ListN.{length}
 use lib.Pow.{pow-pos}
 use Rattle.algebra.specs.Ring.{con, _:+_, _:*_, _≈_, _⊩_, _times_≼_, Order, by-below}
-use Rattle.enclosure.specs.Quotient.{Quotient, _≼_, whole, units, _⊞_}
+use Rattle.enclosure.specs.Quotient.{Quotient, _≼_, whole, parts, _⊞_}
 use Rattle.enclosure.specs.Order.{≼-refl, ≼-trans, ⊞-mono}
-use Rattle.enclosure.specs.Pieces.{Series, euler, odd, terms, pieces, denominator, row-length, row-denominator, numerators, shifted, row, piece, value}
+use Rattle.enclosure.specs.Pieces.{
+  Series,
+  euler,
+  odd,
+  terms,
+  pieces,
+  denominator,
+  row-length,
+  row-denominator,
+  numerators,
+  shifted,
+  row,
+  piece,
+  value,
+}
 use Rattle.enclosure.specs.Expansion.{coefficient, exact}
 use Rattle.enclosure.specs.Shifted.{evaluate, length-shifted, shifted-value, mul-pow, length-numerators, exact-is}
 use Rattle.enclosure.specs.Floors.{left-out, floors-low, floors-high}
@@ -64,7 +78,7 @@ module _ (s : Series) (x : ℕ) (inside : piece x < pieces s) where
   Q = (2 ^ 58) ^ terms s
 
   abbrev e : Quotient
-  e = partial s (units 64 x)
+  e = partial s (parts 64 x)
 
   W-pos : 0 < W
   W-pos = mul-pos (product-pos s) (one-le-pow (terms s) 64 (omega arith))
@@ -85,27 +99,28 @@ module _ (s : Series) (x : ℕ) (inside : piece x < pieces s) where
   same-scale = rw (mul-pow 64 (2 ^ 58) (terms s)) (omega arith)
 
   same-number : e .num * (W * Q) ≡ evaluate bs p (2 ^ 58) * e .den
-  same-number = rw (← same-scale, same-value) (exact-is s (units 64 x))
+  same-number = rw (← same-scale, same-value) (exact-is s (parts 64 x))
 
   scale-pos : 0 < W * Q
   scale-pos = mul-pos W-pos (one-le-pow (terms s) (2 ^ 58) (omega arith))
 
-  value-below : units 63 (value s x) ≼ e
+  value-below : parts 63 (value s x) ≼ e
   unfolding value row
   value-below =
       let low = rw bs-length at (floors-low W W-pos p p-fits row-length (2 ^ 63) bs) in
       let k = at-low .law (value s x) (e .num) (e .den) W Q (evaluate bs p (2 ^ 58)) low (le-of-eq (sym same-number)) in
       record { cross = le-of-mul-le-mul-right k scale-pos }
 
-  value-above : e ≼ units 63 (value s x + 6)
+  value-above : e ≼ parts 63 (value s x + 6)
   unfolding value row
   value-above =
       let high = rw bs-length at (floors-high W W-pos p p-fits row-length (2 ^ 63) bs) in
       let rest = leb→le (2 ^ 63 * left-out row-length bs) (3 * W) (rest-fits s i inside) in
-      let k = at-high .law (value s x) (e .num) (e .den) W Q (evaluate bs p (2 ^ 58)) (left-out row-length bs) high rest (le-of-eq same-number) in
+      let k = at-high .law (value s x) (e .num) (e .den) W Q (evaluate bs p (2 ^ 58)) (left-out row-length bs) high rest
+      (le-of-eq same-number) in
       record { cross = le-of-mul-le-mul-right k scale-pos }
 
--- ---- x is z in units of 2 ^ -64, `al` too high at most or `be` too low, and z is 1/2 at most
+-- ---- x is z in parts of 2 ^ -64, `al` too high at most or `be` too low, and z is 1/2 at most
 pub record Near (s : Series) (z : Quotient) (x al be : ℕ) : Type 0 where
   pub low : x * z .den ≤ z .num * 2 ^ 64 + al * z .den
   pub high : z .num * 2 ^ 64 ≤ (x + be) * z .den
@@ -121,21 +136,22 @@ point-high : Order 4 (λ x be n d. (con (2 ^ 64) times n :* con (2 ^ 64) ≼ (x 
     ⊩ n :* (con (2 ^ 64) :* con (2 ^ 64)) ≈ (x :* con (2 ^ 64) :+ be :* con (2 ^ 64)) :* d)
 point-high = by-below tt
 
--- (units of 2 ^ -64 taken four times are units of 2 ^ -63 taken twice)
+-- (parts of 2 ^ -64 taken four times are parts of 2 ^ -63 taken twice)
 sum-low : Order 4 (λ v a n d. (con 1 times v :* (d :* (con 1 :* con (2 ^ 64)))
     ≼ (n :* (con 1 :* con (2 ^ 64)) :+ con 4 :* a :* d) :* con (2 ^ 63)) ∷ []
     ⊩ v :* d :* con (2 ^ 64) ≈ (n :* con (2 ^ 63) :+ con 2 :* a :* d) :* con (2 ^ 64))
 sum-low = by-below tt
 
 sum-high : Order 4 (λ v b n d.
-    (con 1 times n :* (con (2 ^ 63) :* (con 1 :* con (2 ^ 64))) ≼ ((v :+ con 6) :* (con 1 :* con (2 ^ 64)) :+ con 4 :* b :* con (2 ^ 63)) :* d) ∷ []
+    (con 1 times n :* (con (2 ^ 63) :* (con 1 :* con (2 ^ 64))) ≼
+    ((v :+ con 6) :* (con 1 :* con (2 ^ 64)) :+ con 4 :* b :* con (2 ^ 63)) :* d) ∷ []
     ⊩ n :* con (2 ^ 63) :* con (2 ^ 64) ≈ (v :+ con 6 :+ con 2 :* b) :* d :* con (2 ^ 64))
 sum-high = by-below tt
 
 -- THE LAWS
 module _ (s : Series) (z : Quotient) (x al be : ℕ) (near : Near s z x al be) where
   abbrev here : Quotient
-  here = units 64 x
+  here = parts 64 x
 
   here-half : here ≼ half
   here-half = record { cross = omega (arith, near .fits) }
@@ -146,15 +162,15 @@ module _ (s : Series) (z : Quotient) (x al be : ℕ) (near : Near s z x al be) w
   pub value-low : value s x * partial s z .den ≤ partial s z .num * 2 ^ 63 + 2 * al * partial s z .den
   value-low =
       let e = partial s z in
-      let point : here ≼ z ⊞ units 64 al = record { cross = point-low .law x al (z .num) (z .den) (near .low) } in
-      let rise = exact-rises (coefficient s) (coefficient-small s) (units 64 al) point here-half z-half (terms s) 0 in
+      let point : here ≼ z ⊞ parts 64 al = record { cross = point-low .law x al (z .num) (z .den) (near .low) } in
+      let rise = exact-rises (coefficient s) (coefficient-small s) (parts 64 al) point here-half z-half (terms s) 0 in
       let h = ≼-trans (value-below s x (near .inside)) rise in
       le-of-mul-le-mul-right (sum-low .law (value s x) al (e .num) (e .den) (h .cross)) (pow-pos 64)
 
   pub value-high : partial s z .num * 2 ^ 63 ≤ (value s x + 6 + 2 * be) * partial s z .den
   value-high =
       let e = partial s z in
-      let point : z ≼ here ⊞ units 64 be = record { cross = point-high .law x be (z .num) (z .den) (near .high) } in
-      let rise = exact-rises (coefficient s) (coefficient-small s) (units 64 be) point z-half here-half (terms s) 0 in
+      let point : z ≼ here ⊞ parts 64 be = record { cross = point-high .law x be (z .num) (z .den) (near .high) } in
+      let rise = exact-rises (coefficient s) (coefficient-small s) (parts 64 be) point z-half here-half (terms s) 0 in
       let h = ≼-trans rise (⊞-mono (value-above s x (near .inside)) ≼-refl) in
       le-of-mul-le-mul-right (sum-high .law (value s x) be (e .num) (e .den) (h .cross)) (pow-pos 64)

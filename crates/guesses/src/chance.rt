@@ -36,7 +36,7 @@ fn field(range: Range, chance: u64) -> u64
 }
 
 // The field by a step of the generator, the digits by two.
-pub fn draw(range: Range, seed: u64) -> Drawn {
+pub(crate) fn draw(range: Range, seed: u64) -> Drawn {
     let a = next(seed);
     let b = next(a);
     let c = next(b);

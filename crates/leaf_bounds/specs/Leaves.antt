@@ -1,5 +1,5 @@
 -- How large atan, ln and ln(1 + a) - ln(1 - a) are at an argument of 2 ^ -90 to 2 ^ 526, above 1 for ln: from 2 ^ -104 to
--- 2 ^ 16, or no number. A rule's answer has 60 to 64 digits of a known unit (`Sizes`), so its size is known within a few
+-- 2 ^ 16, or no number. A rule's answer has 60 to 64 digits of a known part (`Sizes`), so its size is known within a few
 -- powers of two. Assumes nothing.
 use Prim.Native.Nat.{ℕ, _+_, _-_, _*_, _/_, _^_, _≤_, _<_}
 use mathlib.Core.Path.{_≡_, sym, ap, _∙_, subst}

@@ -6,10 +6,10 @@ use mathlib.Core.Bool.{Bool, true, false, _&&_, cond}
 use mathlib.Core.List.{List, [], _∷_, _++_, append-assoc}
 use native.Mathlib.Numerals.{add-one}
 use native.Mathlib.Omega.{arith}
-use borrow.Author.Tests.{eqb-true, eq-eqb, ne-eqb}
-use lib.Dec.{eqb, lit<, lit≤}
+use borrow.Author.Tests.{eqb-true, eq-eqb, ne-eqb, ltb-true, ltb-false}
+use lib.Dec.{eqb, ltb, lit<, lit≤}
 use lib.ListN.{length, getD, take, drop, length-append, length-drop, drop-of-length-le, take-append-drop}
-use lib.Seq.{drop-cons, drop-drop, drop-append-add, take-at, getD-append-seam, length-take-le}
+use lib.Seq.{drop-cons, drop-drop, drop-append-add, take-all, take-at, getD-append-seam, length-take-le}
 use Rattle.digits.specs.Digits.{digits, numberFrom, wordText}
 use Rattle.digits.specs.DigitLaws.{digits-length, word-length, read-written, written-read}
 use Rattle.digits.specs.declared.Word.{Word}
@@ -187,3 +187,16 @@ too-long l h = rw (
   ne-eqb (length l) 53 (λ e. omega arith),
   ne-eqb (length l) 70 (λ e. omega arith),
 )
+
+-- of a line it is enough to hold one byte more than the longest good one has
+pub held-call : (l : List ℕ) → callOf (take (longestLine + 1) l) ≡ callOf l
+held-call l = go (ltb (longestLine + 1) (length l)) refl
+  where
+    go : (t : Bool) → ltb (longestLine + 1) (length l) ≡ t → callOf (take (longestLine + 1) l) ≡ callOf l
+    go true e =
+        let h : longestLine + 1 < length l = ltb-true (longestLine + 1) (length l) e in
+        rw (
+          too-long (take (longestLine + 1) l) (omega (arith, length-take-le (longestLine + 1) l (omega arith))),
+          too-long l (omega arith),
+        )
+    go false e = rw (take-all (longestLine + 1) l (ltb-false (longestLine + 1) (length l) e))

@@ -1,16 +1,18 @@
 -- How long the replies are. Assumes nothing.
 use Prim.Native.Nat.{ℕ, _≤_}
 use mathlib.Core.Bool.{Bool, true, false, cond}
-use mathlib.Core.List.{List, [], _∷_, append-nil}
+use mathlib.Core.List.{List, [], _∷_, _++_}
 use native.Mathlib.Omega.{arith}
 use lib.Dec.{eqb}
-use lib.ListN.{length}
+use lib.ListN.{length, take}
 use Rattle.listing_read.specs.Lines.{callOf}
 use Rattle.answers.specs.Answers.{answerOf}
 use Rattle.listing_write.specs.Text.{longestReply}
 use Rattle.listing_write.specs.Lengths.{text-length}
 use Rattle.listing_stream.specs.Replies.{replyTo, replyOf}
-use Rattle.listing_stream.specs.Stream.{saidAt, saidOf}
+use Rattle.listing_stream.specs.Stream.{heldLength, listingByte}
+use Rattle.writing.specs.Fed.{quiet}
+use Rattle.writing.specs.FedLaws.{Short}
 use Rattle.listing_read.specs.declared.Line.{Line}
 use Rattle.listing_read.specs.declared.Line.the-variants.{Good, Bad}
 
@@ -25,10 +27,12 @@ unfolding replyOf
 reply-length l = reply-to-length (callOf l)
 
 -- nor is what is said to one byte
-pub said-length : (held : List ℕ) (b : ℕ) → length (saidOf held (b ∷ [])) ≤ longestReply
-unfolding saidOf saidAt
-said-length held b = rw append-nil (go (eqb b 10))
+pub byte-short : (held : List ℕ) (b : ℕ) → Short longestReply 0 (listingByte held b)
+unfolding listingByte
+byte-short held b = go (eqb b 10)
   where
-    go : (t : Bool) → length (cond t (replyOf held) []) ≤ longestReply
-    go true = reply-length held
-    go false = omega arith
+    go : (t : Bool)
+        → Short longestReply 0
+        (cond t (record { said = replyOf held; count = 0; left = [] }) (quiet (take heldLength (held ++ b ∷ []))))
+    go true = (reply-length held, omega arith)
+    go false = (omega arith, omega arith)

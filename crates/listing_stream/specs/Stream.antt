@@ -1,14 +1,14 @@
 -- The listing as its input comes, a byte after the other. Definitions only.
-use Prim.Native.Nat.{ℕ, _+_, _≤_}
-use mathlib.Core.Path.{_≡_}
-use mathlib.Core.Bool.{cond}
+use Prim.Native.Nat.{ℕ, _+_}
+use mathlib.Core.Bool.{false, cond}
 use mathlib.Core.List.{List, [], _∷_, _++_}
 use lib.Dec.{eqb}
 use lib.ListN.{take}
 use Rattle.listing_read.specs.Lines.{longestLine}
 use Rattle.listing_stream.specs.Replies.{replyOf}
 use Rattle.writing.specs.Input.{lastLine, linesFrom}
-use Rattle.writing.specs.Written.{Put}
+use Rattle.writing.specs.Fed.{Ran, quiet, Fed, run}
+use Rattle.listing_stream.specs.declared.stream.Progress.{Progress}
 
 -- ---- what is right: a header, and a reply to each line of the input
 -- "carlson 1", and the line's end
@@ -26,20 +26,14 @@ listingOf input = headerText ++ repliesTo (linesFrom [] input)
 abbrev pub heldLength : ℕ
 heldLength = longestLine + 1
 
-unfoldable pub heldAfter : List ℕ → ℕ → List ℕ
-heldAfter held b = cond (eqb b 10) [] (take heldLength (held ++ b ∷ []))
+-- a byte more: a newline ends the line, which is answered; any other is held. Nothing is counted
+unfoldable pub listingByte : List ℕ → ℕ → Ran (List ℕ)
+listingByte held b =
+    cond (eqb b 10) (record { said = replyOf held; count = 0; left = [] }) (quiet (take heldLength (held ++ b ∷ [])))
 
-unfoldable pub saidAt : List ℕ → ℕ → List ℕ
-saidAt held b = cond (eqb b 10) (replyOf held) []
-
--- what is held after some bytes, and what was said to them
-unfoldable pub restOf : List ℕ → List ℕ → List ℕ
-restOf held [] = held
-restOf held (b ∷ bs) = restOf (heldAfter held b) bs
-
-unfoldable pub saidOf : List ℕ → List ℕ → List ℕ
-saidOf held [] = []
-saidOf held (b ∷ bs) = saidAt held b ++ saidOf (heldAfter held b) bs
+-- some bytes, whatever they are
+abbrev pub listingFrom : List ℕ → List ℕ → Ran (List ℕ)
+listingFrom = run listingByte (λ held. false)
 
 -- what is said at the input's end
 unfoldable pub saidLast : List ℕ → List ℕ
@@ -49,8 +43,6 @@ saidLast held = repliesTo (lastLine held)
 abbrev pub blockLength : ℕ
 blockLength = 2048
 
--- ---- what a function that is fed some bytes does: n of the bytes in `after` are held, and what is said was put into `out`
-pub record Fed (held bytes after before : List ℕ) (at : ℕ) (out : List ℕ) (n next : ℕ) : Type 0 where
-  pub rest : take n after ≡ restOf held bytes
-  pub few : n ≤ heldLength
-  pub said : Put before at (saidOf held bytes) out next
+-- ---- what a function that is fed some bytes does: some of the bytes in `after` are held, and what is said was put into `out`
+abbrev pub Lists : Ran (List ℕ) → List ℕ → List ℕ → ℕ → List ℕ → Progress → Type 0
+Lists p after before at out r = Fed p (take (r .held) after) before at out (r .used) 0

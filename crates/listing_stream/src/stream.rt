@@ -6,13 +6,12 @@ use writing::least;
 use writing::push;
 use writing::put_text;
 ghost use mathlib.Core.Path.{_≡_};
-ghost use mathlib.Core.List.{[], _∷_};
 ghost use Prim.Native.Nat.{_+_, _*_, _≤_};
 ghost use lib.ListN.{length, take};
 ghost use Rattle.io.specs.Counts.{Counts};
 ghost use Rattle.listing_write.specs.Text.{longestReply};
 ghost use Rattle.writing.specs.Written.{Put};
-ghost use Rattle.listing_stream.specs.Stream.{headerText, saidLast, heldLength, Fed};
+ghost use Rattle.listing_stream.specs.Stream.{headerText, listingByte, listingFrom, saidLast, heldLength, Lists};
 
 // So many bytes are held of a line: one more than the longest good line has, so that a longer one is told by its length.
 pub const HELD: usize = LONGEST + 1;
@@ -38,7 +37,9 @@ fn step(b: u8, held: &mut [u8], n: usize, out: &mut [u8], used: usize) -> Progre
     requires { ⌜ length (now held) ≡ heldLength ⌝ }
     requires { ⌜ n ≤ heldLength ⌝ }
     requires { ⌜ used + longestReply ≤ length (now out) ⌝ }
-    ensures { λ r. ⌜ Fed (take n (now (held .entry))) (b ∷ []) (now (held .exit)) (now (out .entry)) used (now (out .exit)) (r .held) (r .used) ⌝ }
+    ensures { λ r. ⌜ Lists (listingByte (take n (now (held .entry))) b)
+        (now (held .exit)) (now (out .entry)) used (now (out .exit)) r ⌝ }
+    ensures { λ r. ⌜ r .held ≤ heldLength ⌝ }
 {
     if b == b'\n' {
         return Progress {
@@ -64,7 +65,9 @@ fn feed_all(
     requires { ⌜ length (now held) ≡ heldLength ⌝ }
     requires { ⌜ «held_before» ≤ heldLength ⌝ }
     requires { ⌜ longestReply * size ≤ length (now out) ⌝ }
-    ensures { λ r. ⌜ Fed (take «held_before» (now (held .entry))) (take size (now (block .entry))) (now (held .exit)) (now (out .entry)) 0 (now (out .exit)) (r .held) (r .used) ⌝ }
+    ensures { λ r. ⌜ Lists (listingFrom (take «held_before» (now (held .entry))) (take size (now (block .entry))))
+        (now (held .exit)) (now (out .entry)) 0 (now (out .exit)) r ⌝ }
+    ensures { λ r. ⌜ r .held ≤ heldLength ⌝ }
     ensures { λ r. ⌜ r .used ≤ longestReply * size ⌝ }
 {
     let mut n = held_before;
@@ -91,7 +94,9 @@ pub fn feed(
     n: usize,
     out: &mut [u8; OUT],
 ) -> Progress
-    ensures { λ r. ⌜ Fed (take n (now (held .entry))) (take size (now (block .entry))) (now (held .exit)) (now (out .entry)) 0 (now (out .exit)) (r .held) (r .used) ⌝ }
+    ensures { λ r. ⌜ Lists (listingFrom (take n (now (held .entry))) (take size (now (block .entry))))
+        (now (held .exit)) (now (out .entry)) 0 (now (out .exit)) r ⌝ }
+    ensures { λ r. ⌜ r .held ≤ heldLength ⌝ }
     ensures { λ r. ⌜ Counts (r .used) (now (out .exit)) ⌝ }
 {
     feed_all(block, least(BLOCK, size), held, least(HELD, n), out)

@@ -1,6 +1,5 @@
 // Lines of the listing's form from standard input, as a packed work list to standard output (document 02, 2026-03). A bad
-// line ends it, and
-// its number, counted from 1, is said on standard error; what came before it is written.
+// line ends it, and its number, counted from 1, is said on standard error; what came before it is written.
 use console::Got;
 use console::read_block;
 use console::written;

@@ -10,45 +10,28 @@ ghost use Rattle.packed.specs.Jobs.{jobBytes};
 ghost use Rattle.writing.specs.Written.{Put};
 ghost use Rattle.pack_stream.specs.Pack.{jobOf, jobRoom};
 
+// The job of these words.
+fn job(function: u64, a: u64, b: u64, c: u64, d: u64) -> Job
+    ensures { λ r. ⌜ r ≡ record { function = function; a = a; b = b; c = c; d = d } ⌝ }
+{
+    Job {
+        function,
+        a,
+        b,
+        c,
+        d,
+    }
+}
+
 pub fn job_of(call: Call) -> Job
     ensures { λ r. ⌜ r ≡ jobOf call ⌝ }
 {
     match call {
-        Call::Rf(x, y, z) => Job {
-            function: 1,
-            a: x,
-            b: y,
-            c: z,
-            d: 0,
-        },
-        Call::Rc(x, y) => Job {
-            function: 2,
-            a: x,
-            b: y,
-            c: 0,
-            d: 0,
-        },
-        Call::Rd(x, y, z) => Job {
-            function: 3,
-            a: x,
-            b: y,
-            c: z,
-            d: 0,
-        },
-        Call::Rg(x, y, z) => Job {
-            function: 4,
-            a: x,
-            b: y,
-            c: z,
-            d: 0,
-        },
-        Call::Rj(x, y, z, p) => Job {
-            function: 5,
-            a: x,
-            b: y,
-            c: z,
-            d: p,
-        },
+        Call::Rf(x, y, z) => job(1, x, y, z, 0),
+        Call::Rc(x, y) => job(2, x, y, 0, 0),
+        Call::Rd(x, y, z) => job(3, x, y, z, 0),
+        Call::Rg(x, y, z) => job(4, x, y, z, 0),
+        Call::Rj(x, y, z, p) => job(5, x, y, z, p),
     }
 }
 

@@ -7,12 +7,13 @@ use writing::OUT;
 use writing::least;
 use writing::push;
 ghost use mathlib.Core.Path.{_≡_};
-ghost use mathlib.Core.List.{[], _∷_};
+ghost use mathlib.Core.Bool.{false};
+ghost use mathlib.Core.List.{[]};
 ghost use Prim.Native.Nat.{_+_, _*_, _≤_};
 ghost use lib.ListN.{length, take};
 ghost use Rattle.io.specs.Counts.{Counts};
 ghost use Rattle.listing_read.specs.Lines.{callOf};
-ghost use Rattle.pack_stream.specs.Pack.{jobRoom, heldLength, nothing, lineThen, packFrom, packLast, Fed};
+ghost use Rattle.pack_stream.specs.Pack.{holding, lineEnd, packByte, packFrom, packLast, heldLength, jobRoom, Packs};
 
 // So many bytes are held of a line: one more than the longest good line has, so that a longer one is told by its length.
 pub const HELD: usize = LONGEST + 1;
@@ -28,10 +29,22 @@ pub struct Progress {
     pub bad: bool,
 }
 
+// Nothing yet, with n bytes held.
+fn nothing(n: usize) -> Progress
+    ensures { λ r. ⌜ r ≡ record { held = n; used = 0; lines = 0; bad = false } ⌝ }
+{
+    Progress {
+        held: n,
+        used: 0,
+        lines: 0,
+        bad: false,
+    }
+}
+
 // A line that has ended.
 fn ended(line: &[u8], out: &mut [u8], used: usize) -> Progress
     requires { ⌜ used + jobRoom ≤ length (now out) ⌝ }
-    ensures { λ r. ⌜ Fed (lineThen (callOf (now (line .entry))) (nothing [])) [] (now (out .entry)) used (now (out .exit)) r ⌝ }
+    ensures { λ r. ⌜ Packs (lineEnd (callOf (now (line .entry)))) [] (now (out .entry)) used (now (out .exit)) r ⌝ }
     ensures { λ r. ⌜ r .held ≡ 0 ⌝ }
 {
     match call_of(line) {
@@ -54,7 +67,9 @@ fn step(b: u8, held: &mut [u8], n: usize, out: &mut [u8], used: usize) -> Progre
     requires { ⌜ length (now held) ≡ heldLength ⌝ }
     requires { ⌜ n ≤ heldLength ⌝ }
     requires { ⌜ used + jobRoom ≤ length (now out) ⌝ }
-    ensures { λ r. ⌜ Fed (packFrom (take n (now (held .entry))) (b ∷ [])) (now (held .exit)) (now (out .entry)) used (now (out .exit)) r ⌝ }
+    ensures { λ r. ⌜ Packs (packByte (holding (take n (now (held .entry)))) b)
+        (now (held .exit)) (now (out .entry)) used (now (out .exit)) r ⌝ }
+    ensures { λ r. ⌜ r .held ≤ heldLength ⌝ }
 {
     if b == b'\n' {
         return ended(&held[..n], out, used);
@@ -68,50 +83,36 @@ fn step(b: u8, held: &mut [u8], n: usize, out: &mut [u8], used: usize) -> Progre
 }
 
 // Feeds the first `size` bytes, up to a bad line.
-fn feed_all(
-    block: &[u8],
-    size: usize,
-    held: &mut [u8],
-    held_before: usize,
-    out: &mut [u8],
-) -> Progress
+fn feed_all(block: &[u8], size: usize, held: &mut [u8], n: usize, out: &mut [u8]) -> Progress
     requires { ⌜ size ≤ length (now block) ⌝ }
     requires { ⌜ length (now held) ≡ heldLength ⌝ }
-    requires { ⌜ «held_before» ≤ heldLength ⌝ }
+    requires { ⌜ n ≤ heldLength ⌝ }
     requires { ⌜ jobRoom * size ≤ length (now out) ⌝ }
-    ensures { λ r. ⌜ Fed (packFrom (take «held_before» (now (held .entry))) (take size (now (block .entry)))) (now (held .exit)) (now (out .entry)) 0 (now (out .exit)) r ⌝ }
+    ensures { λ r. ⌜ Packs (packFrom (holding (take n (now (held .entry)))) (take size (now (block .entry))))
+        (now (held .exit)) (now (out .entry)) 0 (now (out .exit)) r ⌝ }
+    ensures { λ r. ⌜ r .held ≤ heldLength ⌝ }
     ensures { λ r. ⌜ r .used ≤ jobRoom * size ⌝ }
 {
-    let mut n = held_before;
-    let mut used: usize = 0;
-    let mut lines: usize = 0;
+    let mut all = nothing(n);
     let mut i = 0;
     while i < size {
-        let fed = step(block[i], held, n, out, used);
-        if fed.bad {
-            return Progress {
-                held: fed.held,
-                used: fed.used,
-                lines: lines + fed.lines,
-                bad: true,
-            };
+        let fed = step(block[i], held, all.held, out, all.used);
+        all = Progress {
+            held: fed.held,
+            used: fed.used,
+            lines: all.lines + fed.lines,
+            bad: fed.bad,
+        };
+        if all.bad {
+            return all;
         }
-        n = fed.held;
-        used = fed.used;
-        lines = lines + fed.lines;
         i += 1;
     }
-    Progress {
-        held: n,
-        used,
-        lines,
-        bad: false,
-    }
+    all
 }
 
 // Feeds the block's first bytes: the jobs of the lines that end there are put at the start of `out`, up to a bad line, and
-// `held` keeps what has
-// not ended. A size beyond the block counts as all of it, and n above HELD as HELD.
+// `held` keeps what has not ended. A size beyond the block counts as all of it, and n above HELD as HELD.
 pub fn feed(
     block: &[u8; BLOCK],
     size: usize,
@@ -119,7 +120,9 @@ pub fn feed(
     n: usize,
     out: &mut [u8; OUT],
 ) -> Progress
-    ensures { λ r. ⌜ Fed (packFrom (take n (now (held .entry))) (take size (now (block .entry)))) (now (held .exit)) (now (out .entry)) 0 (now (out .exit)) r ⌝ }
+    ensures { λ r. ⌜ Packs (packFrom (holding (take n (now (held .entry)))) (take size (now (block .entry))))
+        (now (held .exit)) (now (out .entry)) 0 (now (out .exit)) r ⌝ }
+    ensures { λ r. ⌜ r .held ≤ heldLength ⌝ }
     ensures { λ r. ⌜ Counts (r .used) (now (out .exit)) ⌝ }
 {
     feed_all(block, least(BLOCK, size), held, least(HELD, n), out)
@@ -128,23 +131,18 @@ pub fn feed(
 fn last(held: &[u8], n: usize, out: &mut [u8]) -> Progress
     requires { ⌜ n ≤ length (now held) ⌝ }
     requires { ⌜ jobRoom ≤ length (now out) ⌝ }
-    ensures { λ r. ⌜ Fed (packLast (take n (now (held .entry)))) [] (now (out .entry)) 0 (now (out .exit)) r ⌝ }
+    ensures { λ r. ⌜ Packs (packLast (holding (take n (now (held .entry))))) [] (now (out .entry)) 0 (now (out .exit)) r ⌝ }
     ensures { λ r. ⌜ r .used ≤ jobRoom ⌝ }
 {
     if n == 0 {
-        return Progress {
-            held: 0,
-            used: 0,
-            lines: 0,
-            bad: false,
-        };
+        return nothing(0);
     }
     ended(&held[..n], out, 0)
 }
 
 // The job of what is held at the input's end, at the start of `out`.
 pub fn finish(held: &[u8; HELD], n: usize, out: &mut [u8; OUT]) -> Progress
-    ensures { λ r. ⌜ Fed (packLast (take n (now (held .entry)))) [] (now (out .entry)) 0 (now (out .exit)) r ⌝ }
+    ensures { λ r. ⌜ Packs (packLast (holding (take n (now (held .entry))))) [] (now (out .entry)) 0 (now (out .exit)) r ⌝ }
     ensures { λ r. ⌜ Counts (r .used) (now (out .exit)) ⌝ }
 {
     last(held, least(HELD, n), out)

@@ -9,7 +9,7 @@ use borrow.Author.Tests.{lt-ltb, le-ltb, eq-eqb, ne-eqb}
 use lib.ListN.{length, getD, drop, drop-of-length-le}
 use lib.Seq.{drop-cons}
 use Rattle.packed.specs.Numbers.{list-cut, number-bad, groupsOf, lastGroup, numberFrom}
-use Rattle.packed.specs.NumberLaws.{power-some}
+use Rattle.packed.specs.NumberLaws.{power-some, group-adds}
 use Rattle.packed.specs.declared.numbers.Number.{Number}
 use Rattle.packed.specs.declared.numbers.Number.the-variants.{Whole, Refused}
 
@@ -46,8 +46,8 @@ read-last left m w v at l e h k = rw (e, drop-cons l at 0 h, lt-ltb (getD l at 0
 
 pub read-more : (left m w v at : ℕ) (l : List ℕ) → left ≡ suc m → at < length l → 128 ≤ getD l at 0
     → numberFrom m (w * 128) (v + (getD l at 0 - 128) * w) (at + 1) (drop (at + 1) l) ≡ numberFrom left w v at (drop at l)
-unfolding numberFrom
-read-more left m w v at l e h k = rw (e, drop-cons l at 0 h, le-ltb (getD l at 0) 128 k, add-one)
+read-more left m w v at l e h k =
+    rw (e, drop-cons l at 0 h, add-one) (rw add-one at (sym (group-adds m w v at (getD l at 0) (drop (suc at) l) k)))
 
 pub read-tenth : (left w v at : ℕ) (l : List ℕ) → left ≡ 0 → at < length l → getD l at 0 ≡ 1
     → Whole (v + w) (at + 1) ≡ numberFrom left w v at (drop at l)

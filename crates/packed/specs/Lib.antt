@@ -7,3 +7,4 @@ pub mod NumberLaws
 pub mod JobLaws
 pub mod ListLaws
 pub mod MoreLaws
+pub mod PlaceLaws

@@ -132,7 +132,7 @@ bytes-on l at most (Found got) js b e h more f = go (readFrom most l (got .next)
               ∙ ap (λ (t : List ℕ). jobBytes (got .job) ++ t) (m .bytes);
         } in
         subst (λ (x : List Job). Were l at x) z made
-    go (stopped n m) p q = let z : _≡_ {A = ℕ} 0 1 = cc in absurd (omega arith)
+    go (stopped ks n m) p q = let z : _≡_ {A = ℕ} 0 1 = cc in absurd (omega arith)
 bytes-on l at most Nothing js b e h more f =
     let z : [] ≡ js = cc in
     let made : Were l at [] = record { proper = tt; bytes = drop-of-length-le l {i = at} (nothing-left l at e) } in

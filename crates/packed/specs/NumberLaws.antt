@@ -22,6 +22,25 @@ abbrev pub Bytes : List ℕ → Type 0
 Bytes [] = Unit {0}
 Bytes (b ∷ bs) = (b < 256) × Bytes bs
 
+-- ---- what the groups say
+-- a group that more follow adds its seven bits at its weight
+pub group-adds : (left w v at b : ℕ) (bs : List ℕ) → 128 ≤ b
+    → numberFrom (suc left) w v at (b ∷ bs) ≡ numberFrom left (w * 128) (v + (b - 128) * w) (at + 1) bs
+unfolding numberFrom
+group-adds left w v at b bs h = rw (le-ltb b 128 h)
+
+-- ten groups hold 2 ^ 64 - 1; what would be 2 ^ 64 is over 64 bits, and no bit of it is dropped
+abbrev nine : ℕ → List ℕ → List ℕ
+nine b bs = b ∷ b ∷ b ∷ b ∷ b ∷ b ∷ b ∷ b ∷ b ∷ bs
+
+largest : numberAt (nine 255 (1 ∷ [])) 0 ≡ Whole 18446744073709551615 10
+unfolding numberAt numberFrom
+largest = refl
+
+over-largest : numberAt (nine 128 (2 ∷ [])) 0 ≡ Refused number-bad
+unfolding numberAt numberFrom
+over-largest = refl
+
 -- ---- what is written is read back
 -- a last group, which is not zero unless it is the first
 last-is : (w v n next : ℕ) → (n ≡ 0 → (w ≡ 1) × (v ≡ 0)) → lastGroup w v next n ≡ Whole (v + n * w) next
@@ -67,8 +86,8 @@ number-back (suc left) w v at n rest h k = go (ltb n 128) refl
     go false t more =
         let g : 128 ≤ n = ltb-false n 128 t in
         let z : 128 + n % 128 - 128 ≡ n % 128 = omega arith in
-        rw (le-ltb (128 + n % 128) 128 (omega arith), z, more (λ e. absurd (omega arith)))
-        (ap₂ Whole (joined w v (n / 128) (n % 128) n (omega arith)) (omega arith))
+        group-adds left w v at (128 + n % 128) (groupsOf left (n / 128) ++ rest) (omega arith)
+        ∙ rw (z, more (λ e. absurd (omega arith))) (ap₂ Whole (joined w v (n / 128) (n % 128) n (omega arith)) (omega arith))
 
 -- at a place of a list
 pub number-at-back : (l : List ℕ) (at n : ℕ) (rest : List ℕ) → n < 2 ^ 64 → drop at l ≡ numberBytes n ++ rest

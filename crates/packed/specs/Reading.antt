@@ -47,20 +47,20 @@ jobAt bytes place =
 unfoldable pub readAt : List ℕ → ℕ → Read
 readAt bytes place = cond (ltb place (length bytes)) (jobAt bytes place) Nothing
 
--- ---- a whole list: its jobs, or the first refusal and the place that the reader was left at
+-- ---- a whole list: its jobs; or those before the first refusal, the place that the reader was left at, and the number
 pub data Jobs : Type 0 where
   jobs : List Job → Jobs
-  stopped : ℕ → ℕ → Jobs
+  stopped : List Job → ℕ → ℕ → Jobs
 
 unfoldable pub withJob : Job → Jobs → Jobs
 withJob j (jobs js) = jobs (j ∷ js)
-withJob j (stopped place n) = stopped place n
+withJob j (stopped js place n) = stopped (j ∷ js) place n
 
 -- after a read, with what is done from the next place on
 unfoldable pub readOn : ℕ → Read → (ℕ → Jobs) → Jobs
 readOn place (Found got) rest = withJob (got .job) (rest (got .next))
 readOn place Nothing rest = jobs []
-readOn place (Refused n) rest = stopped place n
+readOn place (Refused n) rest = stopped [] place n
 
 -- from a place on, so many jobs at most
 unfoldable pub readFrom : ℕ → List ℕ → ℕ → Jobs

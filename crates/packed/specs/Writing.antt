@@ -13,11 +13,15 @@ use Rattle.packed.specs.declared.write.Written.the-variants.{Next, Refus
 abbrev pub no-room : ℕ
 no-room = 17
 
+-- "what is left" from a place on
+unfoldable pub leftAfter : ℕ → ℕ → ℕ
+leftAfter length place = length - place
+
 -- "The writer tests 16, then 17", "exactly when the job's length exceeds what is left"
 unfoldable pub writeAt : ℕ → ℕ → Job → Written
 writeAt length place j =
     cond (eqb (arityOf (j .function)) 0) (Refused unknown-function)
-    (cond (ltb (length - place) (jobLength j)) (Refused no-room) (Next (place + jobLength j)))
+    (cond (ltb (leftAfter length place) (jobLength j)) (Refused no-room) (Next (place + jobLength j)))
 
 -- "A refused write changes no byte"
 unfoldable pub bytesAfter : Written → List ℕ → ℕ → Job → List ℕ

@@ -1,6 +1,5 @@
 // Work lists in packed form (document 02, 2026-03): jobs one after another in a slice that the caller lends, read and
-// written at a
-// place in it. A number is written in groups of seven bits, the low one first.
+// written at a place in it. A number is written in groups of seven bits, the low one first.
 mod jobs;
 mod numbers;
 mod read;

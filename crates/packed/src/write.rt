@@ -6,11 +6,11 @@ use crate::jobs::arity;
 use crate::numbers::number_length;
 use crate::numbers::put_number;
 ghost use mathlib.Core.Path.{_≡_};
-ghost use Prim.Native.Nat.{_+_, _-_, _≤_};
+ghost use Prim.Native.Nat.{_+_, _≤_};
 ghost use lib.ListN.{length};
 ghost use Rattle.writing.specs.Written.{Put};
 ghost use Rattle.packed.specs.Jobs.{argumentBytes, jobBytes, jobLength};
-ghost use Rattle.packed.specs.Writing.{writeAt, bytesAfter};
+ghost use Rattle.packed.specs.Writing.{leftAfter, writeAt, bytesAfter};
 
 // Document 02's number for no: the job is longer than what is left.
 pub const NO_ROOM: u32 = 17;
@@ -60,7 +60,7 @@ fn put_job(job: Job, out: &mut [u8], place: usize) -> usize
 }
 
 fn left_after(length: usize, place: usize) -> usize
-    ensures { λ r. ⌜ r ≡ length - place ⌝ }
+    ensures { λ r. ⌜ r ≡ leftAfter length place ⌝ }
 {
     if length < place {
         return 0;

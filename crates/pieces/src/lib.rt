@@ -10,7 +10,7 @@ ghost use Rattle.pieces.specs.Row.{value-or-zero};
 
 const PIECE: u64 = 0x400_0000_0000_0000; // 2 ^ 58, a sixty-fourth
 
-// Euler's sum at x, in units of 2 ^ -63, where x is in units of 2 ^ -64.
+// Euler's sum at x, in parts of 2 ^ -63, where x is in parts of 2 ^ -64.
 pub fn euler(x: u64) -> u64
     ensures { λ r. ⌜ r ≡ value-or-zero euler x ⌝ }
 {

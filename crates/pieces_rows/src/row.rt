@@ -1,6 +1,6 @@
 // A row of twelve coefficients.
 
-// In units of 2 ^ -63, the constant first.
+// In parts of 2 ^ -63, the constant first.
 pub struct Row(
     pub u64,
     pub u64,

@@ -70,7 +70,7 @@ fn moved(b: u64, y: u64) -> u64
     ((c >> lost) + 1) / 2
 }
 
-pub fn guess(n: u64, y: u64) -> u64
+pub(crate) fn guess(n: u64, y: u64) -> u64
     requires { ⌜ Held n y ⌝ }
 {
     let v = estimate(pattern(n));

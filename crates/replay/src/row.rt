@@ -83,7 +83,7 @@ fn compare(call: Call, said: &[u8], row: &[u8], shown: bool) -> Verdict {
 }
 
 // A row that differs is shown where that is asked for.
-pub fn judge(row: &[u8], shown: bool) -> Verdict {
+pub(crate) fn judge(row: &[u8], shown: bool) -> Verdict {
     let at = equals(row);
     let last = end(row);
     if at < 1 {

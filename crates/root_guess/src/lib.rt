@@ -1,11 +1,12 @@
-// A guess at a root, by plain f64 arithmetic, for `root`, which certifies it. Nothing is proved of it but that it is safe. In tests
-// it was the rounded root at all but one number of 400, and there its neighbour.
+// A guess at a root, by plain f64 arithmetic, for `root`, which certifies it. Nothing is proved of it but that it is safe. In
+// tests it was the rounded root at all but one number of 400, and there its neighbour.
 //
-// x is m * scale * scale with 1/2 ≤ m < 2, and r near √m has few digits, so that r * r and d = m - r * r are exact. With w = d / (4 * r * r)
-// √m is r + d / (2 * r) * p(w), where p(w) = (√(1 + 4 * w) - 1) / (2 * w) = 1 - w + 2 * w * w - 5 * w * w * w + .. , and |w| is at most 2 ^ -8.
-// A polynomial of degree 6 gives the sum to 2 ^ -60. It is written as a product of three factors, which a processor works out side by side.
-// So that no number stands before them, the quotients are 1.456 times as large: 1.456 / (2 * r), and its square for w.
-// The sum with r comes last, so that the only rounding that counts is its own.
+// x is m * scale * scale with 1/2 ≤ m < 2, and r near √m has few digits, so that r * r and d = m - r * r are exact. With
+// w = d / (4 * r * r), √m is r + d / (2 * r) * p(w), where p(w) = (√(1 + 4 * w) - 1) / (2 * w), which is
+// 1 - w + 2 * w * w - 5 * w * w * w + .. , and |w| is at most 2 ^ -8. A polynomial of degree 6 gives the sum to 2 ^ -60. It is
+// written as a product of three factors, which a processor works out side by side. So that no number stands before them, the
+// quotients are 1.456 times as large: 1.456 / (2 * r), and its square for w. The sum with r comes last, so that the only
+// rounding that counts is its own.
 mod start;
 
 use crate::start::slope;

@@ -4,10 +4,10 @@
 // proved of the numbers: a wrong one makes the root slow, not wrong.
 
 // A number and its square.
-pub struct Squared(pub f64, pub f64);
+pub(crate) struct Squared(pub f64, pub f64);
 
 // r and r * r, both exact.
-pub fn start(piece: u64) -> Squared {
+pub(crate) fn start(piece: u64) -> Squared {
     match piece {
         0 => Squared(0.712646484375, 0.5078650116920471),
         1 => Squared(0.723388671875, 0.5232911705970764),
@@ -77,7 +77,7 @@ pub fn start(piece: u64) -> Squared {
 }
 
 // 1.456 / (2 * r), rounded, and its square.
-pub fn slope(piece: u64) -> Squared {
+pub(crate) fn slope(piece: u64) -> Squared {
     match piece {
         0 => Squared(1.0215143638985082, 1.0434915956509738),
         1 => Squared(1.006345065210849, 1.012730390274228),

@@ -8,7 +8,7 @@ use native.Mathlib.Omega.{arith}
 use lib.Pow.{pow-mono}
 use lib.Ieee.Nearest.{div-same}
 use Rattle.algebra.specs.Ring.{con, _:*_, _≈_, ring}
-use Rattle.enclosure.specs.Quotient.{Quotient, units}
+use Rattle.enclosure.specs.Quotient.{Quotient, parts}
 use Rattle.enclosure.specs.Enclosure.{ln-argument, gain, loss}
 use Rattle.enclosure.specs.Rules.{T-answer, part, gain-seed, loss-seed, ln-seed, inverse-seed}
 use Rattle.enclosure.specs.Logarithm.{Seed}
@@ -80,10 +80,10 @@ seed-size true s j m e h =
     let fits : m ≤ 2 ^ 53 = omega (arith, h .high) in
     let strict = proper j m (h .high) in
     le-trans (loss-size j m (h .low) fits)
-    (T-size (loss (units (53 + j) m) strict) j (loss-seed j m) (loss-seeds j m strict fits (h .small (e refl))))
+    (T-size (loss (parts (53 + j) m) strict) j (loss-seed j m) (loss-seeds j m strict fits (h .small (e refl))))
 seed-size false s j m e h =
     let fits : m ≤ 2 ^ 53 = omega (arith, h .high) in
-    le-trans (gain-size j m (h .low)) (T-size (gain (units (53 + j) m)) j (gain-seed j m) (gain-seeds j m fits))
+    le-trans (gain-size j m (h .low)) (T-size (gain (parts (53 + j) m)) j (gain-seed j m) (gain-seeds j m fits))
 
 -- ---- ln
 ln-same : (p d : ℕ) → p * 512 * 2 ^ 62 * d ≡ 2 * p * 2 ^ 62 * (d * 256)
@@ -127,7 +127,7 @@ module _ (e m : ℕ) (range : Exponent e m) where
 
   pub ln-asked : Multiple e ((m - 2 ^ 52) * 512) ((m + 2 ^ 52) * 256)
   ln-asked =
-      asked (ln-argument (units 52 m)) ((m - 2 ^ 52) * 512) ((m + 2 ^ 52) * 256) (ln-seed m) (ln-seed-is m)
+      asked (ln-argument (parts 52 m)) ((m - 2 ^ 52) * 512) ((m + 2 ^ 52) * 256) (ln-seed m) (ln-seed-is m)
       (below-one (2 * (m - 2 ^ 52)) (m + 2 ^ 52) (omega arith)) (ln-seeds m low high) (omega arith, omega arith, omega arith)
 
   pub below-asked : Multiple e ((2 ^ 53 - m) * 512) ((2 ^ 53 + m) * 256)

@@ -12,7 +12,7 @@ use lib.Ieee.Digits.{size-le}
 use Rattle.algebra.specs.Order.{lt-or-le}
 use Rattle.rounding.specs.Cut.{value}
 use Rattle.rounding.specs.Value.{value-high, value-small, value-lt}
-use Rattle.enclosure.specs.Quotient.{Quotient, units}
+use Rattle.enclosure.specs.Quotient.{Quotient, parts}
 use Rattle.enclosure.specs.Enclosure.{gain, loss}
 use Rattle.enclosure.specs.Rules.{gain-seed, loss-seed}
 use Rattle.enclosure.specs.Seeds.{gain-seeds, loss-seeds, seed-same}
@@ -30,21 +30,21 @@ use Rattle.series.specs.Cases.{ln-1p-range, subnormal, normal}
 pub size-is : (a : ℕ) → 2 ^ 52 ≤ a → value a ≡ digits a * 2 ^ (field a - 1)
 size-is a h = value-high a h ∙ ap (λ (m : ℕ). m * 2 ^ (field a - 1)) (add-comm (2 ^ 52) (a % 2 ^ 52))
 
--- the size's unit is that of document 01: 2 ^ 52 of them are the largest power of two not above it, and where it is less, the
--- unit is 2 ^ -1074
-pub unit-normal : (a : ℕ) → 2 ^ 52 ≤ a → (2 ^ 52 * 2 ^ (field a - 1) ≤ value a) × (value a < 2 ^ 53 * 2 ^ (field a - 1))
-unit-normal a h = rw (size-is a h) (
+-- the size's last place is document 01's unit: 2 ^ 52 of them are the largest power of two not above it, and where it is less,
+-- it is the smallest unit
+pub place-normal : (a : ℕ) → 2 ^ 52 ≤ a → (2 ^ 52 * 2 ^ (field a - 1) ≤ value a) × (value a < 2 ^ 53 * 2 ^ (field a - 1))
+place-normal a h = rw (size-is a h) (
   mul-le-mul-right (2 ^ (field a - 1)) (omega arith),
   mul-lt-mul-of-pos-right (omega arith) (pow-pos (field a - 1)),
 )
 
-pub unit-subnormal : (a : ℕ) → a < 2 ^ 52 → (value a ≡ a) × (field a - 1 ≡ 0)
-unit-subnormal a h = (value-small a (omega arith), omega arith)
+pub place-subnormal : (a : ℕ) → a < 2 ^ 52 → (value a ≡ a) × (field a - 1 ≡ 0)
+place-subnormal a h = (value-small a (omega arith), omega arith)
 
-pub below-units : (a : ℕ) → value a < 2 ^ 53 * 2 ^ (field a - 1)
-below-units a = elim (lt-or-le a (2 ^ 52)) [
-  | inl l ↦ let e = unit-subnormal a l in rw (e .0, e .1) (omega arith)
-  | inr l ↦ unit-normal a l .1
+pub below-places : (a : ℕ) → value a < 2 ^ 53 * 2 ^ (field a - 1)
+below-places a = elim (lt-or-le a (2 ^ 52)) [
+  | inl l ↦ let e = place-subnormal a l in rw (e .0, e .1) (omega arith)
+  | inr l ↦ place-normal a l .1
 ]
 
 -- ---- scales. q parts of the size's digits are one, where the field is 1 at least.
@@ -56,9 +56,9 @@ scale i q k e m =
     regroup : (a b c : ℕ) → a * b * c ≡ a * (b * c)
     regroup a b c = omega arith
 
--- ---- atan: the size is a whole number of the rule's units
-pub whole-units : (t : Quotient) (j tau : ℕ) → tau ≤ 2 ^ 62 → t .num * 2 ^ (62 + j) ≡ tau * t .den → Floor t j tau
-whole-units t j tau h e = record {
+-- ---- atan: the size is a whole number of the rule's parts
+pub whole-parts : (t : Quotient) (j tau : ℕ) → tau ≤ 2 ^ 62 → t .num * 2 ^ (62 + j) ≡ tau * t .den → Floor t j tau
+whole-parts t j tau h e = record {
   low = le-of-eq (sym e);
   high = subst (λ (n : ℕ). n < tau * t .den + t .den) (sym e) (more (tau * t .den) (t .den) (t .pos));
   one = subst (λ (n : ℕ). n ≤ 2 ^ 62 * t .den) (sym e) (mul-le-mul-right (t .den) h);
@@ -72,7 +72,7 @@ floor-below a h l =
     let i = field a - 1 in
     let q = 62 + (1022 - field a) in
     let e : i + q ≡ 9 + 1074 = omega arith in
-    whole-units (number a) (1022 - field a) (digits a * 2 ^ 9) (omega arith)
+    whole-parts (number a) (1022 - field a) (digits a * 2 ^ 9) (omega arith)
     (ap (λ (v : ℕ). v * 2 ^ q) (size-is a h) ∙ scale i q 9 e (digits a))
 
 -- ---- atan above 1: the inverse
@@ -123,7 +123,7 @@ ln-below-parts b h l = elim (lt-or-le b (2 ^ 52)) [
       let s = size b in
       let few : s ≤ 52 = size-le b 52 k in
       let e : 52 + suc (1074 - s) ≡ 53 - s + 1074 = omega arith in
-      rw (subnormal b k .0, subnormal b k .1, unit-subnormal b k .0)
+      rw (subnormal b k .0, subnormal b k .1, place-subnormal b k .0)
       (ap (λ (n : ℕ). b * 2 ^ n) e ∙ ap (λ (n : ℕ). b * n) (pow-add 2 (53 - s) 1074) ∙ sym (grouped b (2 ^ (53 - s)) (2 ^ 1074)))
   | inr k ↦
       let i = field b - 1 in
@@ -168,8 +168,8 @@ module _ (a : ℕ) (low : tiny ≤ a) (high : a ≤ last) where
   abbrev K : ℕ
   K = 2 ^ (field a - 1)
 
-  parts : 2 ^ 1074 ≡ 2 ^ (53 + j) * K
-  parts = one-parts a (omega arith) (omega arith)
+  one-split : 2 ^ 1074 ≡ 2 ^ (53 + j) * K
+  one-split = one-parts a (omega arith) (omega arith)
 
   num-is : value a ≡ m * K
   num-is = size-is a (omega arith)
@@ -183,13 +183,13 @@ module _ (a : ℕ) (low : tiny ≤ a) (high : a ≤ last) where
   pub seed-above : Seed (gain (number a)) j (gain-seed j m)
   seed-above =
       let q = 2 * 2 ^ (53 + j) + m in
-      let same = same-quotient m q (value a) _ K num-is (more-parts (2 ^ 1074) (value a) (2 ^ (53 + j)) m K parts num-is) in
-      seed-same (gain (units (53 + j) m)) (gain (number a)) j (gain-seed j m) same (gain-seeds j m digits-fit)
+      let same = same-quotient m q (value a) _ K num-is (more-parts (2 ^ 1074) (value a) (2 ^ (53 + j)) m K one-split num-is) in
+      seed-same (gain (parts (53 + j) m)) (gain (number a)) j (gain-seed j m) same (gain-seeds j m digits-fit)
 
   pub seed-below : (proper : value a < 2 ^ 1074) → Seed (loss (number a) proper) j (loss-seed j m)
   seed-below proper =
       let strict : m < 2 ^ (53 + j) = lt-of-lt-of-le (range .high) (pow-mono {i = 53} {j = 53 + j} (omega arith)) in
       let q = 2 * 2 ^ (53 + j) - m in
-      let same = same-quotient m q (value a) _ K num-is (less-parts (2 ^ 1074) (value a) (2 ^ (53 + j)) m K parts num-is) in
-      seed-same (loss (units (53 + j) m) strict) (loss (number a) proper) j (loss-seed j m) same
+      let same = same-quotient m q (value a) _ K num-is (less-parts (2 ^ 1074) (value a) (2 ^ (53 + j)) m K one-split num-is) in
+      seed-same (loss (parts (53 + j) m) strict) (loss (number a) proper) j (loss-seed j m) same
       (loss-seeds j m strict digits-fit (range .small))

@@ -17,14 +17,15 @@ one = 0x3ff0_0000_0000_0000
 abbrev pub far : ℕ
 far = 0x43e0_0000_0000_0000
 
--- Below 1 the size is digits * 2 ^ 9 units of 2 ^ -(62 + j), where the field is 1022 - j.
+-- Below 1 the size is digits * 2 ^ 9 parts of 2 ^ -(62 + j), where the field is 1022 - j.
 abbrev pub below-one : Bool → ℕ → Float
 below-one s a = let j = 1022 - field a in round binary64 s (atan-answer j (digits a * 2 ^ 9)) (2 ^ (62 + j))
 
 abbrev pub at-one : Bool → Float
 at-one s = round binary64 s (atan-answer 0 (2 ^ 62)) (2 ^ 62)
 
--- Above 1 the size is digits * 2 ^ (e - 52), where the field is 1023 + e, and its inverse 2 ^ 114 / digits / 2 ^ e units of 2 ^ -62.
+-- Above 1 the size is digits * 2 ^ (e - 52), where the field is 1023 + e, and its inverse 2 ^ 114 / digits / 2 ^ e parts of 2 ^
+-- -62.
 abbrev pub above-one : Bool → ℕ → Float
 above-one s a = round binary64 s (steep-answer (2 ^ 114 / digits a / 2 ^ (field a - 1023))) (2 ^ 62)
 
@@ -32,7 +33,8 @@ above-one s a = round binary64 s (steep-answer (2 ^ 114 / digits a / 2 ^ (field 
 abbrev pub at-infinity : Bool → Float
 at-infinity s = round binary64 s half-pi (2 ^ 62)
 
--- x has the sign s, and its size the pattern a. Small numbers, zeros among them, are their own atan; past the infinity lie the NaNs.
+-- x has the sign s, and its size the pattern a. Small numbers, zeros among them, are their own atan; past the infinity lie the
+-- NaNs.
 abbrev pub atan-at : Float → Bool → ℕ → Float
 atan-at x s a =
     cond (ltb a tiny) x

@@ -8,7 +8,7 @@ use lib.Dec.{leb→le}
 use lib.Ieee.{Float, nan, inf, binary64, ofBits, toBits, round}
 use Rattle.rounding.specs.Cut.{infinity, value}
 use Rattle.rounding.specs.Laws.{middle}
-use Rattle.enclosure.specs.Quotient.{Quotient, _≼_, whole, units, _⊞_, _⊠_}
+use Rattle.enclosure.specs.Quotient.{Quotient, _≼_, whole, parts, _⊞_, _⊠_}
 use Rattle.enclosure.specs.Order.{≼-refl, ≼-trans, ⊞-mono}
 use Rattle.enclosure.specs.Enclosure.{atan-lower, atan-upper, fifth, part-of-239}
 use Rattle.enclosure.specs.Rules.{half-pi}
@@ -81,16 +81,16 @@ ln-negative x h = sym (cases.ln-past x (toBits binary64 x) refl (omega arith) (�
 -- ---- nearest to π/2 = 8 atan(1/5) - 2 atan(1/239): it lies past the middle to the pattern below, and before the middle to the
 -- one above
 abbrev pub past-lower : Quotient
-past-lower = units 1075 (middle (half-pi-bits - 1) half-pi-bits + 1)
+past-lower = parts 1075 (middle (half-pi-bits - 1) half-pi-bits + 1)
 
 abbrev pub before-upper : Quotient
-before-upper = units 1075 (middle half-pi-bits (half-pi-bits + 1) - 1)
+before-upper = parts 1075 (middle half-pi-bits (half-pi-bits + 1) - 1)
 
-lower-middle : past-lower ≼ units 62 half-pi
+lower-middle : past-lower ≼ parts 62 half-pi
 unfolding value
 lower-middle = record { cross = leb→le _ _ tt }
 
-upper-middle : units 62 (half-pi + 1) ≼ before-upper
+upper-middle : parts 62 (half-pi + 1) ≼ before-upper
 unfolding value
 upper-middle = record { cross = leb→le _ _ tt }
 

@@ -6,7 +6,7 @@ use native.Mathlib.Nat.{le-trans, div-le-self, div-le-of-le-mul, div-div-eq-div-
 use native.Mathlib.Omega.{arith}
 use lib.Pow.{pow-pos}
 use lib.Ieee.Nearest.{div-same}
-use Rattle.enclosure.specs.Quotient.{Quotient, units}
+use Rattle.enclosure.specs.Quotient.{Quotient, parts}
 use Rattle.enclosure.specs.Rules.{atan-answer, half-pi, steep-answer}
 use Rattle.enclosure.specs.Sizes.{steep-size}
 use Rattle.enclosure.specs.Steep.{inverse-most}
@@ -26,7 +26,7 @@ module _ (m e : ℕ) (low : 2 ^ 52 ≤ m) where
 
   -- the argument as a quotient, above 1
   abbrev pub steep : Quotient
-  steep = units 52 (m * 2 ^ e)
+  steep = parts 52 (m * 2 ^ e)
 
   same-inverse : steep .den * 2 ^ 62 / steep .num ≡ tau
   same-inverse = sym (div-div-eq-div-mul (2 ^ 114) m (2 ^ e))

@@ -10,7 +10,7 @@ pub mod Quotient
 pub mod Ranges
 pub mod Exponents
 pub mod Cases
-pub mod Units
+pub mod Scaled
 pub mod Inverse
 pub mod Rounded
 pub mod Arguments

@@ -21,11 +21,11 @@ two = 0x4000_0000_0000_0000
 abbrev pub minus-zero : ℕ
 minus-zero = 0x8000_0000_0000_0000
 
--- From 2 up x is digits * 2 ^ (e - 52), e is 1 at least and has b binary digits: the answer in units of 2 ^ -(63 - b)
+-- From 2 up x is digits * 2 ^ (e - 52), e is 1 at least and has b binary digits: the answer in parts of 2 ^ -(63 - b)
 abbrev pub ln-from-two : ℕ → ℕ → Float
 ln-from-two e m = round binary64 false (ln-answer (size e) e m) (2 ^ (63 - size e))
 
--- Between 1/2 and 2 the distance from 1 is n units of 2 ^ -53, n of 53 - j binary digits: the answer in units of 2 ^ -(61 + j).
+-- Between 1/2 and 2 the distance from 1 is n parts of 2 ^ -53, n of 53 - j binary digits: the answer in parts of 2 ^ -(61 + j).
 -- With the sign s, below 1.
 abbrev pub close-answer : Bool → ℕ → ℕ → ℕ
 close-answer s j n = cond s (loss-answer j n) (gain-answer j n)
@@ -44,7 +44,7 @@ full-digits b = cond (ltb b (2 ^ 52)) (b * 2 ^ (53 - size b)) (digits b)
 abbrev pub below-exponent : ℕ → ℕ
 below-exponent b = cond (ltb b (2 ^ 52)) (1074 - size b) (1022 - field b)
 
--- by the pattern, below 2. Patterns count units: from b up to 1's, of 2 ^ -53; and from 1's up to b, of 2 ^ -52.
+-- by the pattern, below 2. Patterns count parts: from b up to 1's, of 2 ^ -53; and from 1's up to b, of 2 ^ -52.
 abbrev pub ln-below-two : ℕ → Float
 ln-below-two b =
     cond (eqb b 0) (inf true)

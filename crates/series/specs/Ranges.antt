@@ -39,7 +39,7 @@ pub record Close (s j m : ℕ) : Type 0 where
   pub high : m < 2 ^ 53
   pub small : s ≡ 1 → 4 * m ≤ 3 * 2 ^ (53 + j)
 
--- n units of 2 ^ -53 up to 1, and up to 1/2 where the sign s is 1
+-- n parts of 2 ^ -53 up to 1, and up to 1/2 where the sign s is 1
 pub record Distance (s n : ℕ) : Type 0 where
   pub least : 1 ≤ n
   pub most : n < 2 ^ 53

@@ -1,4 +1,4 @@
--- The last rounding moves an answer by half a unit at most, so that an answer that is near every enclosure lies within one unit of it.
+-- The last rounding moves an answer by half a last place at most, so that one that is near every enclosure lies within one of it.
 -- Assumes nothing.
 use Prim.Native.Nat.{ℕ, suc, _+_, _-_, _*_, _/_, _%_, _^_, _≤_, _<_, compare, Ordering, Ordering·lt, Ordering·eq, Ordering·gt}
 use mathlib.Core.Path.{_≡_, sym, ap, ap₂, _∙_, subst}
@@ -12,11 +12,11 @@ use lib.Ieee.Digits.{size-lt}
 use Rattle.algebra.specs.Order.{lt-or-le, Compared, compared, scaled-compare}
 use Rattle.rounding.specs.Cut.{infinity, value}
 use Rattle.rounding.specs.Value.{value-at}
-use Rattle.enclosure.specs.Quotient.{Quotient, _≼_, units}
+use Rattle.enclosure.specs.Quotient.{Quotient, _≼_, parts}
 use Rattle.enclosure.specs.Enclosure.{Within}
 use Rattle.enclosure.specs.Answers.{within-same, within-rounded}
-use Rattle.series.specs.Near.{unit, Near}
-use Rattle.series.specs.Units as whole
+use Rattle.series.specs.Near.{last-place, Near}
+use Rattle.series.specs.Scaled as whole
 
 -- ---- what is picked of w G and (w + 1) G is at most G / 2 away
 picked : (Y w r G : ℕ) (o : Ordering) → w * G + r ≡ Y → r < G → Compared o (r * 2) G
@@ -41,7 +41,7 @@ module _ (Y k : ℕ) (least : 2 ^ 59 ≤ Y) (word : Y < 2 ^ 64) (few : k ≤ 100
   z-high : z ≤ 64
   z-high = whole.size-most Y range
 
-  -- the answer's unit and its half, in units of 2 ^ -k
+  -- the answer's last place and its half, in parts of 2 ^ -k
   abbrev G : ℕ
   G = 2 ^ (z - 53)
 
@@ -49,14 +49,16 @@ module _ (Y k : ℕ) (least : 2 ^ 59 ≤ Y) (word : Y < 2 ^ 64) (few : k ≤ 100
   H = 2 ^ (z - 54)
 
   halves : G ≡ H * 2
-  halves = let l : 60 ≤ z = z-low in let e : z - 53 ≡ suc (z - 54) = omega arith in ap (λ (n : ℕ). 2 ^ n) e ∙ pow-succ' 2 (z - 54) ∙ omega arith
+  halves = let l : 60 ≤ z = z-low in let e : z - 53 ≡ suc (z - 54) = omega arith in ap (λ (n : ℕ). 2 ^ n) e
+      ∙ pow-succ' 2 (z - 54) ∙ omega arith
 
   H-least : 64 ≤ H
   H-least = let l : 60 ≤ z = z-low in pow-mono {i = 6} {j = z - 54} (omega arith)
 
   -- ---- the digits that are kept are those of Y / G
   field-is : 2 ^ whole.field Y range ≡ G * 2 ^ 1074
-  field-is = let l : 60 ≤ z = z-low in let e : z + 1021 ≡ z - 53 + 1074 = omega arith in ap (λ (n : ℕ). 2 ^ n) e ∙ pow-add 2 (z - 53) 1074
+  field-is = let l : 60 ≤ z = z-low in let e : z + 1021 ≡ z - 53 + 1074 = omega arith in ap (λ (n : ℕ). 2 ^ n) e
+      ∙ pow-add 2 (z - 53) 1074
 
   kept-is : whole.kept Y range ≡ Y / G
   kept-is = ap (λ (n : ℕ). Y * 2 ^ 1074 / n) field-is ∙ mul-div-mul-right Y G (pow-pos 1074)
@@ -64,8 +66,10 @@ module _ (Y k : ℕ) (least : 2 ^ 59 ≤ Y) (word : Y < 2 ^ 64) (few : k ≤ 100
   rest-is : whole.rest Y range ≡ Y % G * 2 ^ 1074
   rest-is =
       let whole-number : Y / G * (G * 2 ^ 1074) + whole.rest Y range ≡ Y * 2 ^ 1074 =
-      ap₂ (λ (q f : ℕ). q * f + whole.rest Y range) (sym kept-is) (sym field-is) ∙ div-add-mod' (Y * 2 ^ 1074) (2 ^ whole.field Y range) in
-      cancel (Y / G) G (2 ^ 1074) (Y % G) (whole.rest Y range) (whole-number ∙ ap (λ (y : ℕ). y * 2 ^ 1074) (sym (div-add-mod' Y G)))
+      ap₂ (λ (q f : ℕ). q * f + whole.rest Y range) (sym kept-is) (sym field-is) ∙ div-add-mod' (Y * 2 ^ 1074)
+      (2 ^ whole.field Y range) in
+      cancel (Y / G) G (2 ^ 1074) (Y % G) (whole.rest Y range)
+      (whole-number ∙ ap (λ (y : ℕ). y * 2 ^ 1074) (sym (div-add-mod' Y G)))
     where
       cancel : (q g b r t : ℕ) → q * (g * b) + t ≡ (q * g + r) * b → t ≡ r * b
       cancel q g b r t e = omega arith
@@ -85,9 +89,10 @@ module _ (Y k : ℕ) (least : 2 ^ 59 ≤ Y) (word : Y < 2 ^ 64) (few : k ≤ 100
   close : (2 * (n * G) ≤ 2 * Y + G) × (2 * Y ≤ 2 * (n * G) + G)
   close =
       subst (λ (d : ℕ). (2 * (d * G) ≤ 2 * Y + G) × (2 * Y ≤ 2 * (d * G) + G)) (sym (ap₂ nearest kept-is half-is))
-      (picked Y (Y / G) (Y % G) G (compare (Y % G * 2) G) (div-add-mod' Y G) (mod-lt Y (pow-pos (z - 53))) (compared (Y % G * 2) G))
+      (picked Y (Y / G) (Y % G) G (compare (Y % G * 2) G) (div-add-mod' Y G) (mod-lt Y (pow-pos (z - 53)))
+      (compared (Y % G * 2) G))
 
-  -- ---- the answer: its pattern, its size, its unit
+  -- ---- the answer: its pattern, its size, its last place
   abbrev d : ℕ
   d = whole.field Y range - k
 
@@ -113,19 +118,20 @@ module _ (Y k : ℕ) (least : 2 ^ 59 ≤ Y) (word : Y < 2 ^ 64) (few : k ≤ 100
   size-is = value-at d n (whole.digits-low Y range) (whole.digits-high Y range)
 
   same : value bits * 2 ^ k ≡ n * G * 2 ^ 1074
-  same = ap (λ (v : ℕ). v * 2 ^ k) size-is ∙ regroup n (2 ^ d) (2 ^ k) ∙ ap (λ (p : ℕ). n * p) powers ∙ sym (regroup n G (2 ^ 1074))
+  same = ap (λ (v : ℕ). v * 2 ^ k) size-is ∙ regroup n (2 ^ d) (2 ^ k) ∙ ap (λ (p : ℕ). n * p) powers
+      ∙ sym (regroup n G (2 ^ 1074))
     where
       regroup : (a b c : ℕ) → a * b * c ≡ a * (b * c)
       regroup a b c = omega arith
 
-  unit-least : 2 ^ d ≤ 2 ^ (bits / 2 ^ 52 - 1)
-  unit-least = pow-mono {i = d} {j = bits / 2 ^ 52 - 1} (places d n (whole.digits-low Y range))
+  place-least : 2 ^ d ≤ 2 ^ (bits / 2 ^ 52 - 1)
+  place-least = pow-mono {i = d} {j = bits / 2 ^ 52 - 1} (places d n (whole.digits-low Y range))
     where
       places : (d n : ℕ) → 2 ^ 52 ≤ n → d ≤ (d * 2 ^ 52 + n) / 2 ^ 52 - 1
       places d n h = omega arith
 
-  unit-is : units k G ≼ unit bits
-  unit-is = record { cross = le-trans (le-of-eq (sym powers)) (mul-le-mul-right (2 ^ k) unit-least) }
+  place-is : parts k G ≼ last-place bits
+  place-is = record { cross = le-trans (le-of-eq (sym powers)) (mul-le-mul-right (2 ^ k) place-least) }
 
   finite : bits < infinity
   finite = below d n (small z-high) (whole.digits-high Y range)
@@ -138,7 +144,7 @@ module _ (Y k : ℕ) (least : 2 ^ 59 ≤ Y) (word : Y < 2 ^ 64) (few : k ≤ 100
 
   -- THE LAW
   pub rounded-near : {lower upper : ℕ → Quotient} (s : ℕ) (down up : ℕ) → s ≤ 1 → down ≤ 64 → up ≤ 64
-      → Within lower upper (units k Y) (units k down) (units k up) → Near s (round binary64 (eqb s 1) Y (2 ^ k)) lower upper
+      → Within lower upper (parts k Y) (parts k down) (parts k up) → Near s (round binary64 (eqb s 1) Y (2 ^ k)) lower upper
   rounded-near s down up sign a b near =
       let g = halves in
       let h = H-least in
@@ -148,5 +154,5 @@ module _ (Y k : ℕ) (least : 2 ^ 59 ≤ Y) (word : Y < 2 ^ 64) (few : k ≤ 100
         bits = bits;
         finite = finite;
         is = sym (ap (λ (p : ℕ). ofBits binary64 (p + s * 2 ^ 63)) (sym is-bits) ∙ whole.scaled-is Y range k s few sign);
-        within = within-same moved (record { cross = le-of-eq same }) (record { cross = le-of-eq (sym same) }) unit-is unit-is;
+        within = within-same moved (record { cross = le-of-eq same }) (record { cross = le-of-eq (sym same) }) place-is place-is;
       }

@@ -1,4 +1,5 @@
--- Small arguments, which are their own answers: what is left of the series is less than a unit of the argument. Assumes nothing.
+-- Small arguments, which are their own answers: what is left of the series is less than a last place of the argument. Assumes
+-- nothing.
 use Prim.Native.Nat.{ℕ, _-_, _*_, _^_, _≤_, _<_, zero-le}
 use mathlib.Core.Path.{_≡_, refl, subst}
 use mathlib.Core.List.{[], _∷_}
@@ -8,12 +9,12 @@ use Rattle.rounding.specs.Cut.{value}
 use Rattle.rounding.specs.Value.{value-lt}
 use Rattle.enclosure.specs.Quotient.{_≼_, whole, _⊠_}
 use Rattle.series.specs.Pattern.{field}
-use Rattle.series.specs.Near.{number, unit}
-use Rattle.series.specs.Arguments.{below-units}
+use Rattle.series.specs.Near.{number, last-place}
+use Rattle.series.specs.Arguments.{below-places}
 use Rattle.series.specs.Atan as arc
 use Rattle.series.specs.Ln1p as one-plus
 
--- n is the size and u its unit, both in units of 2 ^ -1074
+-- n is the size and u its last place, both in smallest units
 cube : Order 2 (λ n u.
     (con (2 ^ 1074) :* n :* n times n ≼ con (2 ^ 53) :* u)
     ∷ (con (2 ^ 1127) :* u :* n times n ≼ con (2 ^ 1047)) ∷ (con (2 ^ 2174) :* u times n ≼ con (2 ^ 1047)) ∷ []
@@ -33,18 +34,18 @@ ln-1p-tiny-is : value one-plus.tiny ≡ 2 ^ 1020
 unfolding value
 ln-1p-tiny-is = refl
 
-pub nothing : (a : ℕ) → whole 0 ≼ unit a
+pub nothing : (a : ℕ) → whole 0 ≼ last-place a
 nothing a = record { cross = zero-le }
 
-pub cube-small : (a : ℕ) → a < arc.tiny → number a ⊠ (number a ⊠ number a) ≼ unit a
+pub cube-small : (a : ℕ) → a < arc.tiny → number a ⊠ (number a ⊠ number a) ≼ last-place a
 cube-small a h =
-    let few = le-of-lt (below-units a) in
+    let few = le-of-lt (below-places a) in
     let small : value a ≤ 2 ^ 1047 = le-of-lt (subst (λ (v : ℕ). value a < v) atan-tiny-is (value-lt a arc.tiny h)) in
     record { cross = cube .law (value a) (2 ^ (field a - 1)) few small small }
 
-pub square-small : (a : ℕ) → a < one-plus.tiny → number a ⊠ number a ≼ unit a
+pub square-small : (a : ℕ) → a < one-plus.tiny → number a ⊠ number a ≼ last-place a
 square-small a h =
-    let few = le-of-lt (below-units a) in
+    let few = le-of-lt (below-places a) in
     let small : value a ≤ 2 ^ 1020 = le-of-lt (subst (λ (v : ℕ). value a < v) ln-1p-tiny-is (value-lt a one-plus.tiny h)) in
     record { cross = square .law (value a) (2 ^ (field a - 1)) few small }
 

@@ -1,5 +1,5 @@
--- THE THEOREMS (document 01, "What the leaves mean"): at every f64 of the ranges the answer lies within one unit of every
--- enclosure, whatever n. `Near` says what that is. And the answers where there is no enclosure. Assumes nothing.
+-- THE THEOREMS (document 01, "What the leaves mean"): at every f64 of the ranges the answer lies within one last place (its
+-- "unit") of every enclosure, whatever n. `Near` says what that is. And the answers where there is no enclosure. Assumes nothing.
 use Prim.Native.Nat.{ℕ, suc, _+_, _-_, _*_, _/_, _^_, _≤_, _<_}
 use mathlib.Core.Path.{_≡_, refl, sym, ap, _∙_, subst}
 use mathlib.Core.Bool.{true, false}
@@ -12,7 +12,7 @@ use lib.Ieee.Digits.{size-lt}
 use Rattle.algebra.specs.Order.{lt-or-le}
 use Rattle.rounding.specs.Cut.{infinity, value}
 use Rattle.rounding.specs.Value.{value-lt}
-use Rattle.enclosure.specs.Quotient.{Quotient, units}
+use Rattle.enclosure.specs.Quotient.{Quotient, parts}
 use Rattle.enclosure.specs.Order.{≼-refl}
 use Rattle.enclosure.specs.Enclosure.{atan-lower, atan-upper, steep-lower, steep-upper, gain, gain-proper, loss, loss-proper}
 use Rattle.enclosure.specs.Enclosure.{double-lower, double-upper}
@@ -39,7 +39,7 @@ use Rattle.series.specs.Cases as cases
 use Rattle.series.specs.Exponents.{full-low, full-high, digits-most, answer-fits, answer-size, below-fits, below-size}
 use Rattle.series.specs.Rounded.{rounded-near}
 use Rattle.series.specs.Names.{signed-bits}
-use Rattle.series.specs.Arguments.{floor-below, whole-units, one-is, above-one, inverse-is, inverse-none, seed-above}
+use Rattle.series.specs.Arguments.{floor-below, whole-parts, one-is, above-one, inverse-is, inverse-none, seed-above}
 use Rattle.series.specs.Arguments.{seed-below}
 use Rattle.series.specs.Small.{nothing, cube-small, square-small, quarter}
 
@@ -76,7 +76,7 @@ module _ (s a : ℕ) (sign : s ≤ 1) (small : a < infinity) where
   abbrev t : Quotient
   t = number a
 
-  -- A is the rule's answer in units of 2 ^ -(62 + j)
+  -- A is the rule's answer in parts of 2 ^ -(62 + j)
   atan-rounded : (j tau : ℕ) → j ≤ 100 → tau ≤ 2 ^ 62 → 2 ^ 61 ≤ tau → Floor t j tau
       → Near s (round binary64 (eqb s 1) (atan-answer j tau) (2 ^ (62 + j))) (atan-lower t) (atan-upper t)
   atan-rounded j tau few high low floor =
@@ -105,7 +105,7 @@ module _ (s a : ℕ) (sign : s ≤ 1) (small : a < infinity) where
       let case = cases.atan-at-one x b is (size-same ∙ e) in
       let named : arc.at-one (eqb s 1) ≡ atan x = rw sign-same at case in
       let size-one : value a ≡ 2 ^ 1074 = ap value e ∙ one-is in
-      let floor : Floor t 0 (2 ^ 62) = whole-units t 0 (2 ^ 62) (omega arith) (ap (λ (v : ℕ). v * 2 ^ 62) size-one) in
+      let floor : Floor t 0 (2 ^ 62) = whole-parts t 0 (2 ^ 62) (omega arith) (ap (λ (v : ℕ). v * 2 ^ 62) size-one) in
       near-is (sym named) (atan-rounded 0 (2 ^ 62) (omega arith) (omega arith) (omega arith) floor)
 
   -- THEOREM
@@ -153,7 +153,7 @@ module _ (s a : ℕ) (sign : s ≤ 1) (small : a < infinity) where
     steep-atan-within = near-is (sym steep-is) steep-rounded
 
 -- ---- ln_1p from 0 to 3/4, and from -3/4 to 0
--- (B is the rule's answer in units of 2 ^ -(61 + j), from the seed sg of r)
+-- (B is the rule's answer in parts of 2 ^ -(61 + j), from the seed sg of r)
 double-rounded : (s : ℕ) → s ≤ 1 → (r : Quotient) (proper : r .num < r .den) (j sg : ℕ) → Seed r j sg → j ≤ 100 → 2 ^ 59 ≤ sg
     → Near s (round binary64 (eqb s 1) (T-answer j sg) (2 ^ (61 + j))) (double-lower r) (double-upper r proper)
 double-rounded s sign r proper j sg seed few some =
@@ -235,8 +235,8 @@ few = omega arith
 
 -- from 2 up
 ln-within-from-two : (b : ℕ) → two ≤ b → b < infinity
-    → Near 0 (ln (ofBits binary64 b)) (ln-lower (units 52 (digits b)) (field b - 1023))
-    (ln-upper (units 52 (digits b)) (field b - 1023))
+    → Near 0 (ln (ofBits binary64 b)) (ln-lower (parts 52 (digits b)) (field b - 1023))
+    (ln-upper (parts 52 (digits b)) (field b - 1023))
 ln-within-from-two b h l =
     let e = field b - 1023 in
     let m = digits b in
@@ -248,9 +248,9 @@ ln-within-from-two b h l =
     0 12 42 (omega arith) (omega arith) (omega arith)
     (answers.ln-within m z e (range .low) (range .high) (range .least) (size-lt e) (omega arith)))
 
--- between 1 and 2, where x - 1 is n units of 2 ^ -53
+-- between 1 and 2, where x - 1 is n parts of 2 ^ -53
 ln-within-above-one : (b : ℕ) → logarithm.one < b → b < two
-    → Near 0 (ln (ofBits binary64 b)) (ln-lower (units 52 (digits b)) 0) (ln-upper (units 52 (digits b)) 0)
+    → Near 0 (ln (ofBits binary64 b)) (ln-lower (parts 52 (digits b)) 0) (ln-upper (parts 52 (digits b)) 0)
 ln-within-above-one b h l =
     let n = 2 * (digits b - 2 ^ 52) in
     let same : 2 * (b - logarithm.one) ≡ n = omega arith in
@@ -273,16 +273,16 @@ ln-within-above-one b h l =
 
 -- THEOREM: above 1 the number is m * 2 ^ e, m = digits / 2 ^ 52 (`ln-parts`)
 pub ln-within : (b : ℕ) → logarithm.one < b → b < infinity
-    → Near 0 (ln (ofBits binary64 b)) (ln-lower (units 52 (digits b)) (field b - 1023))
-    (ln-upper (units 52 (digits b)) (field b - 1023))
+    → Near 0 (ln (ofBits binary64 b)) (ln-lower (parts 52 (digits b)) (field b - 1023))
+    (ln-upper (parts 52 (digits b)) (field b - 1023))
 ln-within b h l = elim (lt-or-le b two) [
   | inl k ↦ let e : field b - 1023 ≡ 0 = omega arith in rw e (ln-within-above-one b h k)
   | inr k ↦ ln-within-from-two b k l
 ]
 
--- between 1/2 and 1, where 1 - x is n units of 2 ^ -53
+-- between 1/2 and 1, where 1 - x is n parts of 2 ^ -53
 ln-within-below-one : (b : ℕ) → half ≤ b → b < logarithm.one
-    → Near 1 (ln (ofBits binary64 b)) (ln-below-lower (units 52 (digits b)) 1) (ln-below-upper (units 52 (digits b)) 1)
+    → Near 1 (ln (ofBits binary64 b)) (ln-below-lower (parts 52 (digits b)) 1) (ln-below-upper (parts 52 (digits b)) 1)
 ln-within-below-one b h l =
     let n = 2 ^ 53 - digits b in
     let same : logarithm.one - b ≡ n = omega arith in
@@ -304,7 +304,7 @@ ln-within-below-one b h l =
     word h = omega arith
 
 -- below 1/2
-ln-within-below-half : (b : ℕ) → 1 ≤ b → b < half → let m = units 52 (full-digits b) in let e = suc (below-exponent b) in
+ln-within-below-half : (b : ℕ) → 1 ≤ b → b < half → let m = parts 52 (full-digits b) in let e = suc (below-exponent b) in
     Near 1 (ln (ofBits binary64 b)) (ln-below-lower m e) (ln-below-upper m e)
 ln-within-below-half b h l =
     let e = below-exponent b in
@@ -318,7 +318,7 @@ ln-within-below-half b h l =
     (answers.ln-below-within m z e (range .low) (range .high) (range .least) (size-lt e) (omega arith)))
 
 -- THEOREM: below 1 the number is m * 2 ^ -e, m = full-digits / 2 ^ 52 (`ln-below-parts`), and the answer is below zero
-pub ln-below-within : (b : ℕ) → 1 ≤ b → b < logarithm.one → let m = units 52 (full-digits b) in let e = suc (below-exponent b) in
+pub ln-below-within : (b : ℕ) → 1 ≤ b → b < logarithm.one → let m = parts 52 (full-digits b) in let e = suc (below-exponent b) in
     Near 1 (ln (ofBits binary64 b)) (ln-below-lower m e) (ln-below-upper m e)
 ln-below-within b h l = elim (lt-or-le b half) [
   | inl k ↦ ln-within-below-half b h k

@@ -26,18 +26,18 @@ const QUARTER_PI: u64 = 0x3fe9_21fb_5444_2d18; // of atan at 1,
 
 const HALF_PI: u64 = 0x3ff9_21fb_5444_2d18; // and at the infinity
 
-const UNITS: u64 = 0x4000_0000_0000_0000; // 2 ^ 62: one in units of 2 ^ -62
+const PARTS: u64 = 0x4000_0000_0000_0000; // 2 ^ 62: one in parts of 2 ^ -62
 
-const HALF_PI_UNITS: u64 = 0x6487_ed51_10b4_611a; // and π/2, rounded down
+const HALF_PI_PARTS: u64 = 0x6487_ed51_10b4_611a; // and π/2, rounded down
 
-// atan of tau units of 2 ^ -(62 + j), in these units.
+// atan of tau parts of 2 ^ -(62 + j), in these parts.
 fn arc(j: u64, tau: u64) -> u64
     requires { ⌜ (j ≤ 31) × (tau ≤ 2 ^ 62) ⌝ }
     ensures { λ r. ⌜ r ≡ atan-answer j tau ⌝ }
 {
     let u = high(2 * tau, tau) >> (2 * j);
-    let f = quotient(u, UNITS / 2 + u);
-    let front = high(2 * tau, 2 * (UNITS - f));
+    let f = quotient(u, PARTS / 2 + u);
+    let front = high(2 * tau, 2 * (PARTS - f));
     high(2 * front, euler(4 * f))
 }
 
@@ -55,8 +55,8 @@ fn above_one(s: u64, a: u64) -> f64
     requires { ⌜ (s ≤ 1) × (one < a) × (a < far) ⌝ }
     ensures { λ r. ⌜ r ≡ above-one (eqb s 1) a ⌝ }
 {
-    let tau = quotient(UNITS / 2, (a % FIELD + FIELD) * 512) >> (a / FIELD - 1023);
-    scaled(HALF_PI_UNITS - arc(0, tau), 62, s)
+    let tau = quotient(PARTS / 2, (a % FIELD + FIELD) * 512) >> (a / FIELD - 1023);
+    scaled(HALF_PI_PARTS - arc(0, tau), 62, s)
 }
 
 pub fn atan(x: f64) -> f64

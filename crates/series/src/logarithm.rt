@@ -41,7 +41,7 @@ fn below_half(e: u64, m: u64) -> f64
     multiple(e, (FULL - m) * 512, (FULL + m) * 256, 1)
 }
 
-// ln at n units of 2 ^ -53 from 1; below it where s is 1.
+// ln at n parts of 2 ^ -53 from 1; below it where s is 1.
 fn close(s: u64, n: u64) -> f64
     requires { ⌜ (s ≤ 1) × Distance s n ⌝ }
     ensures { λ r. ⌜ r ≡ ln-close (eqb s 1) n ⌝ }

@@ -13,11 +13,11 @@ ghost use Rattle.enclosure.specs.Rules.{T-answer, multiple};
 ghost use Rattle.series.specs.Ln1p.{seed};
 ghost use Rattle.series.specs.Ranges.{Seeded, Multiple, Close};
 
-const LN_TWO: u64 = 0x58b9_0bfb_e8e7_bcd5; // ln 2 in units of 2 ^ -63, rounded down
+const LN_TWO: u64 = 0x58b9_0bfb_e8e7_bcd5; // ln 2 in parts of 2 ^ -63, rounded down
 
-const FOUR: u64 = 0x4000_0000_0000_0000; // 4 in units of 2 ^ -60, those of a divisor
+const FOUR: u64 = 0x4000_0000_0000_0000; // 4 in parts of 2 ^ -60, those of a divisor
 
-// T(s), where s is sg units of 2 ^ -(62 + j), in these units. The square in units of 2 ^ -64 is shifted by j twice over, since
+// T(s), where s is sg parts of 2 ^ -(62 + j), in these parts. The square in parts of 2 ^ -64 is shifted by j twice over, since
 // 2 * j may be more than a word has; with a branch for that, LLVM would make jumps of the table's rows.
 fn t_sum(j: u64, sg: u64) -> u64
     requires { ⌜ Seeded j sg ⌝ }

@@ -13,8 +13,8 @@ use Rattle.carlson.specs.Answer.{wayOf, closedAt, taylorAt, infiniteAt, settled
 use Rattle.carlson.specs.Rescaling.{rescaling2, rescaling3}
 use Rattle.carlson.specs.declared.answer.Answer.{Answer}
 use Rattle.carlson.specs.declared.answer.Answer.the-variants.{Value, Refused}
-use Rattle.elliprc.specs.Rc.{rc, rcUnchecked, rcFound, rcSteps, rcCases, atEqual}
-use Rattle.elliprf.specs.Rf.{rf, rfUnchecked, rfSteps, allEqual, oneZero}
+use Rattle.elliprc.specs.Rc.{rc, rcUnchecked, rcFound, rcSteps, rcCases, rcAtEqual}
+use Rattle.elliprf.specs.Rf.{rf, rfUnchecked, rfSteps, rfEqual, rfZero}
 use Rattle.elliprd.specs.Rd.{rd, rdUnchecked, rdSteps, rdOrdered, rdEqual, rdSettled}
 use Rattle.sorting.specs.Sorting.{fallXY, fallXZ, riseXY, riseYZ, rising, largestFirst}
 use Rattle.elliprg.specs.Rg.{rg, rgUnchecked, rgSteps, rgSorted, rgLow, rgAlone, rgSettled}
@@ -84,8 +84,8 @@ table =
 -- ---- the statement
 -- what has to compute: the entries down the roads that the rows take, the leaves, and IEEE 754's operations
 pub sixteen : All table
-unfolding rf rfUnchecked rfSteps allEqual oneZero
-    rc rcUnchecked rcFound rcSteps rcCases atEqual
+unfolding rf rfUnchecked rfSteps rfEqual rfZero
+    rc rcUnchecked rcFound rcSteps rcCases rcAtEqual
     rd rdUnchecked rdSteps rdOrdered rdEqual rdSettled
     rg rgUnchecked rgSteps rgSorted rgLow rgAlone rgSettled fallXY fallXZ riseYZ largestFirst
     rj rjUnchecked rjRun rjSettled planOf planNear planScaled planUnscaled rjPositive rjAll rising riseXY

@@ -1,42 +1,64 @@
--- What the exchanges come to: the same three values, in order. NaNs are in: a NaN is below nothing, and nothing is below it.
--- Assumes nothing.
-use Prim.Native.Nat.{ℕ, _+_, _*_}
-use mathlib.Core.Path.{_≡_, refl, sym, _∙_}
-use mathlib.Core.Bool.{Bool, true, false, _&&_, not, cond}
-use native.Mathlib.Omega.{arith}
-use borrow.Author.Tests.{le-ltb, ltb-true}
-use lib.Dec.{ltb}
-use lib.IntN.{ℤ}
-use lib.Ieee.{Float, nan, inf, fin, lt, below, up, down}
+-- What the exchanges come to: none is below the one before it, and they are the same three. NaNs are in: a NaN is below nothing,
+-- and nothing is below it; where none is NaN, the three are in order. Assumes nothing.
+use mathlib.Core.Path.{_≡_, refl, _∙_}
+use mathlib.Core.Bool.{Bool, true, false, _||_, cond, true≢false}
+use lib.Ieee.{Float, isNan, lt, le}
 use Rattle.sorting.specs.declared.Triple.{Triple}
 use Rattle.sorting.specs.Sorting.{riseXY, riseYZ, fallXY, fallXZ, rising, largestFirst}
+use Rattle.sorting.specs.Order.{lt-once, not-below-through, not-below-le}
 
--- ---- of two, not each is below the other
-below-once : (s t : Bool) (m n : ℕ) → below s m t n ≡ true → below t n s m ≡ false
-below-once false false m n e = let h = ltb-true m n e in le-ltb n m (omega arith)
-below-once false true m n e = absurd (no e)
+-- ---- none is below the one before it
+pub record Rises (a b c : Float) : Type 0 where
+  pub second : lt b a ≡ false
+  pub third : lt c b ≡ false
+
+-- from the smallest to the largest
+abbrev pub Upward : Triple → Type 0
+Upward t = Rises (t .x) (t .y) (t .z)
+
+-- the smallest in y, the largest in x
+abbrev pub LargestFirst : Triple → Type 0
+LargestFirst t = Rises (t .y) (t .z) (t .x)
+
+pub rising-rises : (t : Triple) → Upward (rising t)
+unfolding rising riseXY riseYZ
+rising-rises t = start (lt (t .y) (t .x)) refl
   where
-    no : false ≡ true → ⊥
-    no e = let z : _≡_ {A = ℕ} 0 1 = cc in omega arith
-below-once true false m n e = refl
-below-once true true m n e = let h = ltb-true n m e in le-ltb m n (omega arith)
+    -- x is not above y; of y and z the smaller comes before, and is held against x
+    last : (x y z : Float) (b : Bool) → lt z x ≡ b → lt y x ≡ false → lt z y ≡ true
+        → Upward (cond b (record { x = z; y = x; z = y }) (record { x = x; y = z; z = y }))
+    last x y z true e h g = record { second = lt-once z x e; third = h }
+    last x y z false e h g = record { second = e; third = lt-once z y g }
 
-pub lt-once : (x y : Float) → lt x y ≡ true → lt y x ≡ false
-unfolding lt
-lt-once nan nan e = refl
-lt-once nan (inf t) e = refl
-lt-once nan (fin t n d) e = refl
-lt-once (inf s) nan e = refl
-lt-once (inf true) (inf true) e = refl
-lt-once (inf true) (inf false) e = refl
-lt-once (inf false) (inf true) e = sym e
-lt-once (inf false) (inf false) e = refl
-lt-once (inf true) (fin t n d) e = refl
-lt-once (inf false) (fin t n d) e = sym e
-lt-once (fin s m e) nan h = refl
-lt-once (fin s m e) (inf true) h = sym h
-lt-once (fin s m e) (inf false) h = refl
-lt-once (fin s m e) (fin t n d) h = below-once s t (m * up e * down d) (n * up d * down e) h
+    middle : (x y z : Float) (b : Bool) → lt z y ≡ b → lt y x ≡ false
+        → Upward (riseXY (cond b (record { x = x; y = z; z = y }) (record { x = x; y = y; z = z })))
+    middle x y z true e h = last x y z (lt z x) refl h e
+    middle x y z false e h = rw h (record { second = h; third = e })
+
+    start : (b : Bool) → lt (t .y) (t .x) ≡ b → Upward (riseXY (riseYZ (cond b (record { x = t .y; y = t .x; z = t .z }) t)))
+    start true e = middle (t .y) (t .x) (t .z) (lt (t .z) (t .x)) refl (lt-once (t .y) (t .x) e)
+    start false e = middle (t .x) (t .y) (t .z) (lt (t .z) (t .y)) refl e
+
+pub largest-first-rises : (t : Triple) → LargestFirst (largestFirst t)
+unfolding largestFirst fallXY fallXZ riseYZ
+largest-first-rises t = start (lt (t .x) (t .y)) refl
+  where
+    -- nothing is above x; of y and z the smaller comes before
+    last : (x y z : Float) (b : Bool) → lt z y ≡ b → lt x y ≡ false → lt x z ≡ false
+        → LargestFirst (cond b (record { x = x; y = z; z = y }) (record { x = x; y = y; z = z }))
+    last x y z true e h g = record { second = lt-once z y e; third = h }
+    last x y z false e h g = record { second = e; third = g }
+
+    -- x is not below y, and is held against z
+    middle : (x y z : Float) (b : Bool) → lt x z ≡ b → lt x y ≡ false
+        → LargestFirst (riseYZ (cond b (record { x = z; y = y; z = x }) (record { x = x; y = y; z = z })))
+    middle x y z true e h = rw h (record { second = h; third = lt-once x z e })
+    middle x y z false e h = last x y z (lt z y) refl h e
+
+    start : (b : Bool) → lt (t .x) (t .y) ≡ b
+        → LargestFirst (riseYZ (fallXZ (cond b (record { x = t .y; y = t .x; z = t .z }) t)))
+    start true e = middle (t .y) (t .x) (t .z) (lt (t .y) (t .z)) refl (lt-once (t .x) (t .y) e)
+    start false e = middle (t .x) (t .y) (t .z) (lt (t .x) (t .z)) refl e
 
 -- ---- the same three: whatever does not hang on the order of three values is the same of them
 module _ {A : Type 0} (f : Float → Float → Float → A) (first : (x y z : Float) → f x y z ≡ f y x z)
@@ -75,26 +97,71 @@ module _ {A : Type 0} (f : Float → Float → Float → A) (first : (x y z : Fl
   unfolding largestFirst
   largest-first-same t = rise-yz (fallXZ (fallXY t)) ∙ fall-xz (fallXY t) ∙ fall-xy t
 
--- ---- in order: none is below the one before it
-pub record Rises (t : Triple) : Type 0 where
-  pub second : lt (t .y) (t .x) ≡ false
-  pub third : lt (t .z) (t .y) ≡ false
+-- ---- where none is NaN, they are in order
+pub record Numbers (a b c : Float) : Type 0 where
+  pub first : isNan a ≡ false
+  pub middle : isNan b ≡ false
+  pub last : isNan c ≡ false
 
-pub rising-rises : (t : Triple) → Rises (rising t)
-unfolding rising riseXY riseYZ
-rising-rises t = start (lt (t .y) (t .x)) refl
+-- a <= b <= c, and so a <= c
+pub record InOrder (a b c : Float) : Type 0 where
+  pub lower : le a b ≡ true
+  pub upper : le b c ≡ true
+  pub ends : le a c ≡ true
+
+pub in-order : {a b c : Float} → Numbers a b c → Rises a b c → InOrder a b c
+in-order {a} {b} {c} n r = record {
+  lower = not-below-le a b (n .first) (n .middle) (r .second);
+  upper = not-below-le b c (n .middle) (n .last) (r .third);
+  ends = not-below-le a c (n .first) (n .last) (not-below-through a b c (n .middle) (r .second) (r .third));
+}
+
+-- whether one of three is NaN does not hang on their order, so that it is the same of the three in order
+someNan : Float → Float → Float → Bool
+someNan a b c = isNan a || (isNan b || isNan c)
+
+first-alike : (a b c : Float) → someNan a b c ≡ someNan b a c
+unfolding someNan
+first-alike a b c = go (isNan a) (isNan b) (isNan c)
   where
-    -- x is not above y; of y and z the smaller comes before, and is held against x
-    last : (x y z : Float) (b : Bool) → lt z x ≡ b → lt y x ≡ false → lt z y ≡ true
-        → Rises (cond b (record { x = z; y = x; z = y }) (record { x = x; y = z; z = y }))
-    last x y z true e h g = record { second = lt-once z x e; third = h }
-    last x y z false e h g = record { second = e; third = lt-once z y g }
+    go : (p q r : Bool) → (p || (q || r)) ≡ (q || (p || r))
+    go true true r = refl
+    go true false r = refl
+    go false q r = refl
 
-    middle : (x y z : Float) (b : Bool) → lt z y ≡ b → lt y x ≡ false
-        → Rises (riseXY (cond b (record { x = x; y = z; z = y }) (record { x = x; y = y; z = z })))
-    middle x y z true e h = last x y z (lt z x) refl h e
-    middle x y z false e h = rw h (record { second = h; third = e })
+last-alike : (a b c : Float) → someNan a b c ≡ someNan a c b
+unfolding someNan
+last-alike a b c = go (isNan a) (isNan b) (isNan c)
+  where
+    go : (p q r : Bool) → (p || (q || r)) ≡ (p || (r || q))
+    go true q r = refl
+    go false true true = refl
+    go false true false = refl
+    go false false true = refl
+    go false false false = refl
 
-    start : (b : Bool) → lt (t .y) (t .x) ≡ b → Rises (riseXY (riseYZ (cond b (record { x = t .y; y = t .x; z = t .z }) t)))
-    start true e = middle (t .y) (t .x) (t .z) (lt (t .z) (t .x)) refl (lt-once (t .y) (t .x) e)
-    start false e = middle (t .x) (t .y) (t .z) (lt (t .z) (t .y)) refl e
+none-nan : (a b c : Float) → Numbers a b c → someNan a b c ≡ false
+unfolding someNan
+none-nan a b c n = rw (n .first, n .middle, n .last)
+
+all-numbers : (a b c : Float) → someNan a b c ≡ false → Numbers a b c
+unfolding someNan
+all-numbers a b c = go (isNan a) (isNan b) (isNan c) refl refl refl
+  where
+    go : (p q r : Bool) → isNan a ≡ p → isNan b ≡ q → isNan c ≡ r → (p || (q || r)) ≡ false → Numbers a b c
+    go true q r d e f h = absurd (true≢false h)
+    go false true r d e f h = absurd (true≢false h)
+    go false false true d e f h = absurd (true≢false h)
+    go false false false d e f h = record { first = d; middle = e; last = f }
+
+kept : (t r : Triple) → someNan (r .x) (r .y) (r .z) ≡ someNan (t .x) (t .y) (t .z) → Numbers (t .x) (t .y) (t .z)
+    → Numbers (r .x) (r .y) (r .z)
+kept t r e n = all-numbers (r .x) (r .y) (r .z) (e ∙ none-nan (t .x) (t .y) (t .z) n)
+
+pub rising-in-order : (t : Triple) → Numbers (t .x) (t .y) (t .z) → let r = rising t in InOrder (r .x) (r .y) (r .z)
+rising-in-order t n = in-order (kept t (rising t) (rising-same someNan first-alike last-alike t) n) (rising-rises t)
+
+pub largest-first-in-order : (t : Triple) → Numbers (t .x) (t .y) (t .z) → let r = largestFirst t in InOrder (r .y) (r .z) (r .x)
+largest-first-in-order t n =
+    let k = kept t (largestFirst t) (largest-first-same someNan first-alike last-alike t) n in
+    in-order (record { first = k .middle; middle = k .last; last = k .first }) (largest-first-rises t)

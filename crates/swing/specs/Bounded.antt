@@ -21,7 +21,7 @@ use Rattle.carlson.specs.Only as only
 use Rattle.carlson.specs.declared.answer.Found.{Found}
 use Rattle.carlson.specs.declared.answer.Answer.{Answer}
 use Rattle.carlson.specs.declared.answer.Answer.the-variants.{Value, Refused}
-use Rattle.elliprf.specs.Means.{agmOf}
+use Rattle.elliprf.specs.Means.{rfAgmOf}
 use Rattle.elliprf.specs.Rf.{rfGeneral, rfSteps, rfUnchecked, rf}
 use Rattle.swing.specs.Period.{
   within,
@@ -103,7 +103,7 @@ module _ {y : Float} (Y : Between (power 998) below-one y) where
       eq-is y one (units-of Y) (2 ^ 1074) (has-value Y) one-units
       ∙ ne-eqb (units-of Y) (2 ^ 1074) (λ e. lt-irrefl (2 ^ 1074) (subst (λ (z : ℕ). z < 2 ^ 1074) e under-one))
 
-  steps-are : rfSteps +0 y one ≡ agmOf one y
+  steps-are : rfSteps +0 y one ≡ rfAgmOf one y
   unfolding rfSteps rfGeneral
   steps-are = rw (zero-not Y, not-1, zero-is-not-one, zero-is-zero)
 
@@ -115,11 +115,11 @@ module _ {y : Float} (Y : Between (power 998) below-one y) where
   unfolding maximum
   scale-is = rw (size-of-zero, own-size Y, size-of-one, no-nan-zero, above-zero Y, not-nan Y, below-1)
 
-  unchecked-is : rfUnchecked +0 y one ≡ agmOf one y
+  unchecked-is : rfUnchecked +0 y one ≡ rfAgmOf one y
   unfolding rfUnchecked rescaling3
   unchecked-is = rw (scale-is, one-not-beyond, steps-are)
 
-  pub rf-is : rf +0 y one ≡ Value (agmOf one y)
+  pub rf-is : rf +0 y one ≡ Value (rfAgmOf one y)
   unfolding rf settled
   rf-is =
       rw (
@@ -146,7 +146,7 @@ record InRange (l h g : ℕ) : Type 0 where
 -- what a swing of arguments in range takes, with RF's way
 swing-of : ℕ → ℕ → ℕ → Found
 swing-of l h g =
-    let f = agmOf one (ratio (2 * l - h) (2 * l)) in
+    let f = rfAgmOf one (ratio (2 * l - h) (2 * l)) in
     carriedAt (fourRoots l g ⊗ f .value) (f .way)
 
 module _ (l h g : ℕ) (R : InRange l h g) where

@@ -12,7 +12,7 @@ use Rattle.carlson.specs.Answer.{agmAt}
 use Rattle.carlson.specs.Loop.{capped}
 use Rattle.carlson.specs.declared.answer.Found.{Found}
 use Rattle.elliprf.specs.declared.means.Means.{Means}
-use Rattle.elliprf.specs.Means.{meansOf, agmValue, agmStart, agmCount, together, agmOf}
+use Rattle.elliprf.specs.Means.{rfMeansOf, rfAgmValue, rfAgmStart, rfAgmCount, rfTogether, rfAgmOf}
 use Rattle.between.specs.Between.{solid, Between, sum-between, product-between, quotient-between, root-between, constant}
 use Rattle.swing.specs.Ratios.{power, below-one}
 
@@ -27,8 +27,8 @@ halved : {lo hi : ℕ} {x : Float} → Between lo hi x → (p q : ℕ) → T (so
     → T (leb (value hi * 2 ^ 1074) (value q * value (power 1024))) → Between p q (x ⊘ two)
 halved X p q o s t = quotient-between X (constant (power 1024) tt) p q o s t
 
-kept : (k : ℕ) (m : Means) → Kept k m → Kept (suc k) (meansOf m)
-unfolding value meansOf
+kept : (k : ℕ) (m : Means) → Kept k m → Kept (suc k) (rfMeansOf m)
+unfolding value rfMeansOf
 kept zero m K = (
   halved (sum-between (K .0) (K .1) (power 1023) (power 1024) tt tt tt) (power 1022) (power 1023) tt tt tt,
   root-between (product-between (K .0) (K .1) (power 1010) (power 1023) tt tt tt) (power 1016) (power 1023) tt tt tt,
@@ -52,8 +52,8 @@ pi-over : {lo : ℕ} {x : Float} → Between lo (power 1024) x
 unfolding value
 pi-over X t = quotient-between (constant 0x4009_21FB_5444_2D18 tt) X (power 1023) (power 1028) tt tt t
 
-answered : (k : ℕ) (m : Means) → Kept k m → Answered (agmValue m)
-unfolding value agmValue
+answered : (k : ℕ) (m : Means) → Kept k m → Answered (rfAgmValue m)
+unfolding value rfAgmValue
 answered zero m K = pi-over (sum-between (K .0) (K .1) (power 1023) (power 1024) tt tt tt) tt
 answered (suc zero) m K = pi-over (sum-between (K .0) (K .1) (power 1022) (power 1024) tt tt tt) tt
 answered (suc (suc k)) m K = pi-over (sum-between (K .0) (K .1) (power 1020) (power 1024) tt tt tt) tt
@@ -76,15 +76,15 @@ module _ {S A : Type 0} (step : S → S) (stop : S → Bool) (found : S → ℕ 
   ended (suc left) false s n k g = ended left (stop (step s)) (step s) (suc n) (suc k) (next k s g)
 
 -- RF's mean of 1 and y
-pub mean : (y : Float) → Between (power 998) below-one y → Answered (agmOf one y .value)
-unfolding agmOf
+pub mean : (y : Float) → Between (power 998) below-one y → Answered (rfAgmOf one y .value)
+unfolding rfAgmOf
 mean y Y =
-    let r = ended meansOf together agmCount Kept kept 11 (together (agmStart one y)) (agmStart one y) 0 0 started in
-    subst Answered (sym (ap (λ (f : Found). f .value) (r .is) ∙ counted (agmValue (r .state)) (r .count)))
+    let r = ended rfMeansOf rfTogether rfAgmCount Kept kept 11 (rfTogether (rfAgmStart one y)) (rfAgmStart one y) 0 0 started in
+    subst Answered (sym (ap (λ (f : Found). f .value) (r .is) ∙ counted (rfAgmValue (r .state)) (r .count)))
     (answered (r .passes) (r .state) (r .good))
   where
-    started : Kept 0 (agmStart one y)
-    started = unfold value agmStart in (
+    started : Kept 0 (rfAgmStart one y)
+    started = unfold value rfAgmStart in (
       root-between (constant (power 1023) tt) (power 1023) (power 1023) tt tt tt,
       root-between Y (power 1010) (power 1023) tt tt tt,
     )

@@ -6,6 +6,8 @@ use lib.Dec.{eqb}
 use lib.ListN.{length}
 use native.Mathlib.Omega.{arith}
 use Rattle.writing.specs.Bad.{badText}
+use Rattle.writing.specs.Fed.{quiet}
+use Rattle.writing.specs.FedLaws.{Short}
 use Rattle.swing.specs.Period.{periodOf}
 use Rattle.swing_read.specs.Reading.{lineOf}
 use Rattle.swing_read.specs.declared.Line.{Line}
@@ -13,7 +15,7 @@ use Rattle.swing_read.specs.declared.Line.the-variants.{One, Three, Bad}
 use Rattle.swing_write.specs.Replies.{totalText, longestSwing, longestTotal}
 use Rattle.swing_write.specs.Lengths.{swing-length, total-length}
 use Rattle.swing_stream.specs.Lines.{taken, swingSaid, stepsSaid, saidTo}
-use Rattle.swing_stream.specs.Stream.{said, saidAt, saidAtEnd}
+use Rattle.swing_stream.specs.Stream.{said, lineEnd, swingByte, saidAtEnd}
 use Rattle.swing_stream.specs.declared.lines.State.{State}
 
 either : (t : Bool) (a b : List ℕ) (k : ℕ) → length a ≤ k → length b ≤ k → length (cond t a b) ≤ k
@@ -35,9 +37,13 @@ unfolding said saidTo
 said-length s = let l = lineOf (s .reading) in either (s .counting) (stepsSaid s l) (swingSaid l) longestSwing
     (steps-said-length s l) (swing-said-length l)
 
-pub said-at-length : (s : State) (b : ℕ) → length (saidAt s b) ≤ longestSwing
-unfolding saidAt
-said-at-length s b = either (eqb b 10) (said s) [] longestSwing (said-length s) (omega arith)
+pub byte-short : (s : State) (b : ℕ) → Short longestSwing 0 (swingByte s b)
+unfolding swingByte
+byte-short s b = go (eqb b 10) _
+  where
+    go : (t : Bool) (u : State) → Short longestSwing 0 (cond t (lineEnd s) (quiet u))
+    go true u = (said-length s, omega arith)
+    go false u = (omega arith, omega arith)
 
 pub said-end-length : (s : State) → length (saidAtEnd s) ≤ longestTotal
 unfolding saidAtEnd

@@ -1,15 +1,15 @@
 -- The swing's lines and the step log's as they come, byte by byte. Definitions only.
 use Prim.Native.Nat.{ℕ, _+_}
-use mathlib.Core.Path.{_≡_}
-use mathlib.Core.Bool.{cond}
+use mathlib.Core.Bool.{false, cond}
 use mathlib.Core.List.{List, [], _∷_, _++_}
 use lib.Dec.{eqb}
 use Rattle.writing.specs.Bad.{badText}
-use Rattle.writing.specs.Written.{Put}
+use Rattle.writing.specs.Fed.{Ran, quiet, Fed, run}
 use Rattle.swing_read.specs.Reading.{byteAfter, lineOf, readLine, atStart}
 use Rattle.swing_write.specs.Replies.{totalText, longestSwing, longestTotal}
 use Rattle.swing_stream.specs.Lines.{afterLine, saidTo}
 use Rattle.swing_stream.specs.declared.lines.State.{State}
+use Rattle.swing_stream.specs.declared.stream.Progress.{Progress}
 
 -- ---- the line that is read so far ends
 unfoldable pub heard : State → State
@@ -18,27 +18,23 @@ heard s = afterLine s (lineOf (s .reading))
 unfoldable pub said : State → List ℕ
 said s = saidTo s (lineOf (s .reading))
 
+-- nothing is counted
+abbrev pub lineEnd : State → Ran State
+lineEnd s = record { said = said s; count = 0; left = heard s }
+
 -- ---- one byte: a newline ends the line
-unfoldable pub stateAfter : State → ℕ → State
-stateAfter s b = cond (eqb b 10) (heard s) (record {
+unfoldable pub swingByte : State → ℕ → Ran State
+swingByte s b = cond (eqb b 10) (lineEnd s) (quiet (record {
   counting = s .counting;
   known = s .known;
   log = s .log;
   reading =
       byteAfter (s .reading) b;
-})
+}))
 
-unfoldable pub saidAt : State → ℕ → List ℕ
-saidAt s b = cond (eqb b 10) (said s) []
-
--- some bytes
-unfoldable pub restOf : State → List ℕ → State
-restOf s [] = s
-restOf s (b ∷ bs) = restOf (stateAfter s b) bs
-
-unfoldable pub saidOf : State → List ℕ → List ℕ
-saidOf s [] = []
-saidOf s (b ∷ bs) = saidAt s b ++ saidOf (stateAfter s b) bs
+-- some bytes, whatever they are
+abbrev pub swingFrom : State → List ℕ → Ran State
+swingFrom = run swingByte (λ s. false)
 
 -- ---- at the input's end: a line that has begun ends there; then the step log's total, if one was given
 unfoldable pub saidAtEnd : State → List ℕ
@@ -60,7 +56,6 @@ blockLength = 1024
 abbrev pub longestLast : ℕ
 longestLast = longestSwing + longestTotal
 
--- ---- what a function that is fed some bytes does: `after` is the state that it comes to, and `text` was put into `out`
-pub record Told (is : State) (text : List ℕ) (after : State) (before : List ℕ) (at : ℕ) (out : List ℕ) (next : ℕ) : Type 0 where
-  pub state : after ≡ is
-  pub words : Put before at text out next
+-- ---- what a function that is fed some bytes does: the state that it comes to, and what is said was put into `out`
+abbrev pub Swings : Ran State → List ℕ → ℕ → List ℕ → Progress → Type 0
+Swings p before at out r = Fed p (r .state) before at out (r .used) 0

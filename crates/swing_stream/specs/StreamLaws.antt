@@ -2,48 +2,19 @@
 use Prim.Native.Nat.{ℕ}
 use mathlib.Core.Path.{_≡_, refl, sym, ap, _∙_, subst}
 use mathlib.Core.Bool.{Bool, true, false, cond}
-use mathlib.Core.List.{List, [], _∷_, _++_, append-assoc, append-nil}
+use mathlib.Core.List.{List, [], _∷_, _++_, append-assoc}
 use lib.Dec.{eqb}
+use Rattle.writing.specs.Fed.{Ran, quiet, andRan, run}
 use Rattle.writing.specs.Input.{lastLine, linesFrom}
-use Rattle.writing.specs.Written.{put-more}
 use Rattle.swing_read.specs.Reading.{startOf, byteAfter, bytesAfter, lineOf, readLine, atStart}
 use Rattle.swing_read.specs.ReadingLaws.{bytes-last}
 use Rattle.swing_read.specs.Begun.{line-begins, nothing-yet}
 use Rattle.swing_stream.specs.Lines.{fresh, takes, taken, noted, swingSaid, stepsAfter, stepsSaid, afterLine, saidTo}
-use Rattle.swing_stream.specs.Stream.{heard, said, stateAfter, saidAt, restOf, saidOf, saidAtEnd, saidLast, repliesFrom, Told}
+use Rattle.swing_stream.specs.Stream.{heard, said, lineEnd, swingByte, swingFrom, saidAtEnd, saidLast, repliesFrom}
 use Rattle.swing_read.specs.declared.Reading.{Reading}
 use Rattle.swing_read.specs.declared.Line.{Line}
 use Rattle.swing_read.specs.declared.Line.the-variants.{One, Three, Bad}
 use Rattle.swing_stream.specs.declared.lines.State.{State}
-
--- ---- wherever the bytes are cut
-pub rest-more : (xs : List ℕ) (s : State) (ys : List ℕ) → restOf s (xs ++ ys) ≡ restOf (restOf s xs) ys
-unfolding restOf
-rest-more [] s ys = refl
-rest-more (x ∷ xs) s ys = rest-more xs (stateAfter s x) ys
-
-pub said-more : (xs : List ℕ) (s : State) (ys : List ℕ) → saidOf s (xs ++ ys) ≡ saidOf s xs ++ saidOf (restOf s xs) ys
-unfolding saidOf restOf
-said-more [] s ys = refl
-said-more (x ∷ xs) s ys = rw (said-more xs (stateAfter s x) ys, append-assoc)
-
-one-state : (s : State) (b : ℕ) → restOf s (b ∷ []) ≡ stateAfter s b
-unfolding restOf
-one-state s b = refl
-
-one-said : (s : State) (b : ℕ) → saidOf s (b ∷ []) ≡ saidAt s b
-unfolding saidOf
-one-said s b = append-nil (saidAt s b)
-
--- some bytes, and one more
-pub told-more : (xs : List ℕ) (b : ℕ) (s : State) {m after : State} {o half out : List ℕ} {at h next : ℕ}
-    → Told (restOf s xs) (saidOf s xs) m o at half h
-    → Told (stateAfter m b) (saidAt m b) after half h out next
-    → Told (restOf s (xs ++ b ∷ [])) (saidOf s (xs ++ b ∷ [])) after o at out next
-told-more xs b s p q = record {
-  state = rw (rest-more xs s (b ∷ []), one-state) (q .state ∙ ap (λ (t : State). stateAfter t b) (p .state));
-  words = rw (said-more xs s (b ∷ []), one-said, ← p .state) (put-more (p .words) (q .words));
-}
 
 -- ---- what is said does not hang on what is read of a line that has not ended
 same-replies : (ls : List (List ℕ)) (s : State) (r : Reading)
@@ -84,9 +55,13 @@ at-end (b ∷ l) s e =
     (sym (ap atStart e ∙ line-begins l b startOf))
     (ap (λ (r : Reading). saidTo s (lineOf r) ++ saidAtEnd (afterLine s (lineOf r))) e)
 
+-- what is said to bytes and at the input's end
+abbrev pub saidAll : State → List ℕ → List ℕ
+saidAll s bs = swingFrom s bs .said ++ saidLast (swingFrom s bs .left)
+
 from-begun : (bs begun : List ℕ) (s : State) → s .reading ≡ bytesAfter startOf begun
-    → saidOf s bs ++ saidLast (restOf s bs) ≡ repliesFrom s (linesFrom begun bs)
-unfolding saidOf restOf linesFrom saidAt stateAfter
+    → saidAll s bs ≡ repliesFrom s (linesFrom begun bs)
+unfolding run andRan linesFrom swingByte
 from-begun [] begun s e = at-end begun s e
 from-begun (b ∷ bs) begun s e = go (eqb b 10) (from-begun bs)
   where
@@ -102,10 +77,10 @@ from-begun (b ∷ bs) begun s e = go (eqb b 10) (from-begun bs)
     fresh-line = unfold heard bytesAfter in after-line s (lineOf (s .reading))
 
     go : (t : Bool)
-        → ((l : List ℕ) (u : State) → u .reading ≡ bytesAfter startOf l
-        → saidOf u bs ++ saidLast (restOf u bs) ≡ repliesFrom u (linesFrom l bs))
-        → cond t (said s) [] ++ saidOf (cond t (heard s) on) bs ++ saidLast (restOf (cond t (heard s) on) bs)
-        ≡ repliesFrom s (cond t (begun ∷ linesFrom [] bs) (linesFrom (begun ++ b ∷ []) bs))
+        → ((l : List ℕ) (u : State) → u .reading ≡ bytesAfter startOf l → saidAll u bs ≡ repliesFrom u (linesFrom l bs))
+        → (let p : Ran State = cond t (lineEnd s) (quiet on) in
+        (p .said ++ swingFrom (p .left) bs .said) ++ saidLast (swingFrom (p .left) bs .left)
+        ≡ repliesFrom s (cond t (begun ∷ linesFrom [] bs) (linesFrom (begun ++ b ∷ []) bs)))
     go true rest = rw (append-assoc, rest [] (heard s) fresh-line) ends
     go false rest =
         rest (begun ++ b ∷ []) on (ap (λ (r : Reading). byteAfter r b) e ∙ sym (bytes-last begun startOf b))
@@ -113,6 +88,6 @@ from-begun (b ∷ bs) begun s e = go (eqb b 10) (from-begun bs)
 
 -- THE LAW: fed whole, an input gives a reply to each of its lines in order, and what is said at its end
 pub whole : (s : State) (input : List ℕ) → s .reading ≡ startOf
-    → saidOf s input ++ saidLast (restOf s input) ≡ repliesFrom s (linesFrom [] input)
+    → saidAll s input ≡ repliesFrom s (linesFrom [] input)
 unfolding bytesAfter
 whole s input e = from-begun input [] s e

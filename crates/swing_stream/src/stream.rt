@@ -14,8 +14,7 @@ ghost use lib.ListN.{length, take};
 ghost use Rattle.io.specs.Counts.{Counts};
 ghost use Rattle.writing.specs.Written.{Put};
 ghost use Rattle.swing_write.specs.Replies.{longestSwing, longestTotal};
-ghost use Rattle.swing_stream.specs.Stream.{heard, said, stateAfter, saidAt, restOf, saidOf, saidAtEnd, saidLast, Told};
-ghost use Rattle.swing_stream.specs.Stream.{longestLast};
+ghost use Rattle.swing_stream.specs.Stream.{lineEnd, swingByte, swingFrom, saidAtEnd, saidLast, longestLast, Swings};
 
 // So many bytes are read at once: the replies to them fit, if each ends a line.
 pub const BLOCK: usize = 1024;
@@ -29,7 +28,7 @@ pub struct Progress {
 // The line that is read so far ends here.
 fn line_end(s: State, out: &mut [u8], used: usize) -> Progress
     requires { ⌜ used + longestSwing ≤ length (now out) ⌝ }
-    ensures { λ r. ⌜ Told (heard s) (said s) (r .state) (now (out .entry)) used (now (out .exit)) (r .used) ⌝ }
+    ensures { λ r. ⌜ Swings (lineEnd s) (now (out .entry)) used (now (out .exit)) r ⌝ }
 {
     let reading = s.reading;
     let line = close(reading);
@@ -41,7 +40,7 @@ fn line_end(s: State, out: &mut [u8], used: usize) -> Progress
 
 fn byte(b: u8, s: State, out: &mut [u8], used: usize) -> Progress
     requires { ⌜ used + longestSwing ≤ length (now out) ⌝ }
-    ensures { λ r. ⌜ Told (stateAfter s b) (saidAt s b) (r .state) (now (out .entry)) used (now (out .exit)) (r .used) ⌝ }
+    ensures { λ r. ⌜ Swings (swingByte s b) (now (out .entry)) used (now (out .exit)) r ⌝ }
 {
     if b == b'\n' {
         return line_end(s, out, used);
@@ -63,7 +62,7 @@ fn byte(b: u8, s: State, out: &mut [u8], used: usize) -> Progress
 fn feed_all(block: &[u8], size: usize, s: State, out: &mut [u8]) -> Progress
     requires { ⌜ size ≤ length (now block) ⌝ }
     requires { ⌜ longestSwing * size ≤ length (now out) ⌝ }
-    ensures { λ r. ⌜ Told (restOf s (take size (now (block .entry)))) (saidOf s (take size (now (block .entry)))) (r .state) (now (out .entry)) 0 (now (out .exit)) (r .used) ⌝ }
+    ensures { λ r. ⌜ Swings (swingFrom s (take size (now (block .entry)))) (now (out .entry)) 0 (now (out .exit)) r ⌝ }
     ensures { λ r. ⌜ r .used ≤ longestSwing * size ⌝ }
 {
     let mut state = s;
@@ -81,7 +80,7 @@ fn feed_all(block: &[u8], size: usize, s: State, out: &mut [u8]) -> Progress
 // Feeds the block's first bytes, all `size` of them: the replies to the lines that end there are put at the start of `out`. A
 // size beyond the block counts as all of it.
 pub fn feed(block: &[u8; BLOCK], size: usize, s: State, out: &mut [u8; OUT]) -> Progress
-    ensures { λ r. ⌜ Told (restOf s (take size (now (block .entry)))) (saidOf s (take size (now (block .entry)))) (r .state) (now (out .entry)) 0 (now (out .exit)) (r .used) ⌝ }
+    ensures { λ r. ⌜ Swings (swingFrom s (take size (now (block .entry)))) (now (out .entry)) 0 (now (out .exit)) r ⌝ }
     ensures { λ r. ⌜ Counts (r .used) (now (out .exit)) ⌝ }
 {
     feed_all(block, least(BLOCK, size), s, out)

@@ -26,7 +26,7 @@ use Rattle.scaling.specs.Root.{rootK, rootOk, root-two}
 use Rattle.scaling.specs.Gap.{raiseK, raise-two, ratio-least}
 use Rattle.scaling.specs.Pick.{choose}
 use Rattle.carlson.specs.Constants.{zero, two, half, half-pi}
-use Rattle.elliprc.specs.Rc.{atZero, atEqual, byAtan, byLn1p, byLn, rcCases}
+use Rattle.elliprc.specs.Rc.{rcAtZero, rcAtEqual, rcByAtan, rcByLn1p, rcByLn, rcCases}
 use Rattle.units.specs.Runs.{Fair}
 use Rattle.units_rf.specs.Leaves.{spread, atan-leaf, ln-leaf, spread-leaf, ratioK, aboveK, leafK}
 use Rattle.units_rf.specs.Above.{argument-least}
@@ -179,32 +179,32 @@ module _ {k : ℕ} where
         )
     over-fair (inr F) D = inr (C .over pre F D)
 
-    at-zero : {y y' : Float} → Two binary64 k wideK y y' → Fair k R (atZero p y) (atZero p' y')
-    unfolding atZero litOk within
+    at-zero : {y y' : Float} → Two binary64 k wideK y y' → Fair k R (rcAtZero p y) (rcAtZero p' y')
+    unfolding rcAtZero litOk within
     at-zero Y = inr (C .over pre (widen-two (lit-two half-pi tt) tt) (root-wide Y))
 
-    at-equal : {x x' : Float} → Two binary64 k wideK x x' → Fair k R (atEqual p x) (atEqual p' x')
-    unfolding atEqual
+    at-equal : {x x' : Float} → Two binary64 k wideK x x' → Fair k R (rcAtEqual p x) (rcAtEqual p' x')
+    unfolding rcAtEqual
     at-equal X = inr (C .alone pre (root-wide X))
 
     by-atan : {x y x' y' : Float} → Two binary64 k wideK x x' → Two binary64 k wideK y y' → T (lt x y)
-        → Fair k R (byAtan p x y) (byAtan p' x' y')
-    unfolding byAtan gapOk
+        → Fair k R (rcByAtan p x y) (rcByAtan p' x' y')
+    unfolding rcByAtan gapOk
     by-atan X Y t =
         let g = gap-units X Y t tt tt in
         over-fair (leaf-two atan atan-leaf refl refl refl (ratio-root X Y X t (le-of-lt (g .0)) (le-of-lt (g .1))))
         (divides (gap-root X Y t))
 
     by-ln-1p : {x y x' y' : Float} → Two binary64 k wideK x x' → Two binary64 k wideK y y' → T (lt y x)
-        → Fair k R (byLn1p p x y) (byLn1p p' x' y')
-    unfolding byLn1p mulK mulOk litOk within
+        → Fair k R (rcByLn1p p x y) (rcByLn1p p' x' y')
+    unfolding rcByLn1p mulK mulOk litOk within
     by-ln-1p X Y t =
         over-fair (leaf-two spread spread-leaf refl refl refl (ratio-root Y X X t (le-refl _) (le-refl _)))
         (widen-two (mul-two (lit-two two tt) (gap-root Y X t) tt) tt)
 
     by-ln : {x y x' y' : Float} → Two binary64 k wideK x x' → Two binary64 k wideK y y' → T (lt y x)
-        → T (not (lt half (y ⊘ x))) → T (not (lt half (y' ⊘ x'))) → Fair k R (byLn p x y) (byLn p' x' y')
-    unfolding byLn raiseK within
+        → T (not (lt half (y ⊘ x))) → T (not (lt half (y' ⊘ x'))) → Fair k R (rcByLn p x y) (rcByLn p' x' y')
+    unfolding rcByLn raiseK within
     by-ln X Y t h h' =
         over-fair
         (leaf-two ln ln-leaf refl refl refl (ln-argument X Y t h h'))

@@ -16,7 +16,7 @@ use Rattle.carlson.specs.Constants.{two, pi, epsilon}
 use Rattle.carlson.specs.Common.{apart}
 use Rattle.carlson.specs.Loop.{capped}
 use Rattle.elliprf.specs.declared.means.Means.{Means}
-use Rattle.elliprf.specs.Means.{meansOf, agmValue, agmStart, agmCount, together, agmOf}
+use Rattle.elliprf.specs.Means.{rfMeansOf, rfAgmValue, rfAgmStart, rfAgmCount, rfTogether, rfAgmOf}
 use Rattle.units.specs.Kinds.{meanK}
 use Rattle.units.specs.Runs.{Same, mean, loop-two}
 use Rattle.units_rf.specs.Rc.{resultK}
@@ -34,18 +34,18 @@ module _ {k : ℕ} where
   unfolding rootK rootOk within
   side-two x = widen-two (root-two x tt) tt
 
-  value-two : (j : ℕ) (s t : Means) → Inv k j s t → Two binary64 k resultK (agmValue s) (agmValue t)
-  unfolding agmValue divK divOk plusK plusOk within litOk
+  value-two : (j : ℕ) (s t : Means) → Inv k j s t → Two binary64 k resultK (rfAgmValue s) (rfAgmValue t)
+  unfolding rfAgmValue divK divOk plusK plusOk within litOk
   value-two j s t i = widen-two (div-two (lit-two pi tt) (plus-two (i .xn) (i .yn) tt) tt) tt
 
-  pass : (j : ℕ) (s t : Means) → Inv k (suc j) s t → Inv k j (meansOf s) (meansOf t)
-  unfolding meansOf divK divOk plusK plusOk mulK mulOk rootK rootOk within litOk
+  pass : (j : ℕ) (s t : Means) → Inv k (suc j) s t → Inv k j (rfMeansOf s) (rfMeansOf t)
+  unfolding rfMeansOf divK divOk plusK plusOk mulK mulOk rootK rootOk within litOk
   pass j s t i = record {
     xn = widen-two (div-two (plus-two (i .xn) (i .yn) tt) (lit-two two tt) tt) tt;
     yn = widen-two (root-two (mul-two (i .xn) (i .yn) tt) tt) tt;
   }
 
-  test : (j : ℕ) (s t : Means) → Inv k j s t → together s ≡ together t
+  test : (j : ℕ) (s t : Means) → Inv k j s t → rfTogether s ≡ rfTogether t
   unfolding apart mulK mulOk sumK sumOk litOk
   test j s t i =
       ap not
@@ -53,16 +53,16 @@ module _ {k : ℕ} where
       (abs-two (sub-two (i .xn) (i .yn) tt)) tt)
 
   pub agm-same : {x y x' y' : Float} → Two binary64 k meanK x x' → Two binary64 k meanK y y'
-      → Same k resultK (agmOf x y) (agmOf x' y')
-  unfolding agmOf agmStart
+      → Same k resultK (rfAgmOf x y) (rfAgmOf x' y')
+  unfolding rfAgmOf rfAgmStart
   agm-same {x} {y} {x'} {y'} X Y =
-      let s = agmStart x y in
-      let t = agmStart x' y' in
+      let s = rfAgmStart x y in
+      let t = rfAgmStart x' y' in
       let i : Inv k 11 s t = record { xn = side-two X; yn = side-two Y } in
-      subst (λ b. Same k resultK (capped meansOf together agmCount agmCount 11 (together s) s 0)
-      (capped meansOf together agmCount agmCount 11 b t 0))
+      subst (λ b. Same k resultK (capped rfMeansOf rfTogether rfAgmCount rfAgmCount 11 (rfTogether s) s 0)
+      (capped rfMeansOf rfTogether rfAgmCount rfAgmCount 11 b t 0))
       (test 11 s t i)
-      (loop-two meansOf together agmCount agmCount agmCount agmCount (Same k resultK) (Inv k) 11 (λ j s t h i. pass j s t i)
+      (loop-two rfMeansOf rfTogether rfAgmCount rfAgmCount rfAgmCount rfAgmCount (Same k resultK) (Inv k) 11 (λ j s t h i. pass j s t i)
       (λ j s t h i. test j s t i)
-      (λ j s t n h i p. mean n (inr (value-two j s t i))) (λ s t n i. mean n (inr (value-two 0 s t i))) 11 (together s) s t 0
+      (λ j s t n h i p. mean n (inr (value-two j s t i))) (λ s t n i. mean n (inr (value-two 0 s t i))) 11 (rfTogether s) s t 0
       (lit≤ tt) (λ p. p) i)

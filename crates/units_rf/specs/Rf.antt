@@ -19,7 +19,7 @@ use Rattle.carlson.specs.Checks.{anyInfinite3, below3, zerosOf3}
 use Rattle.carlson.specs.declared.answer.Answer.{Answer}
 use Rattle.carlson.specs.declared.answer.Answer.the-variants.{Refused}
 use Rattle.elliprc.specs.Rc.{overRoot}
-use Rattle.elliprf.specs.Rf.{allEqual, oneZero, twoEqual, rfGeneral, rfSteps, rfUnchecked, rf}
+use Rattle.elliprf.specs.Rf.{rfEqual, rfZero, rfTwo, rfGeneral, rfSteps, rfUnchecked, rf}
 use Rattle.units.specs.Statement.{InRange, TimesFour, Alike}
 use Rattle.units.specs.Kinds.{argumentK, meanK}
 use Rattle.units.specs.Arguments.{argument, Argument, above, other, distinct}
@@ -44,18 +44,18 @@ numbered x y z =
     (cond (anyInfinite3 x y z) infiniteAt (settled (rfUnchecked x y z) 6)))
 
 module _ {k : ℕ} where
-  all-equal : {x x' : Float} → Two binary64 k meanK x x' → Same k resultK (allEqual x) (allEqual x')
-  unfolding allEqual divK divOk rootK rootOk within litOk
+  all-equal : {x x' : Float} → Two binary64 k meanK x x' → Same k resultK (rfEqual x) (rfEqual x')
+  unfolding rfEqual divK divOk rootK rootOk within litOk
   all-equal x = closed (widen-two (div-two (lit-two one tt) (root-two x tt) tt) tt)
 
-  one-zero : {x x' : Float} → Two binary64 k meanK x x' → Same k resultK (oneZero x) (oneZero x')
-  unfolding oneZero divK divOk mulK mulOk rootK rootOk within litOk
+  one-zero : {x x' : Float} → Two binary64 k meanK x x' → Same k resultK (rfZero x) (rfZero x')
+  unfolding rfZero divK divOk mulK mulOk rootK rootOk within litOk
   one-zero x = closed (widen-two (div-two (lit-two pi tt) (mul-two (lit-two two tt) (root-two x tt) tt) tt) tt)
 
 module _ {k : ℕ} where
   two-equal : {x y x' y' : Float} → Argument k x x' → Argument k y y' → T (not (eq y zero))
-      → Same k resultK (twoEqual x y) (twoEqual x' y')
-  unfolding twoEqual
+      → Same k resultK (rfTwo x y) (rfTwo x' y')
+  unfolding rfTwo
   two-equal X Y z = rc-same X Y z
 
   module _ {x y z x' y' z' : Float} (X : Argument k x x') (Y : Argument k y y') (Z : Argument k z z')
@@ -75,7 +75,7 @@ module _ {k : ℕ} where
 
       -- two are equal and the third differs
       pair-same : {p q p' q' : Float} → Argument k p p' → Argument k q q' → T (not (eq q zero))
-          → Same k resultK (cond (eq p zero) (oneZero q) (twoEqual p q)) (cond (eq p' zero) (oneZero q') (twoEqual p' q'))
+          → Same k resultK (cond (eq p zero) (rfZero q) (rfTwo p q)) (cond (eq p' zero) (rfZero q') (rfTwo p' q'))
       pair-same {p} {q} {p'} {q'} P Q n =
           choose (Same k resultK) (eq p zero) (eq p' zero) (zero-two (P .two)) (λ s. one-zero (above Q n)) (λ s. two-equal P Q n)
 

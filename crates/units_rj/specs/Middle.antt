@@ -18,7 +18,7 @@ use Rattle.series.specs.Ln.{ln}
 use Rattle.carlson.specs.Constants.{zero, one, two, half}
 use Rattle.carlson.specs.Rescaling.{scaleOf2, rescaling2}
 use Rattle.carlson.specs.Answer.{closedAt}
-use Rattle.elliprc.specs.Rc.{atEqual, byAtan, byLn1p, byLn, rcCases, rcSteps, rcFound, rcUnchecked}
+use Rattle.elliprc.specs.Rc.{rcAtEqual, rcByAtan, rcByLn1p, rcByLn, rcCases, rcSteps, rcFound, rcUnchecked}
 use Rattle.algebra.specs.Order.{lt-or-le}
 use Rattle.scaling.specs.Kind.{Kind, last, floor-le, mulK, mulOk, divK, divOk, plusK, plusOk, nudgeK, nudgeOk, within}
 use Rattle.scaling.specs.Units.{Is, lt-units, eq-units}
@@ -120,12 +120,12 @@ module _ {k : ℕ} {b : Float} (B : Two binary64 k middleK b b) where
       (and-i (eqb (2 ^ 1074) m) true (eq→eqb q) tt) in
       subst T (sym (lt-units B-is one-is)) (lt→ltb m (2 ^ 1074) (lt-of-le-ne h (λ q. n (sym q))))
 
-  equal : Fair k termK (atEqual one one) (atEqual one one)
-  unfolding atEqual rootK rootOk divK divOk within litOk ofBits
+  equal : Fair k termK (rcAtEqual one one) (rcAtEqual one one)
+  unfolding rcAtEqual rootK rootOk divK divOk within litOk ofBits
   equal = inr (widen-two (div-two (lit-two one tt) (root-two (lit-two one tt) tt) tt) tt)
 
-  by-ln1p : T (lt b one) → Fair k termK (byLn1p one one b) (byLn1p one one b)
-  unfolding byLn1p mulK mulOk within litOk ofBits
+  by-ln1p : T (lt b one) → Fair k termK (rcByLn1p one one b) (rcByLn1p one one b)
+  unfolding rcByLn1p mulK mulOk within litOk ofBits
   by-ln1p t = let D = below-one t in over (leaf-two spread spread-leaf refl refl refl (ratio D))
       (widen-two (mul-two (lit-two two tt) (side D) tt) tt)
 
@@ -146,8 +146,8 @@ module _ {k : ℕ} {b : Float} (B : Two binary64 k middleK b b) where
   rest h = widen-two (nudge-two (lit-two one tt)
       (neg-two (recast (2 ^ 870) (3 * 2 ^ 1072) (floor-le (B .in-first)) (quarters h))) tt) tt
 
-  by-ln : T (not (lt half (b ⊘ one))) → Fair k termK (byLn one one b) (byLn one one b)
-  unfolding byLn plusK plusOk divK divOk rootK rootOk within litOk ofBits
+  by-ln : T (not (lt half (b ⊘ one))) → Fair k termK (rcByLn one one b) (rcByLn one one b)
+  unfolding rcByLn plusK plusOk divK divOk rootK rootOk within litOk ofBits
   by-ln h =
       let D = rest h in
       let Q = recast (2 ^ 870) (3 * 2 ^ 1072) (floor-le (B .in-first)) (quarters h) in
@@ -155,8 +155,8 @@ module _ {k : ℕ} {b : Float} (B : Two binary64 k middleK b b) where
       (widen-two (div-two (plus-two (root-two (lit-two one tt) tt) (root-two D tt) tt) (root-two Q tt) tt) tt))
       (divisor (widen-two D tt))
 
-  by-atan : T (lt one b) → Fair k termK (byAtan one one b) (byAtan one one b)
-  unfolding byAtan
+  by-atan : T (lt one b) → Fair k termK (rcByAtan one one b) (rcByAtan one one b)
+  unfolding rcByAtan
   by-atan t = let D = above-one t in over (leaf-two atan atan-leaf refl refl refl (ratio D)) (divisor D)
 
   -- ---- which of them

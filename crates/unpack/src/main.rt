@@ -1,6 +1,6 @@
 // A packed work list from standard input, as lines of the listing's form to standard output (document 02, 2026-03). A
-// refusal ends it, and
-// is said on standard error with the place, counted from 0, at which its job begins; the jobs before it are written.
+// refusal ends it, and is said on standard error with the place, counted from 0, at which its job begins; the jobs before
+// it are written.
 use console::Got;
 use console::read_block;
 use console::written;

@@ -1,4 +1,3 @@
 pub mod Text
 pub mod Unpack
-pub mod UnpackLaws
 pub mod WholeLaws

@@ -7,13 +7,13 @@ use writing::OUT;
 use writing::least;
 use writing::push;
 ghost use mathlib.Core.Path.{_≡_};
-ghost use mathlib.Core.List.{[], _∷_};
-ghost use Prim.Native.Nat.{_+_, _*_, _≤_};
+ghost use mathlib.Core.Bool.{false};
+ghost use Prim.Native.Nat.{_+_, _*_, _≤_, _<_};
 ghost use lib.ListN.{length, take};
 ghost use Rattle.io.specs.Counts.{Counts};
-ghost use Rattle.packed.specs.Reading.{readAt};
 ghost use Rattle.unpack_stream.specs.Text.{lineRoom};
-ghost use Rattle.unpack_stream.specs.Unpack.{nothing, jobThen, unpackFrom, leftOver, heldLength, Fed};
+ghost use Rattle.unpack_stream.specs.Unpack.{holding, tryOf, unpackByte, unpackFrom, aheadAt, leftOver, heldLength};
+ghost use Rattle.unpack_stream.specs.Unpack.{Unpacks, Turns};
 
 // So many bytes are held of a job: no job is longer.
 pub const HELD: usize = 64;
@@ -31,11 +31,29 @@ pub struct Progress {
     pub stop: u32,
 }
 
+// What some bytes led to, and the place after them.
+struct Turned {
+    fed: Progress,
+    next: usize,
+}
+
+// More is waited for.
+fn waiting(n: usize, used: usize) -> Progress
+    ensures { λ r. ⌜ r ≡ record { held = n; used = used; taken = 0; ended = false; stop = 0 } ⌝ }
+{
+    Progress {
+        held: n,
+        used,
+        taken: 0,
+        ended: false,
+        stop: 0,
+    }
+}
+
 // A try at what is held.
 fn tried(held: &[u8], out: &mut [u8], used: usize) -> Progress
-    requires { ⌜ length (now held) ≤ heldLength ⌝ }
     requires { ⌜ used + lineRoom ≤ length (now out) ⌝ }
-    ensures { λ r. ⌜ Fed (jobThen (readAt (now (held .entry)) 0) (length (now (held .entry))) (nothing []) (nothing (now (held .entry)))) (now (held .entry)) (now (out .entry)) used (now (out .exit)) r ⌝ }
+    ensures { λ r. ⌜ Unpacks (tryOf (now (held .entry))) (now (held .entry)) (now (out .entry)) used (now (out .exit)) r ⌝ }
     ensures { λ r. ⌜ r .held ≤ length (now (held .entry)) ⌝ }
 {
     match read_job(held, 0) {
@@ -49,22 +67,10 @@ fn tried(held: &[u8], out: &mut [u8], used: usize) -> Progress
                 stop: 0,
             }
         }
-        Read::Nothing => Progress {
-            held: held.len(),
-            used,
-            taken: 0,
-            ended: false,
-            stop: 0,
-        },
+        Read::Nothing => waiting(held.len(), used),
         Read::Refused(n) => {
             if n == LIST_CUT {
-                return Progress {
-                    held: held.len(),
-                    used,
-                    taken: 0,
-                    ended: false,
-                    stop: 0,
-                };
+                return waiting(held.len(), used);
             }
             Progress {
                 held: 0,
@@ -81,61 +87,98 @@ fn step(b: u8, held: &mut [u8], n: usize, out: &mut [u8], used: usize) -> Progre
     requires { ⌜ length (now held) ≡ heldLength ⌝ }
     requires { ⌜ n ≤ heldLength ⌝ }
     requires { ⌜ used + lineRoom ≤ length (now out) ⌝ }
-    ensures { λ r. ⌜ Fed (unpackFrom (take n (now (held .entry))) (b ∷ [])) (now (held .exit)) (now (out .entry)) used (now (out .exit)) r ⌝ }
+    ensures { λ r. ⌜ Unpacks (unpackByte (holding (take n (now (held .entry)))) b)
+        (now (held .exit)) (now (out .entry)) used (now (out .exit)) r ⌝ }
+    ensures { λ r. ⌜ r .held ≤ heldLength ⌝ }
 {
     let m = push(held, n, b);
     tried(&held[..m], out, used)
 }
 
-// Feeds the first `size` bytes, up to a refusal.
-fn feed_all(
-    block: &[u8],
-    size: usize,
-    held: &mut [u8],
-    held_before: usize,
-    out: &mut [u8],
-) -> Progress
-    requires { ⌜ size ≤ length (now block) ⌝ }
-    requires { ⌜ length (now held) ≡ heldLength ⌝ }
-    requires { ⌜ «held_before» ≤ heldLength ⌝ }
-    requires { ⌜ lineRoom * size ≤ length (now out) ⌝ }
-    ensures { λ r. ⌜ Fed (unpackFrom (take «held_before» (now (held .entry))) (take size (now (block .entry)))) (now (held .exit)) (now (out .entry)) 0 (now (out .exit)) r ⌝ }
-    ensures { λ r. ⌜ r .used ≤ lineRoom * size ⌝ }
+// The job at a place, where none is held.
+fn ahead(bytes: &[u8], i: usize, n: usize) -> Read
+    ensures { λ r. ⌜ r ≡ aheadAt (now (bytes .entry)) i n ⌝ }
 {
-    let mut n = held_before;
-    let mut used: usize = 0;
-    let mut taken: usize = 0;
-    let mut stop: u32 = 0;
-    let mut i = 0;
-    while i < size {
-        let fed = step(block[i], held, n, out, used);
-        if fed.ended {
-            return Progress {
-                held: fed.held,
-                used: fed.used,
-                taken: taken + fed.taken,
-                ended: true,
-                stop: fed.stop,
-            };
-        }
-        n = fed.held;
-        used = fed.used;
-        taken = taken + fed.taken;
-        stop = fed.stop;
-        i += 1;
+    if n == 0 {
+        return read_job(bytes, i);
     }
-    Progress {
-        held: n,
-        used,
-        taken,
-        ended: false,
-        stop,
+    Read::Nothing
+}
+
+// A job that lies whole in the bytes is read there; of any other a byte is taken.
+fn turn(bytes: &[u8], i: usize, held: &mut [u8], n: usize, out: &mut [u8], used: usize) -> Turned
+    requires { ⌜ i < length (now bytes) ⌝ }
+    requires { ⌜ length (now held) ≡ heldLength ⌝ }
+    requires { ⌜ n ≤ heldLength ⌝ }
+    requires { ⌜ used + lineRoom ≤ length (now out) ⌝ }
+    ensures { λ r. ⌜ Turns (now (bytes .entry)) i (take n (now (held .entry)))
+        (now (held .exit)) (now (out .entry)) used (now (out .exit)) r ⌝ }
+{
+    let Read::Found(got) = ahead(bytes, i, n) else {
+        return Turned {
+            fed: step(bytes[i], held, n, out, used),
+            next: i + 1,
+        };
+    };
+    let job = got.job;
+    let next = got.next;
+    Turned {
+        fed: Progress {
+            held: 0,
+            used: put_job_text(job, out, used),
+            taken: next - i,
+            ended: false,
+            stop: 0,
+        },
+        next,
     }
 }
 
+// Feeds all bytes, up to a refusal.
+fn feed_all(bytes: &[u8], held: &mut [u8], n: usize, out: &mut [u8]) -> Progress
+    requires { ⌜ length (now held) ≡ heldLength ⌝ }
+    requires { ⌜ n ≤ heldLength ⌝ }
+    requires { ⌜ lineRoom * length (now bytes) ≤ length (now out) ⌝ }
+    ensures { λ r. ⌜ Unpacks (unpackFrom (holding (take n (now (held .entry)))) (now (bytes .entry)))
+        (now (held .exit)) (now (out .entry)) 0 (now (out .exit)) r ⌝ }
+    ensures { λ r. ⌜ r .held ≤ heldLength ⌝ }
+    ensures { λ r. ⌜ r .used ≤ lineRoom * length (now (bytes .entry)) ⌝ }
+{
+    let mut all = waiting(n, 0);
+    let mut i = 0;
+    while i < bytes.len() {
+        let turned = turn(bytes, i, held, all.held, out, all.used);
+        let fed = turned.fed;
+        all = Progress {
+            held: fed.held,
+            used: fed.used,
+            taken: all.taken + fed.taken,
+            ended: fed.ended,
+            stop: fed.stop,
+        };
+        if all.ended {
+            return all;
+        }
+        i = turned.next;
+    }
+    all
+}
+
+fn feed_part(block: &[u8], size: usize, held: &mut [u8], n: usize, out: &mut [u8]) -> Progress
+    requires { ⌜ size ≤ length (now block) ⌝ }
+    requires { ⌜ length (now held) ≡ heldLength ⌝ }
+    requires { ⌜ n ≤ heldLength ⌝ }
+    requires { ⌜ lineRoom * size ≤ length (now out) ⌝ }
+    ensures { λ r. ⌜ Unpacks (unpackFrom (holding (take n (now (held .entry)))) (take size (now (block .entry))))
+        (now (held .exit)) (now (out .entry)) 0 (now (out .exit)) r ⌝ }
+    ensures { λ r. ⌜ r .held ≤ heldLength ⌝ }
+    ensures { λ r. ⌜ r .used ≤ lineRoom * size ⌝ }
+{
+    feed_all(&block[..size], held, n, out)
+}
+
 // Feeds the block's first bytes: the lines of the jobs that end there are put at the start of `out`, up to a refusal, and
-// `held` keeps what is not
-// whole. A size beyond the block counts as all of it, and n above HELD as HELD.
+// `held` keeps what is not whole. A size beyond the block counts as all of it, and n above HELD as HELD.
 pub fn feed(
     block: &[u8; BLOCK],
     size: usize,
@@ -143,10 +186,12 @@ pub fn feed(
     n: usize,
     out: &mut [u8; OUT],
 ) -> Progress
-    ensures { λ r. ⌜ Fed (unpackFrom (take n (now (held .entry))) (take size (now (block .entry)))) (now (held .exit)) (now (out .entry)) 0 (now (out .exit)) r ⌝ }
+    ensures { λ r. ⌜ Unpacks (unpackFrom (holding (take n (now (held .entry)))) (take size (now (block .entry))))
+        (now (held .exit)) (now (out .entry)) 0 (now (out .exit)) r ⌝ }
+    ensures { λ r. ⌜ r .held ≤ heldLength ⌝ }
     ensures { λ r. ⌜ Counts (r .used) (now (out .exit)) ⌝ }
 {
-    feed_all(block, least(BLOCK, size), held, least(HELD, n), out)
+    feed_part(block, least(BLOCK, size), held, least(HELD, n), out)
 }
 
 // What the input's end means, with so many bytes held: 0, or the number of a job that was cut.

@@ -12,7 +12,8 @@ const NOTHING_LEFT: u32 = 4294967295;
 
 // Writes the job at the place and moves it past: 0, 16 or 17.
 pub fn write_words(bytes: &mut [u8], place: &mut usize, job: &[u64; 5]) -> u32
-    ensures { λ r. ⌜ WriteWords (now (bytes .entry)) (now (place .entry)) (now (job .entry)) (now (bytes .exit)) (now (place .exit)) r ⌝ }
+    ensures { λ r. ⌜ WriteWords (now (bytes .entry)) (now (place .entry)) (now (job .entry))
+        (now (bytes .exit)) (now (place .exit)) r ⌝ }
 {
     let given = Job {
         function: job[0],
@@ -32,7 +33,8 @@ pub fn write_words(bytes: &mut [u8], place: &mut usize, job: &[u64; 5]) -> u32
 
 // Reads the job at the place and moves it past: 0, 14, 15, 16 or NOTHING_LEFT.
 pub fn read_words(bytes: &[u8], place: &mut usize, job: &mut [u64; 5]) -> u32
-    ensures { λ r. ⌜ ReadWords (readAt (now (bytes .entry)) (now (place .entry))) (now (place .entry)) (now (job .entry)) (now (place .exit)) (now (job .exit)) r ⌝ }
+    ensures { λ r. ⌜ ReadWords (readAt (now (bytes .entry)) (now (place .entry))) (now (place .entry)) (now (job .entry))
+        (now (place .exit)) (now (job .exit)) r ⌝ }
 {
     match packed::read_job(bytes, *place) {
         Read::Found(got) => {

@@ -4,3 +4,5 @@ pub mod Places
 pub mod Input
 pub mod Parts
 pub mod Bad
+pub mod Fed
+pub mod FedLaws

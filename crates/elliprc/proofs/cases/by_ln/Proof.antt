@@ -1,8 +1,8 @@
 -- `by_ln` meets its contract, step by step as its definition. Assumes nothing.
-use Rattle.elliprc.specs.Rc.{byLn}
+use Rattle.elliprc.specs.Rc.{rcByLn}
 use Rattle.elliprc.proofs.cases.by_ln.Statement.{statement}
 use Rattle.elliprc.proofs.cases.by_ln.Tie as tie
 
 pub by-ln-spec : {M : Type 1} → statement M
-unfolding byLn
+unfolding rcByLn
 by-ln-spec = tie.close (tie.spec (λ c κs. tt) (λ c κs. tt) (λ c κs. tt) (λ c κs. tt) (λ c κs. tt) (λ c. cc))

@@ -9,24 +9,24 @@ use Rattle.carlson.specs.Answer.{agmAt}
 use Rattle.carlson.specs.Loop.{capped, Left, left-begins, left-on, left-spent, left-found}
 use Rattle.elliprf.specs.declared.means.Means.{Means}
 use Rattle.elliprf.specs.Duplicate.{rfCap}
-use Rattle.elliprf.specs.Means.{meansOf, agmCount, together, agmStart, agmOf}
+use Rattle.elliprf.specs.Means.{rfMeansOf, rfAgmCount, rfTogether, rfAgmStart, rfAgmOf}
 use Rattle.elliprf.proofs.means.agm_of.Statement.{statement}
 use Rattle.elliprf.proofs.means.agm_of.Tie as tie
 
 abbrev Inv-loop : tie.InvT-loop
-Inv-loop x y m₀ n₀ m n = Left meansOf together agmCount agmCount rfCap (together m₀) m₀ (together m) m n
+Inv-loop x y m₀ n₀ m n = Left rfMeansOf rfTogether rfAgmCount rfAgmCount rfCap (rfTogether m₀) m₀ (rfTogether m) m n
 
 abbrev μ-loop : tie.MeasureT-loop
 μ-loop x y m₀ n₀ m n = rfCap - n
 
-whole : (x y : Float) (m : Means) → m ≡ agmStart x y → capped meansOf together agmCount agmCount rfCap (together m) m 0
-    ≡ agmOf x y
-unfolding agmOf
+whole : (x y : Float) (m : Means) → m ≡ rfAgmStart x y → capped rfMeansOf rfTogether rfAgmCount rfAgmCount rfCap (rfTogether m) m 0
+    ≡ rfAgmOf x y
+unfolding rfAgmOf
 whole x y m e = rw e
 
 -- the two roots are the start
-started : (x y rx ry : Float) → rx ≡ root x → ry ≡ root y → _≡_ {A = Means} (record { xn = rx; yn = ry }) (agmStart x y)
-unfolding agmStart
+started : (x y rx ry : Float) → rx ≡ root x → ry ≡ root y → _≡_ {A = Means} (record { xn = rx; yn = ry }) (rfAgmStart x y)
+unfolding rfAgmStart
 started x y rx ry e f = rw (e, f)
 
 loop-again : tie.Need-loop-again Inv-loop μ-loop

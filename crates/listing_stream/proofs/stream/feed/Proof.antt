@@ -1,26 +1,16 @@
 -- `feed` meets its contract: so many bytes are fed that the replies to them fit. Assumes nothing.
-use Prim.Native.Nat.{ℕ, _≤_, min}
-use mathlib.Core.Path.{_≡_, refl, sym}
-use mathlib.Core.List.{List}
+use Prim.Native.Nat.{_≤_}
+use mathlib.Core.Path.{_≡_, sym}
 use native.Mathlib.Omega.{arith}
 use borrow.Author.Needs.{needs}
-use lib.ListN.{length, take}
+use lib.ListN.{length}
 use lib.Seq.{length-take-le}
 use denote.Ref.{now}
-use Rattle.listing_stream.specs.Stream.{heldLength, blockLength, Fed}
+use Rattle.listing_stream.specs.Stream.{heldLength, blockLength}
 use Rattle.writing.specs.Written.{put-length}
 use Rattle.writing.specs.Parts.{take-least}
 use Rattle.listing_stream.proofs.stream.feed.Statement.{statement}
 use Rattle.listing_stream.proofs.stream.feed.Tie as tie
-
-cut :
-    (held block after before out : List ℕ) (m k n size next used : ℕ) → length held ≡ heldLength → m ≡ min heldLength n
-    → length block ≡ blockLength
-    → k ≡ min blockLength size
-    → Fed (take m held) (take k block) after before 0 out next used
-    → Fed (take n held) (take size block) after before 0 out next used
-cut held block after before out m k n size next used l e b f p =
-    rw (take-least held heldLength n m l e, take-least block blockLength size k b f) at p
 
 feed-all-requires : tie.Need-feed-all-requires
 feed-all-requires c κs =
@@ -41,9 +31,12 @@ returns c =
     let block : length (now (s .args .block)) ≡ blockLength = search needs in
     let full : length (now (s .args .out)) ≡ 65536 = search needs in
     let most : c .feed-all .result .used ≤ length (c .feed-all .last .1 .1 .1 .1 .0) =
-    omega (arith, put-length (f .0 .said), f .1, k .least .ensures .0) in (
-      cut _ _ _ _ _ _ _ _ _ _ _ held (a .least2 .ensures .2) block (k .least .ensures .2) (f .0),
-      (most, sym (length-take-le _ _ most)),
+    omega (arith, put-length (f .0 .said), f .1 .1, k .least .ensures .0) in (
+      rw (
+        take-least (now (s .args .held)) heldLength _ _ held (a .least2 .ensures .2),
+        take-least (now (s .args .block)) blockLength _ _ block (k .least .ensures .2),
+      ) at (f .0),
+      (f .1 .0, (most, sym (length-take-le _ _ most))),
     )
 
 pub feed-spec : {M : Type 1} → statement M

@@ -10,7 +10,7 @@ use Rattle.calls.specs.Calls.{numberOf}
 use Rattle.calls.specs.declared.Call.{Call}
 use Rattle.calls.specs.declared.Call.the-variants.{Rc, Rf, Rd, Rg, Rj}
 use Rattle.packed.specs.Jobs.{arityOf, jobBytes, jobLength}
-use Rattle.packed.specs.Writing.{writeAt, bytesAfter}
+use Rattle.packed.specs.Writing.{leftAfter, writeAt, bytesAfter}
 use Rattle.packed.specs.LengthLaws.{job-length-bounds}
 use Rattle.packed.specs.declared.jobs.Job.{Job}
 use Rattle.packed.specs.declared.write.Written.{Written}
@@ -29,7 +29,7 @@ known (Rg x y z) e = omega arith
 known (Rj x y z p) e = omega arith
 
 fits : (l at : ℕ) (c : Call) → at + jobRoom ≤ l → writeAt l at (jobOf c) ≡ Next (at + jobLength (jobOf c))
-unfolding writeAt
+unfolding writeAt leftAfter
 fits l at c h =
     let j = jobOf c in
     rw (

@@ -2,34 +2,26 @@
 use Prim.Native.Nat.{ℕ}
 use mathlib.Core.Path.{_≡_, refl, sym, _∙_}
 use mathlib.Core.Bool.{true, false}
-use mathlib.Core.List.{List, [], append-nil}
-use native.Mathlib.Omega.{arith}
+use mathlib.Core.List.{List, []}
 use borrow.Author.Needs.{needs}
 use Rattle.calls.specs.declared.Call.{Call}
 use Rattle.listing_read.specs.declared.Line.{Line}
 use Rattle.listing_read.specs.declared.Line.the-variants.{Good, Bad}
 use Rattle.packed.specs.Jobs.{jobBytes}
 use Rattle.writing.specs.Written.{Put, put-none}
-use Rattle.pack_stream.specs.Pack.{jobOf, nothing, lineThen, Fed}
+use Rattle.pack_stream.specs.Pack.{jobOf, lineEnd, Packs}
 use Rattle.pack_stream.proofs.stream.ended.Statement.{statement}
 use Rattle.pack_stream.proofs.stream.ended.Tie as tie
 
 good : (r : Line) (c : Call) (before out : List ℕ) (at next : ℕ) → r ≡ Good c → Put before at (jobBytes (jobOf c)) out next
-    → Fed (lineThen r (nothing [])) [] before at out (record { held = 0; used = next; lines = 1; bad = false })
-unfolding lineThen
-good r c before out at next e p = rw e (record {
-  rest = refl;
-  few = omega arith;
-  said = rw append-nil p;
-  lines = refl;
-  bad =
-      refl;
-})
+    → Packs (lineEnd r) [] before at out (record { held = 0; used = next; lines = 1; bad = false })
+unfolding lineEnd
+good r c before out at next e p = rw e (record { left = refl; said = p; counted = refl })
 
 bad : (r : Line) (before : List ℕ) (at : ℕ) → r ≡ Bad
-    → Fed (lineThen r (nothing [])) [] before at before (record { held = 0; used = at; lines = 1; bad = true })
-unfolding lineThen
-bad r before at e = rw e (record { rest = refl; few = omega arith; said = put-none before at; lines = refl; bad = refl })
+    → Packs (lineEnd r) [] before at before (record { held = 0; used = at; lines = 1; bad = true })
+unfolding lineEnd
+bad r before at e = rw e (record { left = refl; said = put-none before at; counted = refl })
 
 returns : tie.Need-returns
 returns c =

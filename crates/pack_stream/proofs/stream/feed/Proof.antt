@@ -1,27 +1,16 @@
 -- `feed` meets its contract: so many bytes are fed that their jobs fit. Assumes nothing.
-use Prim.Native.Nat.{ℕ, _≤_, min}
+use Prim.Native.Nat.{_≤_}
 use mathlib.Core.Path.{_≡_, sym}
-use mathlib.Core.List.{List}
 use native.Mathlib.Omega.{arith}
 use borrow.Author.Needs.{needs}
-use lib.ListN.{length, take}
+use lib.ListN.{length}
 use lib.Seq.{length-take-le}
 use denote.Ref.{now}
 use Rattle.writing.specs.Written.{put-length}
 use Rattle.writing.specs.Parts.{take-least}
-use Rattle.pack_stream.specs.Pack.{heldLength, packFrom, Fed}
-use Rattle.pack_stream.specs.declared.stream.Progress.{Progress}
+use Rattle.pack_stream.specs.Pack.{heldLength}
 use Rattle.pack_stream.proofs.stream.feed.Statement.{statement}
 use Rattle.pack_stream.proofs.stream.feed.Tie as tie
-
-cut :
-    (held block after before out : List ℕ) (m k n size : ℕ) (r : Progress) → length held ≡ heldLength → m ≡ min heldLength n
-    → length block ≡ 1024
-    → k ≡ min 1024 size
-    → Fed (packFrom (take m held) (take k block)) after before 0 out r
-    → Fed (packFrom (take n held) (take size block)) after before 0 out r
-cut held block after before out m k n size r l e b f p =
-    rw (take-least held heldLength n m l e, take-least block 1024 size k b f) at p
 
 feed-all-requires : tie.Need-feed-all-requires
 feed-all-requires c κs =
@@ -42,9 +31,12 @@ returns c =
     let block : length (now (s .args .block)) ≡ 1024 = search needs in
     let full : length (now (s .args .out)) ≡ 65536 = search needs in
     let most : c .feed-all .result .used ≤ length (c .feed-all .last .1 .1 .1 .1 .0) =
-    omega (arith, put-length (f .0 .said), f .1, k .least .ensures .0) in (
-      cut _ _ _ _ _ _ _ _ _ _ held (a .least2 .ensures .2) block (k .least .ensures .2) (f .0),
-      (most, sym (length-take-le _ _ most)),
+    omega (arith, put-length (f .0 .said), f .1 .1, k .least .ensures .0) in (
+      rw (
+        take-least (now (s .args .held)) heldLength _ _ held (a .least2 .ensures .2),
+        take-least (now (s .args .block)) 1024 _ _ block (k .least .ensures .2),
+      ) at (f .0),
+      (f .1 .0, (most, sym (length-take-le _ _ most))),
     )
 
 pub feed-spec : {M : Type 1} → statement M

@@ -1,126 +1,101 @@
 -- `feed_all` meets its contract. The invariant: what was fed so far is the block's beginning, and no line in it was bad.
 -- Assumes nothing.
-use Prim.Native.Nat.{ℕ, _+_, _-_, _*_, _≤_, _<_}
-use mathlib.Core.Path.{_≡_, refl, sym, ap, subst, _∙_}
-use mathlib.Core.Bool.{Bool, true, false}
-use mathlib.Core.List.{List, [], _∷_, _++_}
-use native.Mathlib.Numerals.{add-one}
+use Prim.Native.Nat.{ℕ, _+_, _-_, _*_, _^_, _≤_, _<_}
+use mathlib.Core.Path.{_≡_, refl, sym, _∙_}
+use mathlib.Core.Bool.{false}
+use mathlib.Core.List.{List}
 use native.Mathlib.Omega.{arith}
-use lib.ListN.{length, getD, take, drop, take-append-drop}
-use lib.Seq.{take-suc, take-take}
+use lib.ListN.{length, take}
 use denote.Ref.{now}
-use Rattle.writing.specs.Written.{put-none, put-length}
-use Rattle.pack_stream.specs.Pack.{nothing, packFrom, heldLength, jobRoom, Fed}
-use Rattle.pack_stream.specs.PackLaws.{fed-more, fed-stop}
+use Rattle.writing.specs.FedLaws.{Upto, upto-none, upto-byte, upto-all, upto-stop}
+use Rattle.writing.specs.Written.{put-length}
+use Rattle.pack_stream.specs.Pack.{holding, packByte, heldLength, jobRoom, stateOf}
 use Rattle.pack_stream.specs.declared.stream.Progress.{Progress}
 use Rattle.pack_stream.proofs.Bounds.{byte-short}
 use Rattle.pack_stream.proofs.stream.feed_all.Statement.{statement}
 use Rattle.pack_stream.proofs.stream.feed_all.Tie as tie
 
+-- the block's first i bytes were fed, from what was held, and brought it there
+abbrev Fed-to : List ℕ → List ℕ → List ℕ → ℕ → List ℕ → List ℕ → Progress → Type 0
+Fed-to block held out₀ i after out all =
+    Upto packByte (λ h. h .bad) jobRoom 1 block (holding held) out₀ i (stateOf after all) out (all .used)
+    (all .lines)
+
 abbrev Inv-loop : tie.InvT-loop
-Inv-loop block size held₀ held-before out₀ n₀ used₀ lines₀ i₀ held out n used lines i =
-    (i ≤ size) × (used ≤ jobRoom * i) × (lines ≤ i) × (length held ≡ heldLength) × (length out ≡ length out₀)
-    × Fed (packFrom (take held-before held₀) (take i block)) held out₀ 0 out
-    (record { held = n; used = used; lines = lines; bad = false })
+Inv-loop block size held₀ n out₀ all₀ i₀ held out all i =
+    (i ≤ size) × (all .held ≤ heldLength) × (length held ≡ heldLength) × (all .bad ≡ false)
+    × Fed-to block (take n held₀) out₀ i held out all
 
 abbrev μ-loop : tie.MeasureT-loop
-μ-loop block size held₀ held-before out₀ n₀ used₀ lines₀ i₀ held out n used lines i = size - i
+μ-loop block size held₀ n out₀ all₀ i₀ held out all i = size - i
 
-none-fed : (held after before : List ℕ) (n : ℕ) → n ≤ heldLength → take n after ≡ held
-    → Fed (packFrom held []) after before 0 before (record { held = n; used = 0; lines = 0; bad = false })
-unfolding packFrom
-none-fed held after before n h e = record { rest = e; few = h; said = put-none before 0; lines = refl; bad = refl }
+begins : (block held out : List ℕ) (n : ℕ) (all : Progress) → n ≤ heldLength
+    → all ≡ record { held = n; used = 0; lines = 0; bad = false }
+    → (all .held ≤ heldLength) × (all .bad ≡ false) × Fed-to block (take n held) out 0 held out all
+begins block held out n all h e = rw e (h, refl, upto-none)
 
-module _ (block held middle after before half out : List ℕ) (i : ℕ) (r s : Progress) (inside : i < length block)
-    (f : Fed (packFrom held (take i block)) middle before 0 half r) (good : r .bad ≡ false)
-    (g : Fed (packFrom (take (r .held) middle) (getD block i 0 ∷ [])) after half (r .used) out s) where
-  abbrev now-fed : Bool → Progress
-  now-fed b = record { held = s .held; used = s .used; lines = r .lines + s .lines; bad = b }
+-- a turn of the loop: its byte was fed
+turn : (s : tie.After-step Inv-loop μ-loop)
+    → (let k = s .before .before .before .before .before in
+    let a = k .before .before .before .before .before .args in
+    let all = k .loop .all in
+    Fed-to (now (a .block)) (take (a .n) (now (a .held))) (now (a .out)) (k .loop .i + 1) (s .step .last .1 .0)
+    (s .step .last .1 .1 .1 .0)
+    (record {
+      held = s .step .result .held;
+      used = s .step .result .used;
+      lines = all .lines + s .step .result .lines;
+      bad = s .step .result .bad;
+    }))
+unfolding packByte
+turn s =
+    let k = s .before .before .before .before .before in
+    let inside : k .loop .i < length (now (k .before .before .before .before .before .args .block)) =
+    omega (arith, k .before .before .before .before .before .pre .0) in
+    upto-byte (k .loop .inv .4) inside (k .loop .inv .3) byte-short (s .step .ensures .0)
 
-  one-more : Fed (packFrom held (take (i + 1) block)) after before 0 out (now-fed (s .bad))
-  one-more = rw (add-one, take-suc block i 0 inside) (fed-more held (take i block) (getD block i 0 ∷ []) f good g)
-
-  goes-on : s .bad ≡ false → Fed (packFrom held (take (i + 1) block)) after before 0 out (now-fed false)
-  goes-on e = subst (λ (b : Bool). Fed (packFrom held (take (i + 1) block)) after before 0 out (now-fed b)) e one-more
-
-  stops : (size : ℕ) → i < size → s .bad ≡ true → Fed (packFrom held (take size block)) after before 0 out (now-fed true)
-  stops size h e =
-      let here : Fed (packFrom held (take (i + 1) block)) after before 0 out (now-fed true) =
-      subst (λ (b : Bool). Fed (packFrom held (take (i + 1) block)) after before 0 out (now-fed b)) e one-more in
-      let split : take (i + 1) block ++ drop (i + 1) (take size block) ≡ take size block =
-      ap (λ (l : List ℕ). l ++ drop (i + 1) (take size block)) (sym (take-take (i + 1) size block (omega arith)))
-      ∙ take-append-drop (i + 1) (take size block) in
-      subst (λ (l : List ℕ). Fed (packFrom held l) after before 0 out (now-fed true)) split
-      (fed-stop held (take (i + 1) block) (drop (i + 1) (take size block)) here refl)
-
-  one-job : s .used ≤ r .used + jobRoom
-  one-job = omega (arith, g .said .place, byte-short (take (r .held) middle) (getD block i 0) .0)
-
-  one-line : s .lines ≤ 1
-  one-line = omega (arith, g .lines, byte-short (take (r .held) middle) (getD block i 0) .1)
+-- the room is in the machine, so there are few bytes
+few-bytes : (k : tie.At-loop Inv-loop μ-loop) → jobRoom * k .before .before .before .before .before .args .size < 2 ^ 64
+few-bytes k = omega (arith, k .before .before .before .before .before .pre .1 .1 .1)
 
 step-requires : tie.Need-step-requires Inv-loop μ-loop
 step-requires c κs =
     let l = c .before .before .before .before .loop in
-    (l .inv .3, (l .inv .5 .few, omega (arith, l .inv .4)))
+    let u = l .inv .4 in
+    (l .inv .2, (l .inv .1, omega (arith, put-length (u .fed .said), u .used-most)))
 
-all-of :
-    (block held after before out : List ℕ) (i size : ℕ) (r : Progress) → i ≤ size → size ≤ i
-    → Fed (packFrom held (take i block)) after before 0 out r
-    → Fed (packFrom held (take size block)) after before 0 out r
-all-of block held after before out i size r h k p = let e : i ≡ size = omega arith in rw e at p
+loop-holds : tie.Need-loop-holds Inv-loop μ-loop
+loop-holds c =
+    let s = c .before .before .before .before in
+    let b = begins (now (s .args .block)) (now (s .args .held)) (now (s .args .out)) (s .args .n) _ (s .pre .1 .1 .0)
+    (c .nothing .ensures) in
+    (omega arith, b .0, s .pre .1 .0, b .1, b .2)
 
--- a turn of the loop: what was fed before it, and what its step fed
 returns : tie.Need-returns Inv-loop μ-loop
 returns c =
-    let t = c .before in
-    let s = t .before .before .before .before .before in
+    let s = c .before .before .before .before .before .before .before in
     let k = s .before .before .before .before .before in
-    let l = k .loop in
-    let inside : l .i < length (now (k .before .before .before .before .args .block)) = omega arith in
-    let f = l .inv .5 in
-    let g = s .step .ensures in (
-      stops _ _ _ _ _ _ _ _ _ _ inside f refl g (k .before .before .before .before .args .size) (omega arith) (t .if1 .taken),
-      omega (arith, one-job _ _ _ _ _ _ _ _ _ _ inside f refl g),
+    let u = turn s in (
+      upto-stop u (k .before .before .before .before .before .args .size) (omega arith) (c .if1 .taken),
+      (s .step .ensures .1, omega (arith, u .used-most)),
     )
-
-add-lines : (c : tie.After-struct-known2 Inv-loop μ-loop)
-    → c .before .before .before .before .before .before .step .result .lines ≤ 1
-add-lines c =
-    let s = c .before .before .before .before .before .before in
-    let k = s .before .before .before .before .before in
-    let inside : k .loop .i < length (now (k .before .before .before .before .args .block)) = omega arith in
-    one-line _ _ _ _ _ _ _ _ _ _ inside (k .loop .inv .5) refl (s .step .ensures)
-
-add-lines-bad : (c : tie.After-struct-known Inv-loop μ-loop)
-    → c .before .before .before .before .before .before .step .result .lines ≤ 1
-add-lines-bad c =
-    let s = c .before .before .before .before .before .before in
-    let k = s .before .before .before .before .before in
-    let inside : k .loop .i < length (now (k .before .before .before .before .args .block)) = omega arith in
-    one-line _ _ _ _ _ _ _ _ _ _ inside (k .loop .inv .5) refl (s .step .ensures)
 
 loop-again : tie.Need-loop-again Inv-loop μ-loop
 loop-again c =
-    let t = c .before in
-    let s = t .before .before .before .before .before in
-    let k = s .before .before .before .before .before in
-    let l = k .loop in
-    let inside : l .i < length (now (k .before .before .before .before .args .block)) = omega arith in
-    let f = l .inv .5 in
-    let g = s .step .ensures in (
+    let s = c .before .before .before .before .before .before .before in
+    let l = s .before .before .before .before .before .loop in (
       omega arith,
-      omega (arith, one-job _ _ _ _ _ _ _ _ _ _ inside f refl g),
-      omega (arith, add-lines c),
-      s .step .kept .1 .0 ∙ l .inv .3,
-      put-length (g .said) ∙ l .inv .4,
-      goes-on _ _ _ _ _ _ _ _ _ _ inside f refl g (t .if1 .left),
+      s .step .ensures .1,
+      s .step .kept .1 .0 ∙ l .inv .2,
+      c .if1 .left,
+      turn s,
     )
 
 returns-2 : tie.Need-returns-2 Inv-loop μ-loop
 returns-2 c =
     let l = c .before .loop in
-    (all-of _ _ _ _ _ _ _ _ (l .inv .0) (c .loop-test .left) (l .inv .5), omega arith)
+    let u = l .inv .4 in
+    (upto-all u _ (l .inv .0) (c .loop-test .left), (l .inv .1, omega (arith, l .inv .0, u .used-most)))
 
 pub feed-all-spec : {M : Type 1} → statement M
 feed-all-spec =
@@ -128,30 +103,22 @@ feed-all-spec =
     (tie.spec
     Inv-loop
     μ-loop
-    (λ c. let p = c .before .before .before .pre in (
-      omega arith,
-      omega arith,
-      omega arith,
-      p .1 .0,
-      refl,
-      none-fed _ _ _ _ (p .1 .1 .0) refl,
-    ))
+    (λ c κs. tt)
+    loop-holds
     (λ c. omega arith)
     step-requires
-    (λ c. omega (arith, add-lines-bad c))
     (λ c.
     let s = c .before .before .before .before .before .before in
-    let k = s .before .before .before .before .before in
-    s .step .kept .1 .0 ∙ k .loop .inv .3 ∙ sym (k .before .before .before .before .pre .1 .0))
+    omega (arith, turn s .count-most, few-bytes (s .before .before .before .before .before)))
     (λ c.
-    let s = c .before .before .before .before .before .before in
+    let s = c .before .before .before .before .before .before .before in
     let k = s .before .before .before .before .before in
-    put-length (s .step .ensures .said) ∙ k .loop .inv .4)
+    s .step .kept .1 .0 ∙ k .loop .inv .2 ∙ sym (k .before .before .before .before .before .pre .1 .0))
+    (λ c. put-length (turn (c .before .before .before .before .before .before .before) .fed .said))
     returns
-    (λ c. omega (arith, add-lines c))
     (λ c. omega arith)
     (λ c. omega arith)
     loop-again
-    (λ c. c .before .loop .inv .3 ∙ sym (c .before .before .before .before .before .pre .1 .0))
-    (λ c. c .before .loop .inv .4)
+    (λ c. c .before .loop .inv .2 ∙ sym (c .before .before .before .before .before .before .pre .1 .0))
+    (λ c. put-length (c .before .loop .inv .4 .fed .said))
     returns-2)

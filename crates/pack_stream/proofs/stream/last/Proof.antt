@@ -9,21 +9,26 @@ use denote.Ref.{now}
 use lib.ListN.{length, take}
 use lib.Seq.{length-take-le}
 use Rattle.listing_read.specs.Lines.{callOf}
-use Rattle.writing.specs.Written.{put-none}
-use Rattle.pack_stream.specs.Pack.{nothing, lineThen, packLast, Fed}
+use Rattle.writing.specs.Fed.{run}
+use Rattle.writing.specs.FedLaws.{fed-quiet, run-one}
+use Rattle.writing.specs.Input.{lastLine}
+use Rattle.pack_stream.specs.Pack.{holding, lineEnd, packLast, jobRoom, Packs}
+use Rattle.pack_stream.specs.declared.stream.Progress.{Progress}
 use Rattle.pack_stream.proofs.Bounds.{line-short}
 use Rattle.pack_stream.proofs.stream.last.Statement.{statement}
 use Rattle.pack_stream.proofs.stream.last.Tie as tie
 
-none : (o l : List ℕ) (n : ℕ) → n ≡ 0 → Fed (packLast (take n l)) [] o 0 o (record { held = 0; used = 0; lines = 0; bad = false })
-unfolding packLast
-none o l n e = rw e (record { rest = refl; few = omega arith; said = put-none o 0; lines = refl; bad = refl })
+none :
+    (o l : List ℕ) (n : ℕ) (r : Progress) → n ≡ 0 → r ≡ record { held = 0; used = 0; lines = 0; bad = false }
+    → Packs (packLast (holding (take n l))) [] o 0 o r × (r .used ≤ jobRoom)
+unfolding run lastLine
+none o l n r e f = rw (e, f) (fed-quiet (holding []) o 0, omega arith)
 
-some : (l : List ℕ) (n : ℕ) → (n ≡ 0 → ⊥) → n ≤ length l → packLast (take n l) ≡ lineThen (callOf (take n l)) (nothing [])
-unfolding packLast
+some : (l : List ℕ) (n : ℕ) → (n ≡ 0 → ⊥) → n ≤ length l → packLast (holding (take n l)) ≡ lineEnd (callOf (take n l))
+unfolding lastLine
 some l zero ne h = absurd (ne refl)
 some [] (suc n) ne h = absurd (omega arith)
-some (b ∷ l) (suc n) ne h = refl
+some (b ∷ l) (suc n) ne h = run-one _ _ (holding (take (suc n) (b ∷ l))) (take (suc n) (b ∷ l)) refl
 
 returns-2 : tie.Need-returns-2
 returns-2 c =
@@ -37,6 +42,7 @@ returns-2 c =
 pub last-spec : {M : Type 1} → statement M
 last-spec =
     tie.close
-    (tie.spec (λ c. (none _ _ _ (c .if1 .taken), omega arith)) (λ c. sym (length-take-le _ _ (omega arith)))
+    (tie.spec (λ c κs. tt) (λ c. none _ _ _ _ (c .before .if1 .taken) (c .nothing .ensures))
+    (λ c. sym (length-take-le _ _ (omega arith)))
     (λ c κs. search needs)
     (λ c. search needs) returns-2)

@@ -1,5 +1,5 @@
 -- `write_job` meets its contract: it tests 16, then 17, and else writes. Assumes nothing.
-use Prim.Native.Nat.{ℕ, _+_, _-_, _≤_, _<_}
+use Prim.Native.Nat.{ℕ, _+_, _≤_, _<_}
 use mathlib.Core.Path.{_≡_, refl, sym, ap, _∙_}
 use native.Mathlib.Omega.{arith}
 use borrow.Author.Needs.{needs}
@@ -7,7 +7,7 @@ use borrow.Author.Tests.{eq-eqb, ne-eqb, lt-ltb, le-ltb}
 use denote.Ref.{now}
 use lib.ListN.{length}
 use Rattle.packed.specs.Jobs.{arityOf, jobBytes, jobLength}
-use Rattle.packed.specs.Writing.{writeAt, bytesAfter}
+use Rattle.packed.specs.Writing.{leftAfter, writeAt, bytesAfter}
 use Rattle.packed.specs.LengthLaws.{job-some}
 use Rattle.packed.specs.declared.jobs.Job.{Job}
 use Rattle.packed.specs.declared.write.Written.the-variants.{Next}
@@ -33,17 +33,18 @@ returns-2 c =
     )
 
 put-job-requires : tie.Need-put-job-requires
+unfolding leftAfter
 put-job-requires c κs =
     let t = c .before in
     let l = t .before .before in
     let a = l .before .before .before .before .args in
     omega (arith, job-some (a .job), t .if2 .left, l .left-after .ensures, t .before .job-length .ensures)
 
-written : (l place next : ℕ) (j : Job) → (arityOf (j .function) ≡ 0 → ⊥) → jobLength j ≤ l - place
+written : (l place next : ℕ) (j : Job) → (arityOf (j .function) ≡ 0 → ⊥) → jobLength j ≤ leftAfter l place
     → next ≡ place + length (jobBytes j)
     → Next next ≡ writeAt l place j
 unfolding writeAt jobLength
-written l place next j h k e = rw (ne-eqb (arityOf (j .function)) 0 h, le-ltb (l - place) (length (jobBytes j)) k, e)
+written l place next j h k e = rw (ne-eqb (arityOf (j .function)) 0 h, le-ltb (leftAfter l place) (length (jobBytes j)) k, e)
 
 returns-3 : tie.Need-returns-3
 unfolding bytesAfter

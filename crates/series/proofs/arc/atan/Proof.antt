@@ -9,7 +9,7 @@ use Rattle.rounding.specs.Cut.{infinity}
 use Rattle.binary64.specs.Tests.{bits-number}
 use Rattle.enclosure.specs.Pieces.{value, row, numerators}
 use Rattle.enclosure.specs.Rules.{atan-answer, half-pi}
-use Rattle.series.specs.Units.{with-sign}
+use Rattle.series.specs.Scaled.{with-sign}
 use Rattle.series.specs.Cases.{atan-tiny, atan-below-one, atan-at-one, atan-above-one, atan-far, atan-none}
 use Rattle.series.proofs.arc.atan.Statement.{statement}
 use Rattle.series.proofs.arc.atan.Tie as tie
@@ -27,7 +27,8 @@ no-nan : (n s : ℕ) → n ≤ infinity → s ≤ 1 → (n + s * 2 ^ 63) % 2 ^ 6
 no-nan n s h l = omega arith
 
 float-from-bits-result : tie.Need-float-from-bits-result
-float-from-bits-result c = bits-number _ (no-nan _ (c .before .before .before .split .result / 2 ^ 63) (omega arith) (omega arith))
+float-from-bits-result c = bits-number _ (no-nan _ (c .before .before .before .split .result / 2 ^ 63) (omega arith)
+    (omega arith))
 
 quarter-pi-is : ofBits binary64 0x3fe9_21fb_5444_2d18 ≡ round binary64 false (atan-answer 0 (2 ^ 62)) (2 ^ 62)
 unfolding ofBits round atan-answer value row numerators
@@ -43,7 +44,8 @@ returns-4 : tie.Need-returns-4
 returns-4 c =
     let a = c .before .before .before .before .before in
     c .above-one .ensures
-    ∙ atan-above-one (a .before .args .x) (a .split .result) (a .split .ensures) (omega arith) (c .before .before .if3 .left) (omega arith)
+    ∙ atan-above-one (a .before .args .x) (a .split .result) (a .split .ensures) (omega arith) (c .before .before .if3 .left)
+    (omega arith)
 
 float-from-bits-result-2 : tie.Need-float-from-bits-result-2
 float-from-bits-result-2 c =

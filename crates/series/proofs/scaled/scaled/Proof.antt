@@ -1,4 +1,4 @@
--- `series::scaled::scaled` meets its contract, by `Units`. Assumes nothing.
+-- `series::scaled::scaled` meets its contract, by `Scaled`. Assumes nothing.
 use Prim.Native.Nat.{ℕ, _+_, _-_, _*_, _%_, _^_, _≤_, _<_}
 use mathlib.Core.Path.{_≡_, sym, ap, _∙_, subst}
 use mathlib.Core.Bool.{not}
@@ -7,7 +7,7 @@ use borrow.Author.Needs.{needs}
 use lib.Dec.{T}
 use lib.Ieee.{Float, binary64, isNan, ofBits, toBits}
 use Rattle.binary64.specs.Tests.{bits-number}
-use Rattle.series.specs.Units.{pattern, pattern-low, pattern-high, whole-bits, whole-number, scaled-is}
+use Rattle.series.specs.Scaled.{pattern, pattern-low, pattern-high, whole-bits, whole-number, scaled-is}
 use Rattle.series.proofs.scaled.scaled.Statement.{statement}
 use Rattle.series.proofs.scaled.scaled.Tie as tie
 
@@ -15,11 +15,13 @@ range : (c : tie.After-nearest-u64-to-f64) → (0 < c .before .args .n) × (c .b
 range c = (c .before .pre .0, search needs)
 
 -- the pattern of the whole number
-bits : (c : tie.After-nearest-u64-to-f64) → toBits binary64 (c .nearest-u64-to-f64 .result) ≡ pattern (c .before .args .n) (range c)
+bits : (c : tie.After-nearest-u64-to-f64) → toBits binary64 (c .nearest-u64-to-f64 .result) ≡ pattern (c .before .args .n)
+    (range c)
 bits c = ap (λ (x : Float). toBits binary64 x) (c .nearest-u64-to-f64 .ensures) ∙ whole-bits (c .before .args .n) (range c)
 
 float-to-bits-result : tie.Need-float-to-bits-result
-float-to-bits-result c = subst (λ (x : Float). T (not (isNan x))) (sym (c .nearest-u64-to-f64 .ensures)) (whole-number (c .before .args .n) (range c))
+float-to-bits-result c = subst (λ (x : Float). T (not (isNan x))) (sym (c .nearest-u64-to-f64 .ensures))
+    (whole-number (c .before .args .n) (range c))
 
 sub-result : tie.Need-sub-result
 sub-result c = omega (arith, bits c, pattern-low (c .before .args .n) (range c), c .before .pre .1)

@@ -4,10 +4,11 @@ use mathlib.Core.Path.{_≡_, sym, _∙_, subst}
 use mathlib.Core.Bool.{Bool, true, false, cond}
 use mathlib.Core.List.{List, _++_}
 use native.Mathlib.Omega.{arith}
+use Rattle.writing.specs.Fed.{Fed}
 use Rattle.writing.specs.Written.{Put, put-more, put-length, place-most}
 use Rattle.swing_read.specs.Reading.{atStart}
 use Rattle.swing_write.specs.Replies.{longestSwing, longestTotal}
-use Rattle.swing_stream.specs.Stream.{heard, said, saidAtEnd, saidLast, Told}
+use Rattle.swing_stream.specs.Stream.{heard, said, lineEnd, saidAtEnd, saidLast}
 use Rattle.swing_stream.specs.declared.lines.State.{State}
 use Rattle.swing_stream.proofs.Lengths.{said-length, said-end-length}
 use Rattle.swing_stream.proofs.stream.last.Statement.{statement}
@@ -19,13 +20,13 @@ unfolding saidLast
 ended s o out next e p = subst (λ (b : Bool). Put o 0 (cond b (saidAtEnd s) (said s ++ saidAtEnd (heard s))) out next) (sym e) p
 
 begun :
-    (s t : State) (o half out : List ℕ) (h next : ℕ) → atStart (s .reading) ≡ false → Told (heard s) (said s) t o 0 half h
+    (s t : State) (o half out : List ℕ) (h next : ℕ) → atStart (s .reading) ≡ false → Fed (lineEnd s) t o 0 half h 0
     → Put half h (saidAtEnd t) out next
     → Put o 0 (saidLast s) out next
 unfolding saidLast
 begun s t o half out h next e p q =
     subst (λ (b : Bool). Put o 0 (cond b (saidAtEnd s) (said s ++ saidAtEnd (heard s))) out next) (sym e)
-    (put-more (p .words) (subst (λ (x : State). Put half h (saidAtEnd x) out next) (p .state) q))
+    (put-more (p .said) (subst (λ (x : State). Put half h (saidAtEnd x) out next) (p .left) q))
 
 returns : tie.Need-returns
 returns c =
@@ -45,7 +46,7 @@ returns-2 c =
       omega (
         arith,
         place-most longestTotal p (said-end-length _),
-        place-most longestSwing (e .line-end .ensures .words) (said-length _),
+        place-most longestSwing (e .line-end .ensures .said) (said-length _),
       ),
     )
 
@@ -62,8 +63,8 @@ last-spec =
     let e = c .before .before .before .before in
     omega (
       arith,
-      place-most longestSwing (e .line-end .ensures .words) (said-length _),
-      put-length (e .line-end .ensures .words),
+      place-most longestSwing (e .line-end .ensures .said) (said-length _),
+      put-length (e .line-end .ensures .said),
     ))
     (λ c. put-length (returns-2 c .0))
     returns-2)

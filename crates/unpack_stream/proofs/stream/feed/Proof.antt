@@ -1,30 +1,19 @@
 -- `feed` meets its contract: so many bytes are fed that their lines fit. Assumes nothing.
-use Prim.Native.Nat.{ℕ, _≤_, min}
+use Prim.Native.Nat.{_≤_}
 use mathlib.Core.Path.{_≡_, sym}
-use mathlib.Core.List.{List}
 use native.Mathlib.Omega.{arith}
 use borrow.Author.Needs.{needs}
-use lib.ListN.{length, take}
+use lib.ListN.{length}
 use lib.Seq.{length-take-le}
 use denote.Ref.{now}
 use Rattle.writing.specs.Written.{put-length}
 use Rattle.writing.specs.Parts.{take-least}
-use Rattle.unpack_stream.specs.Unpack.{heldLength, unpackFrom, Fed}
-use Rattle.unpack_stream.specs.declared.stream.Progress.{Progress}
+use Rattle.unpack_stream.specs.Unpack.{heldLength}
 use Rattle.unpack_stream.proofs.stream.feed.Statement.{statement}
 use Rattle.unpack_stream.proofs.stream.feed.Tie as tie
 
-cut :
-    (held block after before out : List ℕ) (m k n size : ℕ) (r : Progress) → length held ≡ heldLength → m ≡ min heldLength n
-    → length block ≡ 512
-    → k ≡ min 512 size
-    → Fed (unpackFrom (take m held) (take k block)) after before 0 out r
-    → Fed (unpackFrom (take n held) (take size block)) after before 0 out r
-cut held block after before out m k n size r l e b f p =
-    rw (take-least held heldLength n m l e, take-least block 512 size k b f) at p
-
-feed-all-requires : tie.Need-feed-all-requires
-feed-all-requires c κs =
+feed-part-requires : tie.Need-feed-part-requires
+feed-part-requires c κs =
     let a = c .before in
     let k = a .before .before in
     let s = k .before .before in
@@ -37,15 +26,18 @@ returns c =
     let a = c .before .before in
     let k = a .before .before in
     let s = k .before .before in
-    let f = c .feed-all .ensures in
+    let f = c .feed-part .ensures in
     let held : length (now (s .args .held)) ≡ heldLength = search needs in
     let block : length (now (s .args .block)) ≡ 512 = search needs in
     let full : length (now (s .args .out)) ≡ 65536 = search needs in
-    let most : c .feed-all .result .used ≤ length (c .feed-all .last .1 .1 .1 .1 .0) =
-    omega (arith, put-length (f .0 .said), f .1, k .least .ensures .0) in (
-      cut _ _ _ _ _ _ _ _ _ _ held (a .least2 .ensures .2) block (k .least .ensures .2) (f .0),
-      (most, sym (length-take-le _ _ most)),
+    let most : c .feed-part .result .used ≤ length (c .feed-part .last .1 .1 .1 .1 .0) =
+    omega (arith, put-length (f .0 .said), f .1 .1, k .least .ensures .0) in (
+      rw (
+        take-least (now (s .args .held)) heldLength _ _ held (a .least2 .ensures .2),
+        take-least (now (s .args .block)) 512 _ _ block (k .least .ensures .2),
+      ) at (f .0),
+      (f .1 .0, (most, sym (length-take-le _ _ most))),
     )
 
 pub feed-spec : {M : Type 1} → statement M
-feed-spec = tie.close (tie.spec (λ c κs. tt) (λ c κs. tt) feed-all-requires returns)
+feed-spec = tie.close (tie.spec (λ c κs. tt) (λ c κs. tt) feed-part-requires returns)

@@ -1,127 +1,131 @@
--- `feed_all` meets its contract. The invariant: what was fed so far is the block's beginning, and no refusal ended it. Assumes
--- nothing.
-use Prim.Native.Nat.{ℕ, _+_, _-_, _*_, _≤_, _<_}
-use mathlib.Core.Path.{_≡_, refl, sym, ap, subst, _∙_}
-use mathlib.Core.Bool.{Bool, true, false}
-use mathlib.Core.List.{List, [], _∷_, _++_}
-use native.Mathlib.Numerals.{add-one}
+-- `feed_all` meets its contract. The invariant: what was fed so far is the beginning of the bytes, and no refusal ended it.
+-- Assumes nothing.
+use Prim.Native.Nat.{ℕ, _+_, _-_, _*_, _^_, _≤_, _<_}
+use mathlib.Core.Path.{_≡_, refl, sym, ap, _∙_}
+use mathlib.Core.Bool.{Bool, false, cond}
+use mathlib.Core.List.{List, [], _∷_}
 use native.Mathlib.Omega.{arith}
-use lib.ListN.{length, getD, take, drop, take-append-drop}
-use lib.Seq.{take-suc, take-take}
+use lib.ListN.{length, take, drop, length-drop}
+use lib.Seq.{take-length, length-take-le}
 use denote.Ref.{now}
-use Rattle.writing.specs.Written.{put-none, put-length}
+use Rattle.writing.specs.Fed.{quiet, andRan, run}
+use Rattle.writing.specs.FedLaws.{Upto, upto-none, upto-part, upto-all, upto-stop}
+use Rattle.writing.specs.Written.{put-length}
 use Rattle.unpack_stream.specs.Text.{lineRoom}
-use Rattle.unpack_stream.specs.Unpack.{nothing, unpackFrom, heldLength, Fed}
-use Rattle.unpack_stream.specs.UnpackLaws.{fed-more, fed-stop}
+use Rattle.unpack_stream.specs.Unpack.{Held, holding, unpackByte, unpackFrom, heldLength, stateOf, Unpacks, Turns}
 use Rattle.unpack_stream.specs.declared.stream.Progress.{Progress}
+use Rattle.unpack_stream.specs.declared.stream.Turned.{Turned}
 use Rattle.unpack_stream.proofs.Lines.{byte-short}
 use Rattle.unpack_stream.proofs.stream.feed_all.Statement.{statement}
 use Rattle.unpack_stream.proofs.stream.feed_all.Tie as tie
 
+-- the first i bytes were fed, from what was held, and brought it there
+abbrev Fed-to : List ℕ → List ℕ → List ℕ → ℕ → List ℕ → List ℕ → Progress → Type 0
+Fed-to bytes held out₀ i after out all =
+    Upto unpackByte (λ h. h .ended) lineRoom heldLength bytes (holding held) out₀ i (stateOf after all) out (all .used)
+    (all .taken)
+
 abbrev Inv-loop : tie.InvT-loop
-Inv-loop block size held₀ held-before out₀ n₀ used₀ taken₀ stop₀ i₀ held out n used taken stop i =
-    (i ≤ size) × (used ≤ lineRoom * i) × (taken ≤ heldLength * i) × (length held ≡ heldLength) × (length out ≡ length out₀)
-    × Fed (unpackFrom (take held-before held₀) (take i block)) held out₀ 0 out
-    (record { held = n; used = used; taken = taken; ended = false; stop = stop })
+Inv-loop bytes held₀ n out₀ all₀ i₀ held out all i =
+    (i ≤ length bytes) × (all .held ≤ heldLength) × (length held ≡ heldLength) × (all .ended ≡ false)
+    × Fed-to bytes (take n held₀) out₀ i held out all
 
 abbrev μ-loop : tie.MeasureT-loop
-μ-loop block size held₀ held-before out₀ n₀ used₀ taken₀ stop₀ i₀ held out n used taken stop i = size - i
+μ-loop bytes held₀ n out₀ all₀ i₀ held out all i = length bytes - i
 
-none-fed : (held after before : List ℕ) (n : ℕ) → n ≤ heldLength → take n after ≡ held
-    → Fed (unpackFrom held []) after before 0 before (record { held = n; used = 0; taken = 0; ended = false; stop = 0 })
-unfolding unpackFrom
-none-fed held after before n h e = record { rest = e; few = h; said = put-none before 0; taken = refl; ended = refl; stop = refl }
+begins : (bytes held out : List ℕ) (n : ℕ) (all : Progress) → n ≤ heldLength
+    → all ≡ record { held = n; used = 0; taken = 0; ended = false; stop = 0 }
+    → (all .held ≤ heldLength) × (all .ended ≡ false) × Fed-to bytes (take n held) out 0 held out all
+begins bytes held out n all h e = rw e (h, refl, upto-none)
 
-module _ (block held middle after before half out : List ℕ) (i : ℕ) (r s : Progress) (inside : i < length block)
-    (f : Fed (unpackFrom held (take i block)) middle before 0 half r) (good : r .ended ≡ false)
-    (g : Fed (unpackFrom (take (r .held) middle) (getD block i 0 ∷ [])) after half (r .used) out s) where
-  abbrev now-fed : Bool → Progress
-  now-fed b = record { held = s .held; used = s .used; taken = r .taken + s .taken; ended = b; stop = s .stop }
+-- what was fed before a turn, with what the turn fed
+abbrev both : Progress → Progress → Progress
+both all fed = record {
+  held = fed .held;
+  used = fed .used;
+  taken = all .taken + fed .taken;
+  ended = fed .ended;
+  stop = fed .stop;
+}
 
-  one-more : Fed (unpackFrom held (take (i + 1) block)) after before 0 out (now-fed (s .ended))
-  one-more = rw (add-one, take-suc block i 0 inside) (fed-more held (take i block) (getD block i 0 ∷ []) f good g)
+-- of a state that goes on only what is held counts
+same-run : (xs : List ℕ) (s : Held) → 0 < length xs → s .ended ≡ false → unpackFrom s xs ≡ unpackFrom (holding (s .rest)) xs
+unfolding run unpackByte
+same-run [] s h e = absurd (omega arith)
+same-run (x ∷ xs) s h e =
+    ap (λ (t : Bool). cond t (quiet s) (andRan (unpackByte s x) (unpackFrom (unpackByte s x .left) xs))) e
 
-  goes-on : s .ended ≡ false → Fed (unpackFrom held (take (i + 1) block)) after before 0 out (now-fed false)
-  goes-on e = subst (λ (b : Bool). Fed (unpackFrom held (take (i + 1) block)) after before 0 out (now-fed b)) e one-more
+turned :
+    (bytes held out₀ middle half after out : List ℕ) (i : ℕ) (all : Progress) (r : Turned) → all .ended ≡ false
+    → Fed-to bytes held out₀ i middle half all
+    → Turns bytes i (take (all .held) middle) after half (all .used) out r
+    → Fed-to bytes held out₀ (r .next) after out (both all (r .fed))
+turned bytes held out₀ middle half after out i all r e u t =
+    let k : ℕ = r .next - i in
+    let there : i + k ≡ r .next = omega (arith, t .later) in
+    let some : length (take k (drop i bytes)) ≡ k = length-take-le k (drop i bytes) (rw length-drop (omega (arith, t .inside))) in
+    let fed : Unpacks (unpackFrom (stateOf middle all) (take k (drop i bytes))) after half (all .used) out (r .fed) =
+    rw (same-run (take k (drop i bytes)) (stateOf middle all) (omega (arith, t .later, some)) e) (t .fed) in
+    rw there at (upto-part u k (omega (arith, t .inside)) byte-short fed)
 
-  stops : (size : ℕ) → i < size → s .ended ≡ true → Fed (unpackFrom held (take size block)) after before 0 out (now-fed true)
-  stops size h e =
-      let here : Fed (unpackFrom held (take (i + 1) block)) after before 0 out (now-fed true) =
-      subst (λ (b : Bool). Fed (unpackFrom held (take (i + 1) block)) after before 0 out (now-fed b)) e one-more in
-      let split : take (i + 1) block ++ drop (i + 1) (take size block) ≡ take size block =
-      ap (λ (l : List ℕ). l ++ drop (i + 1) (take size block)) (sym (take-take (i + 1) size block (omega arith)))
-      ∙ take-append-drop (i + 1) (take size block) in
-      subst (λ (l : List ℕ). Fed (unpackFrom held l) after before 0 out (now-fed true)) split
-      (fed-stop held (take (i + 1) block) (drop (i + 1) (take size block)) here refl)
+-- a turn of the loop: its bytes were fed
+turn : (s : tie.After-turn Inv-loop μ-loop)
+    → (let k = s .before .before .before .before in
+    let a = k .before .before .before .before .before .args in
+    Fed-to (now (a .bytes)) (take (a .n) (now (a .held))) (now (a .out)) (s .turn .result .next) (s .turn .last .1 .1 .0)
+    (s .turn .last .1 .1 .1 .1 .0) (both (k .loop .all) (s .turn .result .fed)))
+turn s =
+    let l = s .before .before .before .before .loop in
+    turned _ _ _ (l .held) _ _ _ _ (l .all) (s .turn .result) (l .inv .3) (l .inv .4) (s .turn .ensures)
 
-  one-text : s .used ≤ r .used + lineRoom
-  one-text = omega (arith, g .said .place, byte-short (take (r .held) middle) (getD block i 0) .0)
+-- the room is in the machine, so there are few bytes
+few-bytes : (k : tie.At-loop Inv-loop μ-loop)
+    → lineRoom * length (now (k .before .before .before .before .before .args .bytes)) < 2 ^ 64
+few-bytes k = omega (arith, k .before .before .before .before .before .pre .1 .1)
 
-  one-held : s .taken ≤ heldLength
-  one-held = omega (arith, g .taken, byte-short (take (r .held) middle) (getD block i 0) .1)
+turn-requires : tie.Need-turn-requires Inv-loop μ-loop
+turn-requires c κs =
+    let l = c .before .before .before .loop in
+    let u = l .inv .4 in
+    (omega arith, (l .inv .2, (l .inv .1, omega (arith, put-length (u .fed .said), u .used-most))))
 
-step-requires : tie.Need-step-requires Inv-loop μ-loop
-step-requires c κs =
-    let l = c .before .before .before .before .loop in
-    (l .inv .3, (l .inv .5 .few, omega (arith, l .inv .4)))
+loop-holds : tie.Need-loop-holds Inv-loop μ-loop
+loop-holds c =
+    let s = c .before .before .before .before in
+    let b = begins (now (s .args .bytes)) (now (s .args .held)) (now (s .args .out)) (s .args .n) _ (s .pre .1 .0)
+    (c .waiting .ensures) in
+    (omega arith, b .0, s .pre .0, b .1, b .2)
 
-all-of :
-    (block held after before out : List ℕ) (i size : ℕ) (r : Progress) → i ≤ size → size ≤ i
-    → Fed (unpackFrom held (take i block)) after before 0 out r
-    → Fed (unpackFrom held (take size block)) after before 0 out r
-all-of block held after before out i size r h k p = let e : i ≡ size = omega arith in rw e at p
-
--- a turn of the loop: what was fed before it, and what its step fed
 returns : tie.Need-returns Inv-loop μ-loop
 returns c =
-    let t = c .before in
-    let s = t .before .before .before .before .before in
-    let k = s .before .before .before .before .before in
-    let l = k .loop in
-    let inside : l .i < length (now (k .before .before .before .before .args .block)) = omega arith in
-    let f = l .inv .5 in
-    let g = s .step .ensures in (
-      stops _ _ _ _ _ _ _ _ _ _ inside f refl g (k .before .before .before .before .args .size) (omega arith) (t .if1 .taken),
-      omega (arith, one-text _ _ _ _ _ _ _ _ _ _ inside f refl g),
+    let s = c .before .before .before .before .before .before .before .before in
+    let bytes = now (s .before .before .before .before .before .before .before .before .before .args .bytes) in
+    let t = s .turn .ensures in
+    let u = turn s in (
+      rw (take-length bytes) at (upto-stop u (length bytes) (t .inside) (c .if1 .taken)),
+      (t .few, omega (arith, t .inside, u .used-most)),
     )
-
-add-taken : (c : tie.After-struct-known2 Inv-loop μ-loop)
-    → c .before .before .before .before .before .before .step .result .taken ≤ heldLength
-add-taken c =
-    let s = c .before .before .before .before .before .before in
-    let k = s .before .before .before .before .before in
-    let inside : k .loop .i < length (now (k .before .before .before .before .args .block)) = omega arith in
-    one-held _ _ _ _ _ _ _ _ _ _ inside (k .loop .inv .5) refl (s .step .ensures)
-
-add-taken-bad : (c : tie.After-struct-known Inv-loop μ-loop)
-    → c .before .before .before .before .before .before .step .result .taken ≤ heldLength
-add-taken-bad c =
-    let s = c .before .before .before .before .before .before in
-    let k = s .before .before .before .before .before in
-    let inside : k .loop .i < length (now (k .before .before .before .before .args .block)) = omega arith in
-    one-held _ _ _ _ _ _ _ _ _ _ inside (k .loop .inv .5) refl (s .step .ensures)
 
 loop-again : tie.Need-loop-again Inv-loop μ-loop
 loop-again c =
-    let t = c .before in
-    let s = t .before .before .before .before .before in
-    let k = s .before .before .before .before .before in
-    let l = k .loop in
-    let inside : l .i < length (now (k .before .before .before .before .args .block)) = omega arith in
-    let f = l .inv .5 in
-    let g = s .step .ensures in (
-      omega arith,
-      omega (arith, one-text _ _ _ _ _ _ _ _ _ _ inside f refl g),
-      omega (arith, add-taken c),
-      s .step .kept .1 .0 ∙ l .inv .3,
-      put-length (g .said) ∙ l .inv .4,
-      goes-on _ _ _ _ _ _ _ _ _ _ inside f refl g (t .if1 .left),
+    let s = c .before .before .before .before .before .before .before .before in
+    let l = s .before .before .before .before .loop in
+    let t = s .turn .ensures in (
+      t .inside,
+      t .few,
+      s .turn .kept .1 .1 .0 ∙ l .inv .2,
+      c .if1 .left,
+      turn s,
     )
 
 returns-2 : tie.Need-returns-2 Inv-loop μ-loop
 returns-2 c =
     let l = c .before .loop in
-    (all-of _ _ _ _ _ _ _ _ (l .inv .0) (c .loop-test .left) (l .inv .5), omega arith)
+    let u = l .inv .4 in
+    let bytes = now (c .before .before .before .before .before .before .args .bytes) in (
+      rw (take-length bytes) at (upto-all u (length bytes) (l .inv .0) (c .loop-test .left)),
+      (l .inv .1, omega (arith, l .inv .0, u .used-most)),
+    )
 
 pub feed-all-spec : {M : Type 1} → statement M
 feed-all-spec =
@@ -129,30 +133,20 @@ feed-all-spec =
     (tie.spec
     Inv-loop
     μ-loop
-    (λ c. let p = c .before .before .before .pre in (
-      omega arith,
-      omega arith,
-      omega arith,
-      p .1 .0,
-      refl,
-      none-fed _ _ _ _ (p .1 .1 .0) refl,
-    ))
-    (λ c. omega arith)
-    step-requires
-    (λ c. omega (arith, add-taken-bad c))
+    (λ c κs. tt)
+    loop-holds
+    turn-requires
     (λ c.
-    let s = c .before .before .before .before .before .before in
-    let k = s .before .before .before .before .before in
-    s .step .kept .1 .0 ∙ k .loop .inv .3 ∙ sym (k .before .before .before .before .pre .1 .0))
+    let s = c .before .before .before .before .before .before .before in
+    omega (arith, turn s .count-most, s .turn .ensures .inside, few-bytes (s .before .before .before .before)))
     (λ c.
-    let s = c .before .before .before .before .before .before in
-    let k = s .before .before .before .before .before in
-    put-length (s .step .ensures .said) ∙ k .loop .inv .4)
+    let s = c .before .before .before .before .before .before .before .before in
+    let k = s .before .before .before .before in
+    s .turn .kept .1 .1 .0 ∙ k .loop .inv .2 ∙ sym (k .before .before .before .before .before .pre .0))
+    (λ c. put-length (turn (c .before .before .before .before .before .before .before .before) .fed .said))
     returns
-    (λ c. omega (arith, add-taken c))
-    (λ c. omega arith)
-    (λ c. omega arith)
+    (λ c. omega (arith, c .before .before .before .before .before .before .before .before .turn .ensures .later))
     loop-again
-    (λ c. c .before .loop .inv .3 ∙ sym (c .before .before .before .before .before .pre .1 .0))
-    (λ c. c .before .loop .inv .4)
+    (λ c. c .before .loop .inv .2 ∙ sym (c .before .before .before .before .before .before .pre .0))
+    (λ c. put-length (c .before .loop .inv .4 .fed .said))
     returns-2)

@@ -7,29 +7,23 @@ use borrow.Author.Needs.{needs}
 use denote.Ref.{now}
 use lib.ListN.{length, take, set, length-set}
 use lib.Seq.{length-take-le, take-take}
-use Rattle.packed.specs.Reading.{readAt}
+use Rattle.writing.specs.Parts.{held-more}
 use Rattle.writing.specs.Written.{pushed, pushed-most}
-use Rattle.unpack_stream.specs.Unpack.{nothing, jobThen, unpackFrom, heldLength, Fed}
+use Rattle.unpack_stream.specs.Unpack.{holding, tryOf, unpackByte, heldLength, Unpacks}
 use Rattle.unpack_stream.specs.declared.stream.Progress.{Progress}
-use Rattle.unpack_stream.proofs.Lines.{held-more}
 use Rattle.unpack_stream.proofs.stream.step.Statement.{statement}
 use Rattle.unpack_stream.proofs.stream.step.Tie as tie
 
 held : (l after before out : List ℕ) (n b m at : ℕ) (r : Progress) → length l ≡ heldLength → n ≤ heldLength → after ≡ set l n b
-    → m ≡ pushed n (length l)
-    → Fed (jobThen (readAt (take m after) 0) (length (take m after)) (nothing []) (nothing (take m after))) (take m after)
-    before at out r
-    → r .held ≤ length (take m after) → Fed (unpackFrom (take n l) (b ∷ [])) after before at out r
-unfolding unpackFrom
+    → m ≡ pushed n (length l) → Unpacks (tryOf (take m after)) (take m after) before at out r → r .held ≤ length (take m after)
+    → Unpacks (unpackByte (holding (take n l)) b) after before at out r × (r .held ≤ heldLength)
+unfolding unpackByte
 held l after before out n b m at r e few a p f k =
     let most : m ≤ heldLength = pushed-most n heldLength m few (rw e at p) in
     let size : length (take m after) ≡ m = length-take-le m after (rw a (simp length-set (omega arith))) in
     let is : take m after ≡ take heldLength (take n l ++ b ∷ []) = rw a (held-more l n b m (omega arith) p ∙ rw e) in
     let t : take (r .held) (take m after) ≡ take (r .held) after = take-take (r .held) m after (omega arith) in
-    subst
-    (λ (h : List ℕ). Fed (jobThen (readAt h 0) (length h) (nothing []) (nothing h)) after before at out r)
-    is
-    (record { rest = sym t ∙ f .rest; few = f .few; said = f .said; taken = f .taken; ended = f .ended; stop = f .stop })
+    (subst (λ (h : List ℕ). Unpacks (tryOf h) after before at out r) is (rw t at f), omega arith)
 
 returns : tie.Need-returns
 returns c =
@@ -55,12 +49,7 @@ step-spec =
     (λ c κs. tt)
     (λ c. let m = most (c .before .before) in omega (arith, m .0, m .1))
     (λ c. let m = most (c .before .before .before) in sym (length-take-le _ _ (omega (arith, m .0, m .1))))
-    (λ c κs.
-    let p = c .before .before .before .before in
-    let m = most p in (
-      rw (length-take-le (p .push .result) (p .push .last .0) (omega (arith, m .0, m .1))) (m .0),
-      p .before .before .before .before .pre .1 .1,
-    ))
+    (λ c κs. c .before .before .before .before .before .before .before .before .pre .1 .1)
     (λ c. search needs)
     (λ c. search needs)
     returns)

@@ -113,8 +113,10 @@ room c =
       argument-most j 3,
     )
 
-as-long : (c : tie.After-slice-known6) → length (c .before .before .put-argument4 .last .1 .1 .0)
-    ≡ length (now (c .before .before .before .before .before .before .before .before .before .before .before .before .before .before .before .before .before .before .before .before .before .args .out))
+as-long : (c : tie.After-slice-known6)
+    → (let half = c .before .before .before .before .before .before .before .before .before .before in
+    let start = half .before .before .before .before .before .before .before .before .before .before .before in
+    length (c .before .before .put-argument4 .last .1 .1 .0) ≡ length (now (start .args .out)))
 as-long c =
     let v = c .before .before in
     let u = v .before .before .before .before in

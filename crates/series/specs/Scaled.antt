@@ -1,9 +1,19 @@
--- A word Y in units of 2 ^ -k, rounded once: the pattern of Y rounded, with k taken from its exponent's field. Assumes nothing.
+-- A word Y in parts of 2 ^ -k, rounded once: the pattern of Y rounded, with k taken from its exponent's field. Assumes nothing.
 use Prim.Native.Nat.{ℕ, zero, suc, _+_, _-_, _*_, _/_, _%_, _^_, _≤_, _<_, compare, Ordering}
 use mathlib.Core.Path.{_≡_, sym, ap, _∙_, subst}
 use mathlib.Core.Bool.{Bool, false, not}
 use mathlib.Core.Logic.{inl, inr}
-use native.Mathlib.Nat.{le-trans, le-of-eq, lt-of-lt-of-le, mul-le-mul-right, mul-lt-mul-of-pos-right, le-div-iff-mul-le, div-lt-iff-lt-mul, mod-lt, div-add-mod'}
+use native.Mathlib.Nat.{
+  le-trans,
+  le-of-eq,
+  lt-of-lt-of-le,
+  mul-le-mul-right,
+  mul-lt-mul-of-pos-right,
+  le-div-iff-mul-le,
+  div-lt-iff-lt-mul,
+  mod-lt,
+  div-add-mod',
+}
 use native.Mathlib.Omega.{arith}
 use lib.IntN.{pos}
 use lib.Dec.{T, eqb}
@@ -85,7 +95,7 @@ module _ (Y : ℕ) (range : (0 < Y) × (Y < 2 ^ 64)) where
   pub digits-high : digits ≤ 2 ^ 53
   digits-high = le-trans (nearest-le kept half) kept-high
 
-  -- Y in units of 2 ^ -k has k less in the field
+  -- Y in parts of 2 ^ -k has k less in the field
   at : (k d : ℕ) → d + k ≡ field → round binary64 false Y (2 ^ k) ≡ ofBits binary64 (d * 2 ^ 52 + digits)
   at k d e =
       let f : k + d ≡ field = omega arith in
@@ -149,7 +159,8 @@ module _ (Y : ℕ) (range : (0 < Y) × (Y < 2 ^ 64)) where
       less z n k h s = omega arith
 
   -- THE LAW
-  pub scaled-is : (k s : ℕ) → k ≤ 1000 → s ≤ 1 → ofBits binary64 (pattern - k * 2 ^ 52 + s * 2 ^ 63) ≡ round binary64 (eqb s 1) Y (2 ^ k)
+  pub scaled-is : (k s : ℕ) → k ≤ 1000 → s ≤ 1 → ofBits binary64 (pattern - k * 2 ^ 52 + s * 2 ^ 63) ≡ round binary64
+      (eqb s 1) Y (2 ^ k)
   scaled-is k s h l = with-sign (pattern - k * 2 ^ 52) Y (2 ^ k) s (small pattern k pattern-high) (lower k h) l
     where
       small : (n k : ℕ) → n ≤ 1087 * 2 ^ 52 → n - k * 2 ^ 52 < 2 ^ 63
