@@ -11,9 +11,9 @@
 #include <stddef.h>
 #include <stdint.h>
 
-#define GATEWREN_VERSION "0.2.0"
+#define GATEWREN_VERSION "0.3.0"
 #define GATEWREN_VERSION_MAJOR 0
-#define GATEWREN_VERSION_MINOR 2
+#define GATEWREN_VERSION_MINOR 3
 #define GATEWREN_VERSION_PATCH 0
 
 #ifdef __cplusplus
@@ -42,41 +42,100 @@ enum gatewren_outcome {
     GATEWREN_NO_ROOM = 17       /* a job is longer than what is left of the buffer */
 };
 
+/* Which formula gave a value. A call that rescales, or hands its whole answer to another function, has that one's road. */
+enum gatewren_road {
+    GATEWREN_CLOSED = 1,        /* a formula */
+    GATEWREN_INFINITE = 2,      /* the rule for an infinite argument gave the zero */
+    GATEWREN_AGM = 3,           /* the arithmetic-geometric mean */
+    GATEWREN_DUPLICATION = 4,   /* duplication */
+    GATEWREN_JOINT = 5,         /* RG's duplication of RF and RD in one loop */
+    GATEWREN_TAYLOR = 6,        /* the expansion near RJ's zero */
+    GATEWREN_REDUCTION = 7      /* the reduction of RJ with p below zero */
+};
+
 /*
  * The entries. Every argument is answered, whatever its bits, in one of two ways:
- *   0 is returned, *value is a finite number and *rounds the number of rounds gone through; or
- *   a number of the list above is returned, and neither *value nor *rounds is touched.
- * value and rounds point to two places apart from each other, neither of them null.
- * The same arguments give the same 64 bits on every machine.
+ *   0 is returned, *value is a finite number, *rounds the rounds gone through, *road a number of the list above, and *rescalings
+ *   how often arguments were rescaled, rounds and rescalings over the call and all it calls; or
+ *   a number of the list of refusals is returned, and none of the four places is touched.
+ * The four point to places apart from each other, none of them null.
+ * The same arguments give the same 64 bits, rounds, road and rescalings on every machine.
  */
 
 /* RC(x, y); for y below zero its Cauchy principal value. Returns 0, 1, 2, 4 or 7. */
-uint32_t gatewren_rc(double x, double y, double *value, uint32_t *rounds);
+uint32_t gatewren_rc(double x, double y,
+                     double *value, uint32_t *rounds, uint32_t *road, uint32_t *rescalings);
 
 /* RF(x, y, z). Returns 0, 1, 2, 3 or 6. */
-uint32_t gatewren_rf(double x, double y, double z, double *value, uint32_t *rounds);
+uint32_t gatewren_rf(double x, double y, double z,
+                     double *value, uint32_t *rounds, uint32_t *road, uint32_t *rescalings);
 
 /* RD(x, y, z). Returns 0, 1, 2, 3, 5, 6 or 9. */
-uint32_t gatewren_rd(double x, double y, double z, double *value, uint32_t *rounds);
+uint32_t gatewren_rd(double x, double y, double z,
+                     double *value, uint32_t *rounds, uint32_t *road, uint32_t *rescalings);
 
 /* RG(x, y, z). Returns 0, 1, 2, 8 or 9. */
-uint32_t gatewren_rg(double x, double y, double z, double *value, uint32_t *rounds);
+uint32_t gatewren_rg(double x, double y, double z,
+                     double *value, uint32_t *rounds, uint32_t *road, uint32_t *rescalings);
 
 /* RJ(x, y, z, p); for p below zero its Cauchy principal value. Returns 0, 1, 2, 3, 4, 6, 9 or 10. */
-uint32_t gatewren_rj(double x, double y, double z, double p, double *value, uint32_t *rounds);
+uint32_t gatewren_rj(double x, double y, double z, double p,
+                     double *value, uint32_t *rounds, uint32_t *road, uint32_t *rescalings);
 
 /*
  * The knee bench: whole micrometres, and micrometres per second squared.
  */
 
 /* The period of an ideal swing in seconds: equivalent length, release height above the low point, gravity. As an entry answers:
-   0 with both written, or 11 or 12 with neither touched. */
-uint32_t gatewren_swing(uint64_t length, uint64_t height, uint64_t gravity, double *value, uint32_t *rounds);
+   0 with the four written, road and rescalings being RF's, or 11 or 12 with none touched. */
+uint32_t gatewren_swing(uint64_t length, uint64_t height, uint64_t gravity,
+                        double *value, uint32_t *rounds, uint32_t *road, uint32_t *rescalings);
 
 /* Adds to *total the steps between n successive readings of a 16-bit counter, each the later less the earlier modulo 65,536;
    none or one adds 0. Right if fewer than 65,536 steps lie between two readings. Returns 0; or 13, and *total is as it was.
    total is not null and points to none of the readings; readings may be null only where n is 0. */
 uint32_t gatewren_steps(uint64_t *total, const uint16_t *readings, size_t n);
+
+/*
+ * The same with one struct for the four places, where the compiler has `inline` (C99, C++): nothing is added to the library. The
+ * struct is filled where 0 is returned, and else not touched.
+ */
+typedef struct gatewren_answer {
+    double value;
+    uint32_t rounds, road, rescalings;
+} gatewren_answer;
+
+#if defined(__cplusplus) || (defined(__STDC_VERSION__) && __STDC_VERSION__ >= 199901L)
+static inline uint32_t gatewren_rc_answer(double x, double y, gatewren_answer *answer)
+{
+    return gatewren_rc(x, y, &answer->value, &answer->rounds, &answer->road, &answer->rescalings);
+}
+
+static inline uint32_t gatewren_rf_answer(double x, double y, double z, gatewren_answer *answer)
+{
+    return gatewren_rf(x, y, z, &answer->value, &answer->rounds, &answer->road, &answer->rescalings);
+}
+
+static inline uint32_t gatewren_rd_answer(double x, double y, double z, gatewren_answer *answer)
+{
+    return gatewren_rd(x, y, z, &answer->value, &answer->rounds, &answer->road, &answer->rescalings);
+}
+
+static inline uint32_t gatewren_rg_answer(double x, double y, double z, gatewren_answer *answer)
+{
+    return gatewren_rg(x, y, z, &answer->value, &answer->rounds, &answer->road, &answer->rescalings);
+}
+
+static inline uint32_t gatewren_rj_answer(double x, double y, double z, double p, gatewren_answer *answer)
+{
+    return gatewren_rj(x, y, z, p, &answer->value, &answer->rounds, &answer->road, &answer->rescalings);
+}
+
+static inline uint32_t gatewren_swing_answer(uint64_t length, uint64_t height, uint64_t gravity, gatewren_answer *answer)
+{
+    return gatewren_swing(length, height, gravity, &answer->value, &answer->rounds, &answer->road, &answer->rescalings);
+}
+#endif
 
 /*
  * Work lists in packed form: jobs one after another, each its function's number (RF 1, RC 2, RD 3, RG 4, RJ 5) and the 64 bits of

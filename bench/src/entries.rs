@@ -7,25 +7,25 @@ use untouched::carlson::{elliprc, elliprd, elliprf, elliprg, elliprj};
 
 pub fn rows() -> Vec<Row> {
     let mut rows = rc();
-    let ours = symbols::RF.map(|f| move |[x, y, z]: [f64; 3]| value(|v, n| unsafe { f(x, y, z, v, n) }));
+    let ours = symbols::RF.map(|f| move |[x, y, z]: [f64; 3]| value(|v, n, r, s| unsafe { f(x, y, z, v, n, r, s) }));
     rows.extend(of_three("RF", ours, |[x, y, z]| elliprf(x, y, z).unwrap_or(0.0)));
-    let ours = symbols::RD.map(|f| move |[x, y, z]: [f64; 3]| value(|v, n| unsafe { f(x, y, z, v, n) }));
+    let ours = symbols::RD.map(|f| move |[x, y, z]: [f64; 3]| value(|v, n, r, s| unsafe { f(x, y, z, v, n, r, s) }));
     rows.extend(of_three("RD", ours, |[x, y, z]| elliprd(x, y, z).unwrap_or(0.0)));
-    let ours = symbols::RG.map(|f| move |[x, y, z]: [f64; 3]| value(|v, n| unsafe { f(x, y, z, v, n) }));
+    let ours = symbols::RG.map(|f| move |[x, y, z]: [f64; 3]| value(|v, n, r, s| unsafe { f(x, y, z, v, n, r, s) }));
     rows.extend(of_three("RG", ours, |[x, y, z]| elliprg(x, y, z).unwrap_or(0.0)));
     rows.extend(rj());
     rows
 }
 
 /// The value of a call through the C interface; 0 for a refusal, which the stated inputs do not meet.
-fn value(call: impl FnOnce(*mut f64, *mut u32) -> u32) -> f64 {
-    let (mut value, mut count) = (0.0, 0);
-    call(&mut value, &mut count);
+fn value(call: impl FnOnce(*mut f64, *mut u32, *mut u32, *mut u32) -> u32) -> f64 {
+    let (mut value, mut count, mut road, mut rescalings) = (0.0, 0, 0, 0);
+    call(&mut value, &mut count, &mut road, &mut rescalings);
     value
 }
 
 fn rc() -> Vec<Row> {
-    let ours = symbols::RC.map(|f| move |[x, y]: [f64; 2]| value(|v, n| unsafe { f(x, y, v, n) }));
+    let ours = symbols::RC.map(|f| move |[x, y]: [f64; 2]| value(|v, n, r, s| unsafe { f(x, y, v, n, r, s) }));
     let row = |name, inputs| Row::new(name, inputs, ours, |[x, y]| elliprc(x, y).unwrap_or(0.0));
     vec![
         row("RC", many(|r| [moderate(r), moderate(r)])),
@@ -54,7 +54,7 @@ fn of_three(
 }
 
 fn rj() -> Vec<Row> {
-    let ours = symbols::RJ.map(|f| move |[x, y, z, p]: [f64; 4]| value(|v, n| unsafe { f(x, y, z, p, v, n) }));
+    let ours = symbols::RJ.map(|f| move |[x, y, z, p]: [f64; 4]| value(|v, n, r, s| unsafe { f(x, y, z, p, v, n, r, s) }));
     let row = |name, inputs| Row::new(name, inputs, ours, |[x, y, z, p]| elliprj(x, y, z, p).unwrap_or(0.0));
     vec![
         row("RJ", many(|r| [moderate(r), moderate(r), moderate(r), moderate(r)])),

@@ -13,7 +13,7 @@ import sys
 import unittest
 
 import gatewren
-from gatewren import Refusal, Refused, Value, rc, rd, rf, rg, rj
+from gatewren import Refusal, Refused, Road, Value, rc, rd, rf, rg, rj
 
 INF, NAN = math.inf, math.nan
 
@@ -24,14 +24,14 @@ def of_bits(bits):
 
 class Examples(unittest.TestCase):
     def test_the_sixteen_settled(self):
-        def value(bits):
-            return Value(of_bits(bits), 0)
+        def value(bits, road=Road.CLOSED):
+            return Value(of_bits(bits), 0, road, 0)
 
         settled = [
             (rf(4, 4, 4), value(0x3FE0000000000000)),
             (rf(4, 0, 4), value(0x3FE921FB54442D18)),
             (rf(INF, 0, 0), Refused(3)),
-            (rf(INF, 0, 1), value(0)),
+            (rf(INF, 0, 1), value(0, Road.INFINITE)),
             (rf(NAN, -1, 1), Refused(1)),
             (rc(0, -4), value(0)),
             (rc(NAN, 0), Refused(4)),
@@ -42,7 +42,7 @@ class Examples(unittest.TestCase):
             (rg(0, 0, 4), value(0x3FF0000000000000)),
             (rg(INF, 0, 0), Refused(8)),
             (rj(4, 4, 4, 4), value(0x3FC0000000000000)),
-            (rj(3, 2, 2, -1), value(0)),
+            (rj(3, 2, 2, -1), value(0, Road.TAYLOR)),
             (rj(1, 1, 1, -INF), Refused(6)),
         ]
         for came_out, wanted in settled:
@@ -62,7 +62,24 @@ class Examples(unittest.TestCase):
         self.assertEqual(rd(1e-308, 1e-308, 1e-308), Refused(Refusal.NO_RESULT))
 
     def test_rounds_are_counted(self):
-        self.assertEqual(rf(1, 0.5, 0.25), Value(of_bits(0x3FF5EC39172C9C25), 4))
+        self.assertEqual(rf(1, 0.5, 0.25), Value(of_bits(0x3FF5EC39172C9C25), 4, Road.DUPLICATION, 0))
+
+    def test_roads_and_rescalings(self):
+        thirteen = of_bits(13)
+        bits = (0x7FE555555562B9D6, 0x7FE5555555555559, 0x7FEFFFFFFFFFFFFF, 0xFFD5555555555559)
+        told = [
+            (rc(1, INF), Road.CLOSED, 0),
+            (rf(1e300, 2e300, 3e300), Road.DUPLICATION, 1),
+            (rf(0, 1, 2), Road.AGM, 0),
+            (rd(0, 1, 2), Road.AGM, 0),
+            (rg(1, 0.5, 0.25), Road.JOINT, 0),
+            (rj(1, 2, 3, -4), Road.REDUCTION, 0),
+            (rj(0, thirteen, thirteen, of_bits(0x37E0000000000000)), Road.CLOSED, 2),
+            (rj(*map(of_bits, bits)), Road.TAYLOR, 1),
+            (gatewren.swing(250_000, 50_000, 9_806_650), Road.AGM, 0),
+        ]
+        for answer, road, rescalings in told:
+            self.assertEqual((answer.road, answer.rescalings), (road, rescalings))
 
     def test_no_10(self):
         tiny = of_bits(1)
@@ -184,7 +201,7 @@ class Answers(unittest.TestCase):
         self.assertEqual(rf(-1, 1, 1), Refused(2))
         self.assertNotEqual(rf(-1, 1, 1), Refused(1))
         self.assertNotEqual(rf(4, 4, 4), Refused(1))
-        self.assertNotEqual(Value(0.0, 0), Value(-0.0, 0))
+        self.assertNotEqual(Value(0.0, 0, Road.CLOSED, 0), Value(-0.0, 0, Road.CLOSED, 0))
         self.assertEqual(len({rf(4, 4, 4), rf(4, 4, 4), Refused(1)}), 2)
         with self.assertRaises(TypeError):
             rf(4, 4, 4) == 0.5
@@ -210,12 +227,12 @@ class Interface(unittest.TestCase):
     ENTRIES = [("rc", (-1.0, 1.0)), ("rf", (-1.0, 1.0, 1.0)), ("rd", (-1.0, 1.0, 1.0)), ("rg", (-1.0, 1.0, 1.0))]
     ENTRIES.append(("rj", (-1.0, 1.0, 1.0, 1.0)))
 
-    def test_a_refusal_touches_neither_place(self):
+    def test_a_refusal_touches_no_place(self):
         for name, arguments in self.ENTRIES:
-            value, rounds = ctypes.c_double(-77.5), ctypes.c_uint32(4242)
+            places = (ctypes.c_double(-77.5), ctypes.c_uint32(4242), ctypes.c_uint32(4243), ctypes.c_uint32(4244))
             symbol = getattr(gatewren._LIBRARY, f"gatewren_{name}")
-            self.assertEqual(symbol(*arguments, ctypes.byref(value), ctypes.byref(rounds)), 2)
-            self.assertEqual((value.value, rounds.value), (-77.5, 4242))
+            self.assertEqual(symbol(*arguments, *map(ctypes.byref, places)), 2)
+            self.assertEqual(tuple(place.value for place in places), (-77.5, 4242, 4243, 4244))
 
     def test_the_header_names_every_function_that_is_called(self):
         header = pathlib.Path(__file__).resolve().parents[2] / "include" / "gatewren.h"

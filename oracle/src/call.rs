@@ -111,10 +111,13 @@ fn parse_bits(word: &str) -> Option<f64> {
     well_formed.then(|| f64::from_bits(u64::from_str_radix(word, 16).expect("hexadecimal")))
 }
 
-/// `3FE0000000000000 0` or `refused 3`.
+/// `3FE0000000000000 0 closed 0` or `refused 3`.
 pub fn shown(answer: Answer) -> String {
     match answer {
-        Answer::Value(bits, count) => format!("{bits:016X} {count}"),
+        Answer::Value(bits, way) => {
+            let road = format!("{:?}", way.road).to_lowercase();
+            format!("{bits:016X} {} {road} {}", way.rounds, way.rescalings)
+        }
         Answer::Refused(number) => format!("refused {number}"),
     }
 }

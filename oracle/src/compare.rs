@@ -139,7 +139,7 @@ impl Row {
     }
 }
 
-const NOTES: &str = "differ: answers of libgatewren.a that are not the oracle's, in value, count or number.
+const NOTES: &str = "differ: answers of libgatewren.a that are not the oracle's, in value, count, road, rescalings or number.
 untouched: how many values of the untouched crate (for a leaf, of the standard library, which it calls) are other bits, and how
 many units apart they are at most, in the unit of document 01's value. Near RJ's zero parts of about equal size are taken from
 one another, so that the unit is small and the error is not: those calls are left out of the column and stand below.
@@ -163,6 +163,10 @@ fn print(rows: &[Row], tallies: &[Tally]) {
             println!("{:<10}near its zero {}", "", largest(&it.largest_near_zero, row.arity()));
         }
     }
+    println!("\nValues by road and rescalings:");
+    for (row, tally) in rows.iter().zip(tallies).filter(|(_, tally)| !tally.roads.is_empty()) {
+        println!("{:<10}{}", row.name(), roads(tally));
+    }
     println!("\nWhat RJ's calls have met:");
     for (row, tally) in rows.iter().zip(tallies).filter(|(_, tally)| !tally.aims.is_empty()) {
         let met: Vec<String> = tally.aims.iter().map(|(aim, times)| format!("{aim} {times}")).collect();
@@ -182,6 +186,21 @@ fn refusals(tally: &Tally) -> String {
     } else {
         all.join(", ")
     }
+}
+
+/// `agm 0: 12, 1: 3; joint 0: 7`: each road's values by their rescalings.
+fn roads(tally: &Tally) -> String {
+    let mut out = String::new();
+    let mut last = None;
+    for ((road, rescalings), times) in &tally.roads {
+        match last.replace(*road) {
+            Some(before) if before == *road => out += ", ",
+            Some(_) => out += &format!("; {road:?} "),
+            None => out += &format!("{road:?} "),
+        }
+        out += &format!("{rescalings}: {times}");
+    }
+    out.to_lowercase()
 }
 
 fn largest(it: &Largest, arity: usize) -> String {

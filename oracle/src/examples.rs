@@ -1,7 +1,7 @@
 //! `examples`: document 01's sixteen settled examples and the printed ones, by both builds.
 
 use crate::call::{shown, Call, Entry};
-use doc01::Answer;
+use doc01::{Answer, Way};
 
 #[derive(Clone, Copy)]
 pub enum Stated {
@@ -60,7 +60,7 @@ fn shown_example(entry: Entry, args: &[f64], stated: Stated, settled: bool) -> b
     let call = Call::new(entry, args);
     let answer = call.judged().answer;
     let untouched = call.untouched();
-    let counted = !settled || !matches!(answer, Answer::Value(_, 1..));
+    let counted = !settled || !matches!(answer, Answer::Value(_, Way { rounds: 1.., .. }));
     let ruled = match answer {
         Answer::Value(bits, _) => Ok(f64::from_bits(bits)),
         Answer::Refused(number) => Err(number),

@@ -44,6 +44,9 @@ fn stated() -> Vec<Call> {
         "RJ 3FF0000000000000 4000000000000000 4008000000000000 4C00000000000000",
         // `atan` of +infinity in a call that has a value.
         "RC 000000000000000C 3FD0000000000000",
+        // Closed with two rescalings, those of its RC; and the expansion after one.
+        "RJ 0000000000000000 000000000000000D 000000000000000D 37E0000000000000",
+        "RJ 7FE555555562B9D6 7FE5555555555559 7FEFFFFFFFFFFFFF FFD5555555555559",
     ];
     calls.extend(found.iter().map(|line| Call::parse(line).expect("a call")));
     calls

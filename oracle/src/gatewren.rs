@@ -2,22 +2,44 @@
 
 use crate::call::{Call, Entry};
 use crate::symbols;
-use doc01::Answer;
+use doc01::{Answer, Road, Way};
 
-/// Nothing where the entry is not linked.
+/// Nothing where the entry is not linked, or where a refusal touched a place.
 pub fn answer(call: &Call) -> Option<Answer> {
-    let (mut value, mut count) = (0.0, 0);
-    // The functions read numbers and write through two pointers, which live for the call.
-    let number = match (call.entry, call.args()) {
-        (Entry::RC, &[x, y]) => unsafe { symbols::RC?(x, y, &mut value, &mut count) },
-        (Entry::RF, &[x, y, z]) => unsafe { symbols::RF?(x, y, z, &mut value, &mut count) },
-        (Entry::RD, &[x, y, z]) => unsafe { symbols::RD?(x, y, z, &mut value, &mut count) },
-        (Entry::RG, &[x, y, z]) => unsafe { symbols::RG?(x, y, z, &mut value, &mut count) },
-        (Entry::RJ, &[x, y, z, p]) => unsafe { symbols::RJ?(x, y, z, p, &mut value, &mut count) },
+    // The functions read numbers and write through four pointers, which live for the call.
+    match (call.entry, call.args()) {
+        (Entry::RC, &[x, y]) => {
+            let rc = symbols::RC?;
+            told(|v, n, r, s| unsafe { rc(x, y, v, n, r, s) })
+        }
+        (Entry::RJ, &[x, y, z, p]) => {
+            let rj = symbols::RJ?;
+            told(|v, n, r, s| unsafe { rj(x, y, z, p, v, n, r, s) })
+        }
+        (entry, &[x, y, z]) => {
+            let three = match entry {
+                Entry::RF => symbols::RF?,
+                Entry::RD => symbols::RD?,
+                _ => symbols::RG?,
+            };
+            told(|v, n, r, s| unsafe { three(x, y, z, v, n, r, s) })
+        }
         _ => unreachable!("a call has its entry's number of arguments"),
-    };
-    Some(match number {
-        0 => Answer::Value(value.to_bits(), count),
-        number => Answer::Refused(number),
-    })
+    }
+}
+
+/// What a function with four places answers; nothing where a refusal touched one of them, or the road is none.
+pub fn told(ask: impl FnOnce(*mut f64, *mut u32, *mut u32, *mut u32) -> u32) -> Option<Answer> {
+    const MARK: (u64, u32, u32, u32) = (0xFFF8_0000_0000_1234, 77, 78, 79);
+    let (mut value, mut rounds, mut road, mut rescalings) = (f64::from_bits(MARK.0), MARK.1, MARK.2, MARK.3);
+    match ask(&mut value, &mut rounds, &mut road, &mut rescalings) {
+        0 => Some(Answer::Value(value.to_bits(), Way { rounds, road: numbered(road)?, rescalings })),
+        number => ((value.to_bits(), rounds, road, rescalings) == MARK).then_some(Answer::Refused(number)),
+    }
+}
+
+/// The header's numbers.
+fn numbered(road: u32) -> Option<Road> {
+    use Road::*;
+    [Closed, Infinite, Agm, Duplication, Joint, Taylor, Reduction].get((road as usize).checked_sub(1)?).copied()
 }

@@ -96,7 +96,7 @@ fn numbers(line: &[u8]) -> Option<Vec<u64>> {
 }
 
 fn listing(input: &[u8]) -> String {
-    let mut text = "carlson 1\n".to_string();
+    let mut text = "carlson 2\n".to_string();
     for line in lines(input) {
         text += &match call(line) {
             Some(call) => format!("{:?} {}\n", call.entry, shown(call.judged().answer)),
@@ -158,19 +158,19 @@ mod tests {
     #[test]
     fn what_a_line_is() {
         let listed = |input: &[u8]| said(Program::Listing, input);
-        assert_eq!(listed(b""), "carlson 1\n");
-        assert_eq!(listed(b"\n"), "carlson 1\nbad line\n");
-        assert_eq!(listed(b"x"), "carlson 1\nbad line\n");
-        assert_eq!(listed(b"x\n"), "carlson 1\nbad line\n");
-        assert_eq!(listed(b"x\n\n"), "carlson 1\nbad line\nbad line\n");
+        assert_eq!(listed(b""), "carlson 2\n");
+        assert_eq!(listed(b"\n"), "carlson 2\nbad line\n");
+        assert_eq!(listed(b"x"), "carlson 2\nbad line\n");
+        assert_eq!(listed(b"x\n"), "carlson 2\nbad line\n");
+        assert_eq!(listed(b"x\n\n"), "carlson 2\nbad line\nbad line\n");
         let four = "4010000000000000";
         let call = format!("RF {four} {four} {four}");
-        let answer = "carlson 1\nRF 3FE0000000000000 0\n";
+        let answer = "carlson 2\nRF 3FE0000000000000 0 closed 0\n";
         assert_eq!(listed(call.as_bytes()), answer);
         assert_eq!(listed(format!("{call}\n").as_bytes()), answer);
         for bad in [format!("{call} "), format!("{call}\r"), format!(" {call}"), call.replace(' ', "  "), call.replace('R', "r")]
         {
-            assert_eq!(listed(bad.as_bytes()), "carlson 1\nbad line\n");
+            assert_eq!(listed(bad.as_bytes()), "carlson 2\nbad line\n");
         }
     }
 

@@ -3,11 +3,11 @@
 
 use crate::call::{shown, Call, Entry};
 use crate::families;
-use doc01::{Answer, Judged};
+use doc01::{Answer, Judged, Road};
 use std::collections::{BTreeMap, HashSet};
 use std::path::PathBuf;
 
-const HEADER: &str = "gatewren calls 1";
+const HEADER: &str = "gatewren calls 2";
 
 fn path() -> PathBuf {
     PathBuf::from(env!("CARGO_MANIFEST_DIR")).join("../crates/replay/stdin")
@@ -64,6 +64,7 @@ pub fn check() -> bool {
 fn summary(text: &str) {
     for entry in Entry::ALL {
         let mut answers: BTreeMap<String, usize> = BTreeMap::new();
+        let mut roads: BTreeMap<(Road, u32), usize> = BTreeMap::new();
         let (mut series, mut most, mut deepest) = (0, 0, 0);
         for line in text.lines().skip(1) {
             let call = Call::parse(line.split(" = ").next().expect("a row")).expect("a call");
@@ -78,10 +79,12 @@ fn summary(text: &str) {
             *answers.entry(kind).or_default() += 1;
             series += usize::from(judged.series);
             deepest = deepest.max(judged.depth);
-            if let Answer::Value(_, count) = judged.answer {
-                most = most.max(count);
+            if let Answer::Value(_, way) = judged.answer {
+                most = most.max(way.rounds);
+                *roads.entry((way.road, way.rescalings)).or_default() += 1;
             }
         }
         println!("{entry:?}: {answers:?}, {series} through the series, most rounds {most}, deepest RJ {deepest}");
+        println!("    by road and rescalings: {roads:?}");
     }
 }

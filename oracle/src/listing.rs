@@ -9,7 +9,7 @@ pub fn run() -> bool {
 
 fn listed() -> io::Result<()> {
     let mut out = io::BufWriter::new(io::stdout().lock());
-    writeln!(out, "carlson 1")?;
+    writeln!(out, "carlson 2")?;
     for line in io::stdin().lock().lines() {
         match Call::parse(&line?) {
             Some(call) => writeln!(out, "{:?} {}", call.entry, shown(call.judged().answer))?,

@@ -1,5 +1,5 @@
 //! `units`: demand 3 run. Pairs of calls of the proved library, the second with every argument times 4^k: both are refused
-//! alike, or have one count and the second value is exactly the first times a power of two.
+//! alike, or have one count, one road and as many rescalings, and the second value is exactly the first times a power of two.
 
 use crate::call::{shown, Call, Entry};
 use crate::gatewren;
@@ -38,7 +38,7 @@ fn times(value: u64, by: i64) -> Option<u64> {
 fn alike(entry: Entry, k: i64, first: Answer, second: Answer) -> bool {
     match (first, second) {
         (Answer::Refused(one), Answer::Refused(other)) => one == other,
-        (Answer::Value(v, rounds), Answer::Value(w, again)) => rounds == again && times(v, weight(entry) * k) == Some(w),
+        (Answer::Value(v, way), Answer::Value(w, again)) => way == again && times(v, weight(entry) * k) == Some(w),
         _ => false,
     }
 }
@@ -68,10 +68,10 @@ impl Tally {
         self.pairs += 1;
         self.furthest = self.furthest.max(k.abs());
         match first {
-            Answer::Value(bits, count) => {
+            Answer::Value(bits, way) => {
                 self.values += 1;
                 self.zeros += u64::from(bits << 1 == 0);
-                self.rounds = self.rounds.max(count);
+                self.rounds = self.rounds.max(way.rounds);
             }
             Answer::Refused(number) => *self.refusals.entry(number).or_default() += 1,
         }
@@ -131,6 +131,7 @@ fn pair(random: &mut Random, entry: Entry) -> (Call, i64) {
 #[cfg(test)]
 mod tests {
     use super::*;
+    use doc01::{Road, Way};
 
     #[test]
     fn times_powers() {
@@ -144,13 +145,16 @@ mod tests {
 
     #[test]
     fn alike_is_strict() {
-        let value = |v: f64, count| Answer::Value(v.to_bits(), count);
+        let by = |road, rescalings, v: f64, rounds| Answer::Value(v.to_bits(), Way { rounds, road, rescalings });
+        let value = |v, rounds| by(Road::Duplication, 0, v, rounds);
         assert!(alike(Entry::RD, 1, value(8.0, 4), value(1.0, 4)));
         assert!(alike(Entry::RG, 1, value(8.0, 4), value(16.0, 4)));
         assert!(!alike(Entry::RF, 1, value(8.0, 4), value(1.0, 4)));
         assert!(!alike(Entry::RD, 1, value(8.0, 4), value(1.0, 5)));
         assert!(!alike(Entry::RD, 1, value(8.0, 4), value(1.0 + f64::EPSILON, 4)));
         assert!(!alike(Entry::RC, 1, value(0.0, 0), value(-0.0, 0)));
+        assert!(!alike(Entry::RD, 1, value(8.0, 4), by(Road::Agm, 0, 1.0, 4)));
+        assert!(!alike(Entry::RD, 1, value(8.0, 4), by(Road::Duplication, 1, 1.0, 4)));
         assert!(alike(Entry::RC, 1, Answer::Refused(2), Answer::Refused(2)));
         assert!(!alike(Entry::RC, 1, Answer::Refused(2), Answer::Refused(4)));
         assert!(!alike(Entry::RC, 1, value(1.0, 0), Answer::Refused(4)));

@@ -1,6 +1,7 @@
 //! `swing`: document 02's request 2026-01 by its own whole-number and float steps, RF by document 01's judge, against the
 //! library: periods by chance and at every border, then step logs.
 
+use crate::gatewren::told;
 use crate::random::Random;
 use crate::symbols;
 use doc01::Answer;
@@ -40,21 +41,16 @@ pub fn judged((length, height, gravity): (u64, u64, u64)) -> Answer {
     }
     let root = (length as f64 / gravity as f64).sqrt();
     match doc01::rf(0.0, (twice - height) as f64 / twice as f64, 1.0).answer {
-        Answer::Value(bits, count) => Answer::Value((4.0 * root * f64::from_bits(bits)).to_bits(), count),
+        Answer::Value(bits, way) => Answer::Value((4.0 * root * f64::from_bits(bits)).to_bits(), way),
         refused => refused,
     }
 }
 
-/// The library's answer; nothing where a refusal touched the value's place or the rounds'.
+/// The library's answer; nothing where a refusal touched a place.
 fn answered((length, height, gravity): (u64, u64, u64)) -> Option<Answer> {
-    const MARK: (u64, u32) = (0xFFF8_0000_0000_1234, 77);
-    let (mut value, mut rounds) = (f64::from_bits(MARK.0), MARK.1);
-    // The function reads numbers and writes through two pointers, which live for the call.
-    let number = unsafe { symbols::SWING?(length, height, gravity, &mut value, &mut rounds) };
-    match number {
-        0 => Some(Answer::Value(value.to_bits(), rounds)),
-        number => ((value.to_bits(), rounds) == MARK).then_some(Answer::Refused(number)),
-    }
+    // The function reads numbers and writes through four pointers, which live for the call.
+    let swing = symbols::SWING?;
+    told(|value, rounds, road, rescalings| unsafe { swing(length, height, gravity, value, rounds, road, rescalings) })
 }
 
 #[derive(Default)]
@@ -71,9 +67,9 @@ impl Tally {
         let answer = judged(triple);
         self.calls += 1;
         match answer {
-            Answer::Value(_, count) => {
+            Answer::Value(_, way) => {
                 self.values += 1;
-                self.rounds = self.rounds.max(count);
+                self.rounds = self.rounds.max(way.rounds);
             }
             Answer::Refused(number) => *self.refusals.entry(number).or_default() += 1,
         }

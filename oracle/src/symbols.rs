@@ -27,18 +27,18 @@ linked! {
     "lib-series" LN_1P = gatewren_ln_1p(f64) -> f64;
 }
 
-// The entries: 0 with the value and its count written, or a number for no.
+// The entries: 0 with the value, its count, its road and its rescalings written, or a number for no.
 linked! {
-    "lib-rc-rf" RC = gatewren_rc(f64, f64, *mut f64, *mut u32) -> u32;
-    "lib-rc-rf" RF = gatewren_rf(f64, f64, f64, *mut f64, *mut u32) -> u32;
-    "lib-rd-rg" RD = gatewren_rd(f64, f64, f64, *mut f64, *mut u32) -> u32;
-    "lib-rd-rg" RG = gatewren_rg(f64, f64, f64, *mut f64, *mut u32) -> u32;
-    "lib-rj" RJ = gatewren_rj(f64, f64, f64, f64, *mut f64, *mut u32) -> u32;
+    "lib-rc-rf" RC = gatewren_rc(f64, f64, *mut f64, *mut u32, *mut u32, *mut u32) -> u32;
+    "lib-rc-rf" RF = gatewren_rf(f64, f64, f64, *mut f64, *mut u32, *mut u32, *mut u32) -> u32;
+    "lib-rd-rg" RD = gatewren_rd(f64, f64, f64, *mut f64, *mut u32, *mut u32, *mut u32) -> u32;
+    "lib-rd-rg" RG = gatewren_rg(f64, f64, f64, *mut f64, *mut u32, *mut u32, *mut u32) -> u32;
+    "lib-rj" RJ = gatewren_rj(f64, f64, f64, f64, *mut f64, *mut u32, *mut u32, *mut u32) -> u32;
 }
 
 // Request 2026-01: likewise; a log's readings go as a pointer and a length.
 linked! {
-    "lib-swing" SWING = gatewren_swing(u64, u64, u64, *mut f64, *mut u32) -> u32;
+    "lib-swing" SWING = gatewren_swing(u64, u64, u64, *mut f64, *mut u32, *mut u32, *mut u32) -> u32;
     "lib-swing" STEPS = gatewren_steps(*mut u64, *const u16, usize) -> u32;
 }
 

@@ -5,7 +5,7 @@ use crate::call::Call;
 use crate::gatewren;
 use crate::leaf::{Args, Leaf};
 use crate::units::distance;
-use doc01::{Answer, Judged};
+use doc01::{Answer, Judged, Road};
 use std::collections::BTreeMap;
 
 /// A call's arguments as bits; those beyond the function's number are zero.
@@ -17,6 +17,8 @@ pub struct Tally {
     pub values: u64,
     pub refusals: BTreeMap<u32, u64>,
     pub rounds: u32,
+    /// How many values each road gave, by their rescalings.
+    pub roads: BTreeMap<(Road, u32), u64>,
     pub library: Library,
     pub untouched: Units,
     /// How many of RJ's calls met which aim.
@@ -76,9 +78,10 @@ impl Tally {
         let judged = call.judged();
         self.calls += 1;
         match judged.answer {
-            Answer::Value(_, count) => {
+            Answer::Value(_, way) => {
                 self.values += 1;
-                self.rounds = self.rounds.max(count);
+                self.rounds = self.rounds.max(way.rounds);
+                *self.roads.entry((way.road, way.rescalings)).or_default() += 1;
             }
             Answer::Refused(number) => *self.refusals.entry(number).or_default() += 1,
         }
@@ -111,6 +114,9 @@ impl Tally {
         self.rounds = self.rounds.max(other.rounds);
         for (number, times) in other.refusals {
             *self.refusals.entry(number).or_default() += times;
+        }
+        for (road, times) in other.roads {
+            *self.roads.entry(road).or_default() += times;
         }
         for (aim, times) in other.aims {
             *self.aims.entry(aim).or_default() += times;

@@ -5,7 +5,7 @@ What is called is the proved library as a shared object, which `./gatewren share
 GATEWREN_SO may name another place.
 
     >>> rf(4, 4, 4)
-    Value(value=0.5, rounds=0)
+    Value(value=0.5, rounds=0, road=Road.CLOSED, rescalings=0)
     >>> rd(0, 0, 1)
     Refused(Refusal.ZEROS)
     >>> float(rf(4, 4, 4))
@@ -25,10 +25,10 @@ import pathlib
 from collections.abc import Callable, Iterable
 from typing import NamedTuple, NoReturn, SupportsFloat, SupportsIndex
 
-__all__ = ["Refusal", "Answer", "Value", "Total", "Refused", "rc", "rf", "rd", "rg", "rj"]
+__all__ = ["Refusal", "Road", "Answer", "Value", "Total", "Refused", "rc", "rf", "rd", "rg", "rj"]
 __all__ += ["Job", "ReadList", "read_list", "write_list", "swing", "steps", "sqrt", "mul_add", "pow_neg_3_2", "atan", "ln", "ln_1p"]
 
-__version__ = "0.2.0"
+__version__ = "0.3.0"
 
 
 class Refusal(enum.Enum):
@@ -51,6 +51,21 @@ class Refusal(enum.Enum):
     NUMBER_BAD = 15  # a work list has a number over 64 bits or not in its shortest form
     UNKNOWN_FUNCTION = 16  # a job's function is none of those that work lists know
     NO_ROOM = 17  # a job is longer than what is left of the buffer
+
+
+class Road(enum.Enum):
+    """Which formula gave a value. A call that rescales, or hands its whole answer to another function, has that one's road."""
+
+    CLOSED = 1  # a formula
+    INFINITE = 2  # the rule for an infinite argument gave the zero
+    AGM = 3  # the arithmetic-geometric mean
+    DUPLICATION = 4
+    JOINT = 5  # RG's duplication of RF and RD in one loop
+    TAYLOR = 6  # the expansion near RJ's zero
+    REDUCTION = 7  # the reduction of RJ with p below zero
+
+    def __repr__(self) -> str:
+        return f"Road.{self.name}"
 
 
 class Answer:
@@ -77,25 +92,29 @@ class Answer:
 
 
 class Value(Answer):
-    """A finite value, and the number of rounds that were gone through."""
+    """A finite value, with the rounds gone through, the road and the rescalings, over the call and all it calls."""
 
-    __slots__ = ("value", "rounds")
-    __match_args__ = ("value", "rounds")
+    __slots__ = ("value", "rounds", "road", "rescalings")
+    __match_args__ = ("value", "rounds", "road", "rescalings")
     value: float
     rounds: int
+    road: Road
+    rescalings: int
 
-    def __init__(self, value: float, rounds: int) -> None:
+    def __init__(self, value: float, rounds: int, road: Road | int, rescalings: int) -> None:
         object.__setattr__(self, "value", value)
         object.__setattr__(self, "rounds", rounds)
+        object.__setattr__(self, "road", Road(road))
+        object.__setattr__(self, "rescalings", rescalings)
 
     def _parts(self) -> tuple[object, ...]:
-        return (self.value.hex(), self.rounds)
+        return (self.value.hex(), self.rounds, self.road, self.rescalings)
 
     def __float__(self) -> float:
         return self.value
 
     def __repr__(self) -> str:
-        return f"Value(value={self.value!r}, rounds={self.rounds!r})"
+        return f"Value(value={self.value!r}, rounds={self.rounds!r}, road={self.road!r}, rescalings={self.rescalings!r})"
 
 
 class Total(Answer):
@@ -153,7 +172,7 @@ def _load() -> ctypes.CDLL:
 
 _LIBRARY = _load()
 _DOUBLE = ctypes.c_double
-_PLACES = [ctypes.POINTER(ctypes.c_double), ctypes.POINTER(ctypes.c_uint32)]
+_PLACES = [ctypes.POINTER(ctypes.c_double)] + [ctypes.POINTER(ctypes.c_uint32)] * 3
 
 
 def _symbol(name: str, arguments: list[object], result: object) -> Callable[..., int | float]:
@@ -166,9 +185,9 @@ def _entry(name: str, arguments: list[object]) -> Callable[..., Value | Refused]
     symbol = _symbol(name, arguments + _PLACES, ctypes.c_uint32)
 
     def answer(*numbers: object) -> Value | Refused:
-        value, rounds = ctypes.c_double(), ctypes.c_uint32()
-        number = symbol(*numbers, ctypes.byref(value), ctypes.byref(rounds))
-        return Value(value.value, rounds.value) if number == 0 else Refused(number)
+        places = (ctypes.c_double(), ctypes.c_uint32(), ctypes.c_uint32(), ctypes.c_uint32())
+        number = symbol(*numbers, *map(ctypes.byref, places))
+        return Value(*(place.value for place in places)) if number == 0 else Refused(number)
 
     return answer
 
@@ -209,7 +228,7 @@ def rc(x: SupportsFloat, y: SupportsFloat) -> Value | Refused:
     """RC(x, y); for y below zero its Cauchy principal value.
 
     >>> rc(0, 1)
-    Value(value=1.5707963267948966, rounds=0)
+    Value(value=1.5707963267948966, rounds=0, road=Road.CLOSED, rescalings=0)
     >>> rc(1, 0)
     Refused(Refusal.ZERO_GIVEN)
     """
@@ -220,7 +239,7 @@ def rf(x: SupportsFloat, y: SupportsFloat, z: SupportsFloat) -> Value | Refused:
     """RF(x, y, z).
 
     >>> rf(1, 0.5, 0.25)
-    Value(value=1.370171633266872, rounds=4)
+    Value(value=1.370171633266872, rounds=4, road=Road.DUPLICATION, rescalings=0)
     >>> rf(-1, 0.5, 0.25)
     Refused(Refusal.BELOW_ZERO)
     """
@@ -231,7 +250,7 @@ def rd(x: SupportsFloat, y: SupportsFloat, z: SupportsFloat) -> Value | Refused:
     """RD(x, y, z).
 
     >>> rd(4, 4, 4)
-    Value(value=0.125, rounds=0)
+    Value(value=0.125, rounds=0, road=Road.CLOSED, rescalings=0)
     >>> rd(1, 0.5, 0)
     Refused(Refusal.Z_NOT_ABOVE)
     """
@@ -242,7 +261,7 @@ def rg(x: SupportsFloat, y: SupportsFloat, z: SupportsFloat) -> Value | Refused:
     """RG(x, y, z).
 
     >>> rg(0, 0, 4)
-    Value(value=1.0, rounds=0)
+    Value(value=1.0, rounds=0, road=Road.CLOSED, rescalings=0)
     """
     return _RG(_DOUBLE(x), _DOUBLE(y), _DOUBLE(z))
 
@@ -251,9 +270,9 @@ def rj(x: SupportsFloat, y: SupportsFloat, z: SupportsFloat, p: SupportsFloat) -
     """RJ(x, y, z, p); for p below zero its Cauchy principal value.
 
     >>> rj(4, 4, 4, 4)
-    Value(value=0.125, rounds=0)
+    Value(value=0.125, rounds=0, road=Road.CLOSED, rescalings=0)
     >>> rj(3, 2, 2, -1)
-    Value(value=0.0, rounds=0)
+    Value(value=0.0, rounds=0, road=Road.TAYLOR, rescalings=0)
     """
     return _RJ(_DOUBLE(x), _DOUBLE(y), _DOUBLE(z), _DOUBLE(p))
 
@@ -265,7 +284,7 @@ def swing(length: SupportsIndex, height: SupportsIndex, gravity: SupportsIndex) 
     """The period of an ideal swing in seconds, from whole micrometres and micrometres per second squared.
 
     >>> swing(250_000, 50_000, 9_806_650)
-    Value(value=1.0298016523976394, rounds=3)
+    Value(value=1.0298016523976394, rounds=3, road=Road.AGM, rescalings=0)
     >>> swing(250_000, 500_000, 9_806_650)
     Refused(Refusal.HEIGHT)
     """

@@ -2,12 +2,56 @@
 
 use std::fmt;
 
-/// A finite value with the rounds gone through, or the reason for no: there is no third case, and none is both.
+/// A finite value with its way, or the reason for no: there is no third case, and none is both. The way is which formula
+/// answered, and over the call and all it calls the rounds gone through and how often arguments were rescaled.
 #[derive(Clone, Copy, Debug, PartialEq)]
 #[must_use]
 pub enum Answer {
-    Value { value: f64, rounds: u32 },
+    Value { value: f64, rounds: u32, road: Road, rescalings: u32 },
     Refused(Refusal),
+}
+
+/// Which formula gave a value. A call that rescales, or hands its whole answer to another function, has that one's road.
+#[derive(Clone, Copy, Debug, PartialEq, Eq, Hash)]
+pub enum Road {
+    /// A formula.
+    Closed = 1,
+    /// The rule for an infinite argument gave the zero.
+    Infinite,
+    /// The arithmetic-geometric mean.
+    Agm,
+    Duplication,
+    /// RG's duplication of RF and RD in one loop.
+    Joint,
+    /// The expansion near RJ's zero.
+    Taylor,
+    /// The reduction of RJ with p below zero.
+    Reduction,
+}
+
+impl Road {
+    const ALL: [Road; 7] =
+        [Road::Closed, Road::Infinite, Road::Agm, Road::Duplication, Road::Joint, Road::Taylor, Road::Reduction];
+
+    fn of(number: u32) -> Option<Road> {
+        Road::ALL.into_iter().find(|road| *road as u32 == number)
+    }
+}
+
+/// The listing's word.
+impl fmt::Display for Road {
+    fn fmt(&self, f: &mut fmt::Formatter) -> fmt::Result {
+        f.write_str(&format!("{self:?}").to_lowercase())
+    }
+}
+
+/// The places that the C interface writes to.
+#[derive(Default)]
+pub(crate) struct Places {
+    pub value: f64,
+    pub rounds: u32,
+    pub road: u32,
+    pub rescalings: u32,
 }
 
 impl Answer {
@@ -20,9 +64,13 @@ impl Answer {
     }
 
     /// From what the C interface returns and has written.
-    pub(crate) fn told(number: u32, value: f64, rounds: u32) -> Answer {
+    pub(crate) fn told(number: u32, places: Places) -> Answer {
+        let Places { value, rounds, road, rescalings } = places;
         match number {
-            0 => Answer::Value { value, rounds },
+            0 => {
+                let road = Road::of(road).expect("the contract of an entry names every road that it writes");
+                Answer::Value { value, rounds, road, rescalings }
+            }
             number => Answer::Refused(Refusal::of(number).expect("the contract of an entry names every number that it returns")),
         }
     }

@@ -1,14 +1,13 @@
 //! The knee bench: the ideal swing's time, and the step log.
 
 use crate::answer::{Answer, Refusal};
-use crate::entries::told;
+use crate::entries::{entry, told};
 use crate::symbols;
 
-/// The period of an ideal swing in seconds, from whole micrometres and micrometres per second squared: the equivalent length, the
-/// release height above the low point, gravity.
-pub fn swing(length: u64, height: u64, gravity: u64) -> Answer {
-    // It reads numbers and writes at most through the two references.
-    told(|value, rounds| unsafe { symbols::gatewren_swing(length, height, gravity, value, rounds) })
+entry! {
+    /// The period of an ideal swing in seconds, from whole micrometres and micrometres per second squared: the equivalent length,
+    /// the release height above the low point, gravity. Road, rounds and rescalings are RF's.
+    swing = gatewren_swing(length: u64, height: u64, gravity: u64)
 }
 
 /// The total with the steps between successive readings of a 16-bit counter added. Right if fewer than 65,536 steps lie between

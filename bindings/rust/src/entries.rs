@@ -1,38 +1,45 @@
 //! The five entries. Every argument is answered, whatever its bits.
 
-use crate::answer::Answer;
+use crate::answer::{Answer, Places};
 use crate::symbols;
 
 /// A call of the C interface with places of its own to write to.
-pub(crate) fn told(call: impl FnOnce(&mut f64, &mut u32) -> u32) -> Answer {
-    let (mut value, mut rounds) = (0.0, 0);
-    let number = call(&mut value, &mut rounds);
-    Answer::told(number, value, rounds)
+pub(crate) fn told(call: impl FnOnce(&mut Places) -> u32) -> Answer {
+    let mut places = Places::default();
+    let number = call(&mut places);
+    Answer::told(number, places)
 }
 
-// Each function reads numbers and writes at most through the two references, so that a call is safe.
-
-/// RC(x, y); for y below zero its Cauchy principal value.
-pub fn rc(x: f64, y: f64) -> Answer {
-    told(|value, rounds| unsafe { symbols::gatewren_rc(x, y, value, rounds) })
+// Each function reads numbers and writes at most through the four references, so that a call is safe.
+macro_rules! entry {
+    ($(#[$text:meta])* $name:ident = $symbol:ident($($argument:ident: $type:ty),*)) => {
+        $(#[$text])*
+        pub fn $name($($argument: $type),*) -> Answer {
+            told(|p| unsafe {
+                symbols::$symbol($($argument,)* &mut p.value, &mut p.rounds, &mut p.road, &mut p.rescalings)
+            })
+        }
+    };
 }
+pub(crate) use entry;
 
-/// RF(x, y, z).
-pub fn rf(x: f64, y: f64, z: f64) -> Answer {
-    told(|value, rounds| unsafe { symbols::gatewren_rf(x, y, z, value, rounds) })
+entry! {
+    /// RC(x, y); for y below zero its Cauchy principal value.
+    rc = gatewren_rc(x: f64, y: f64)
 }
-
-/// RD(x, y, z).
-pub fn rd(x: f64, y: f64, z: f64) -> Answer {
-    told(|value, rounds| unsafe { symbols::gatewren_rd(x, y, z, value, rounds) })
+entry! {
+    /// RF(x, y, z).
+    rf = gatewren_rf(x: f64, y: f64, z: f64)
 }
-
-/// RG(x, y, z).
-pub fn rg(x: f64, y: f64, z: f64) -> Answer {
-    told(|value, rounds| unsafe { symbols::gatewren_rg(x, y, z, value, rounds) })
+entry! {
+    /// RD(x, y, z).
+    rd = gatewren_rd(x: f64, y: f64, z: f64)
 }
-
-/// RJ(x, y, z, p); for p below zero its Cauchy principal value.
-pub fn rj(x: f64, y: f64, z: f64, p: f64) -> Answer {
-    told(|value, rounds| unsafe { symbols::gatewren_rj(x, y, z, p, value, rounds) })
+entry! {
+    /// RG(x, y, z).
+    rg = gatewren_rg(x: f64, y: f64, z: f64)
+}
+entry! {
+    /// RJ(x, y, z, p); for p below zero its Cauchy principal value.
+    rj = gatewren_rj(x: f64, y: f64, z: f64, p: f64)
 }

@@ -1,10 +1,11 @@
 //! Gatewren for Rust: Carlson's elliptic integrals [`rc`], [`rf`], [`rd`], [`rg`] and [`rj`], the [`leaf`] functions they
-//! stand on, the knee [`bench`]'s swing time and step log, and the packed [`WorkList`] of its controller. What is called is the proved library, libgatewren.a; here is only its dress.
+//! stand on, the knee [`bench`]'s swing time and step log, and the packed [`WorkList`] of its controller. What is called is the
+//! proved library, libgatewren.a; here is only its dress.
 //!
 //! ```
-//! use gatewren::{rf, Answer, Refusal};
+//! use gatewren::{rf, Answer, Refusal, Road};
 //!
-//! assert_eq!(rf(4.0, 4.0, 4.0), Answer::Value { value: 0.5, rounds: 0 });
+//! assert_eq!(rf(4.0, 4.0, 4.0), Answer::Value { value: 0.5, rounds: 0, road: Road::Closed, rescalings: 0 });
 //! assert_eq!(rf(f64::NAN, -1.0, 1.0), Answer::Refused(Refusal::NanGiven));
 //! ```
 
@@ -15,7 +16,7 @@ pub mod leaf;
 mod symbols;
 mod work_list;
 
-pub use answer::{Answer, Refusal};
+pub use answer::{Answer, Refusal, Road};
 pub use entries::{rc, rd, rf, rg, rj};
 pub use work_list::{Job, WorkList};
 

@@ -2,13 +2,20 @@
 
 use crate::work_list::Job;
 
+/// An entry: its own arguments, then the four places that it writes to unless it refuses.
+macro_rules! entry {
+    ($name:ident($($argument:ident: $type:ty),*)) => {
+        pub fn $name($($argument: $type,)* value: &mut f64, rounds: &mut u32, road: &mut u32, rescalings: &mut u32) -> u32;
+    };
+}
+
 extern "C" {
-    pub fn gatewren_rc(x: f64, y: f64, value: &mut f64, rounds: &mut u32) -> u32;
-    pub fn gatewren_rf(x: f64, y: f64, z: f64, value: &mut f64, rounds: &mut u32) -> u32;
-    pub fn gatewren_rd(x: f64, y: f64, z: f64, value: &mut f64, rounds: &mut u32) -> u32;
-    pub fn gatewren_rg(x: f64, y: f64, z: f64, value: &mut f64, rounds: &mut u32) -> u32;
-    pub fn gatewren_rj(x: f64, y: f64, z: f64, p: f64, value: &mut f64, rounds: &mut u32) -> u32;
-    pub fn gatewren_swing(length: u64, height: u64, gravity: u64, value: &mut f64, rounds: &mut u32) -> u32;
+    entry!(gatewren_rc(x: f64, y: f64));
+    entry!(gatewren_rf(x: f64, y: f64, z: f64));
+    entry!(gatewren_rd(x: f64, y: f64, z: f64));
+    entry!(gatewren_rg(x: f64, y: f64, z: f64));
+    entry!(gatewren_rj(x: f64, y: f64, z: f64, p: f64));
+    entry!(gatewren_swing(length: u64, height: u64, gravity: u64));
     pub fn gatewren_steps(total: &mut u64, readings: *const u16, n: usize) -> u32;
     pub fn gatewren_write_job(bytes: *mut u8, length: usize, place: &mut usize, job: &Job) -> u32;
     pub fn gatewren_read_job(bytes: *const u8, length: usize, place: &mut usize, job: &mut Job) -> u32;

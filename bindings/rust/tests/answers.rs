@@ -1,12 +1,16 @@
 //! Document 01's settled and printed examples, and the leaves at a few points, through the binding.
 
-use gatewren::{bench, leaf, rc, rd, rf, rg, rj, Answer, Job, Refusal, WorkList};
+use gatewren::{bench, leaf, rc, rd, rf, rg, rj, Answer, Job, Refusal, Road, WorkList};
 
 const INF: f64 = f64::INFINITY;
 const NAN: f64 = f64::NAN;
 
 fn value(bits: u64) -> Answer {
-    Answer::Value { value: f64::from_bits(bits), rounds: 0 }
+    by(Road::Closed, bits, 0, 0)
+}
+
+fn by(road: Road, bits: u64, rounds: u32, rescalings: u32) -> Answer {
+    Answer::Value { value: f64::from_bits(bits), rounds, road, rescalings }
 }
 
 /// To the bit and the sign of a zero, where == would take -0 for 0.
@@ -22,7 +26,7 @@ fn the_sixteen_settled_examples() {
     same(rf(4.0, 4.0, 4.0), value(0x3FE0_0000_0000_0000));
     same(rf(4.0, 0.0, 4.0), value(0x3FE9_21FB_5444_2D18));
     same(rf(INF, 0.0, 0.0), no(3));
-    same(rf(INF, 0.0, 1.0), value(0));
+    same(rf(INF, 0.0, 1.0), by(Road::Infinite, 0, 0, 0));
     same(rf(NAN, -1.0, 1.0), no(1));
     same(rc(0.0, -4.0), value(0));
     same(rc(NAN, 0.0), no(4));
@@ -33,7 +37,7 @@ fn the_sixteen_settled_examples() {
     same(rg(0.0, 0.0, 4.0), value(0x3FF0_0000_0000_0000));
     same(rg(INF, 0.0, 0.0), no(8));
     same(rj(4.0, 4.0, 4.0, 4.0), value(0x3FC0_0000_0000_0000));
-    same(rj(3.0, 2.0, 2.0, -1.0), value(0));
+    same(rj(3.0, 2.0, 2.0, -1.0), by(Road::Taylor, 0, 0, 0));
     same(rj(1.0, 1.0, 1.0, -INF), no(6));
 }
 
@@ -54,7 +58,29 @@ fn the_printed_examples() {
 
 #[test]
 fn rounds_are_counted() {
-    assert_eq!(rf(1.0, 0.5, 0.25), Answer::Value { value: f64::from_bits(0x3FF5_EC39_172C_9C25), rounds: 4 });
+    assert_eq!(rf(1.0, 0.5, 0.25), by(Road::Duplication, 0x3FF5_EC39_172C_9C25, 4, 0));
+}
+
+/// Request 2026-04: a road each, with and without rescalings.
+#[test]
+fn roads_and_rescalings() {
+    let way = |answer: Answer| match answer {
+        Answer::Value { road, rescalings, .. } => (road, rescalings),
+        Answer::Refused(refusal) => panic!("{refusal}"),
+    };
+    let b = f64::from_bits;
+    assert_eq!(way(rc(1.0, INF)), (Road::Closed, 0));
+    assert_eq!(way(rf(1e300, 2e300, 3e300)), (Road::Duplication, 1));
+    assert_eq!(way(rf(0.0, 1.0, 2.0)), (Road::Agm, 0));
+    assert_eq!(way(rd(0.0, 1.0, 2.0)), (Road::Agm, 0));
+    assert_eq!(way(rg(1.0, 0.5, 0.25)), (Road::Joint, 0));
+    assert_eq!(way(rj(1.0, 2.0, 3.0, -4.0)), (Road::Reduction, 0));
+    let thirteen = b(13);
+    assert_eq!(way(rj(0.0, thirteen, thirteen, b(0x37E0_0000_0000_0000))), (Road::Closed, 2));
+    let near = [0x7FE5_5555_5562_B9D6, 0x7FE5_5555_5555_5559, 0x7FEF_FFFF_FFFF_FFFF, 0xFFD5_5555_5555_5559].map(b);
+    assert_eq!(way(rj(near[0], near[1], near[2], near[3])), (Road::Taylor, 1));
+    assert_eq!(way(bench::swing(250_000, 50_000, 9_806_650)), (Road::Agm, 0));
+    assert_eq!(Road::Duplication.to_string(), "duplication");
 }
 
 #[test]

@@ -13,7 +13,7 @@ use Rattle.series.specs.Ln1p.{ln-1p}
 use Rattle.scaling.specs.Pick.{choose}
 use Rattle.carlson.specs.Constants.{zero, one, two, half}
 use Rattle.carlson.specs.Rescaling.{scaleOf2, rescales2, rescaling2}
-use Rattle.carlson.specs.Answer.{closedAt}
+use Rattle.carlson.specs.Answer.{closedAt, carriedAt}
 use Rattle.elliprc.specs.Rc as rc
 use Rattle.elliprc.specs.Rc.{rcCases, rcSteps, rcFound, overRoot, rcUnchecked}
 use Rattle.rj_positive.specs.Helper as helper
@@ -60,10 +60,10 @@ module _ (log log1p : Float → Float) (A : Agrees log) (B : Agrees1p log1p) whe
       choose _≡_ (lt (neg half) y) _ refl
       (λ k.
       let w = logs-asked y F p z k in
-      ap₂ (λ u v. (u ⊖ v) ⊘ (two ⊗ root (neg y))) (B (root (neg y)) (w .0)) (B (neg (root (neg y))) (w .1)))
+      ap₂ (λ u v. closedAt ((u ⊖ v) ⊘ (two ⊗ root (neg y)))) (B (root (neg y)) (w .0)) (B (neg (root (neg y))) (w .1)))
       (λ k.
-      choose _≡_ (lt y (neg one)) _ refl (λ j. ap (λ v. root (one ⊘ neg y) ⊗ v .value) below-one)
-      (λ j. ap (λ v. v ⊘ root (neg y)) (A (lnOf y) (ln-asked y F p z k j)))))))
+      choose _≡_ (lt y (neg one)) _ refl (λ j. ap (λ f. carriedAt (root (one ⊘ neg y) ⊗ f .value) (f .way)) below-one)
+      (λ j. ap (λ v. closedAt (v ⊘ root (neg y))) (A (lnOf y) (ln-asked y F p z k j)))))))
     where
       below-one : rcUncheckedWith log log1p (neg y) (neg one ⊖ y) ≡ rcUnchecked (neg y) (neg one ⊖ y)
       below-one = unchecked-asks (neg y) (neg one ⊖ y) (neg-fits binary64 y F) (sub-fits binary64 (neg one) y)

@@ -12,7 +12,7 @@ use Rattle.series.specs.Ln.{ln}
 use Rattle.series.specs.Ln1p.{ln-1p}
 use Rattle.carlson.specs.Constants.{zero, one, two, half}
 use Rattle.carlson.specs.Rescaling.{rescaling2}
-use Rattle.carlson.specs.Answer.{closedAt}
+use Rattle.carlson.specs.Answer.{closedAt, carriedAt}
 use Rattle.carlson.specs.declared.answer.Found.{Found}
 use Rattle.elliprc.specs.Rc.{rcAtZero, rcAtEqual, rcByAtan, overRoot}
 use Rattle.rj_positive.specs.Helper.{byAtan1p}
@@ -61,19 +61,19 @@ module _ (log log1p : Float → Float) where
   unfoldable pub byLogs1pWith : Float → Float
   byLogs1pWith y = let arg = root (neg y) in (log1p arg ⊖ log1p (neg arg)) ⊘ (two ⊗ root (neg y))
 
-  unfoldable pub byRc1pWith : Float → Float
-  byRc1pWith y = root (one ⊘ neg y) ⊗ rcUncheckedWith (neg y) (neg one ⊖ y) .value
+  unfoldable pub byRc1pWith : Float → Found
+  byRc1pWith y = let rc = rcUncheckedWith (neg y) (neg one ⊖ y) in carriedAt (root (one ⊘ neg y) ⊗ rc .value) (rc .way)
 
   unfoldable pub byLnOf1pWith : Float → Float
   byLnOf1pWith y = log ((one ⊕ root (neg y)) ⊘ root (one ⊕ y)) ⊘ root (neg y)
 
-  unfoldable pub rc1pWith : Float → Float
+  unfoldable pub rc1pWith : Float → Found
   rc1pWith y =
-      cond (le (absolute y) (bits 0x3F84_7AE1_47AE_147B)) (horner y)
-      (cond (lt zero y) (byAtan1p y)
-      (cond (eq y zero) one
-      (cond (lt (neg half) y) (byLogs1pWith y)
-      (cond (lt y (neg one)) (byRc1pWith y) (byLnOf1pWith y)))))
+      cond (le (absolute y) (bits 0x3F84_7AE1_47AE_147B)) (closedAt (horner y))
+      (cond (lt zero y) (closedAt (byAtan1p y))
+      (cond (eq y zero) (closedAt one)
+      (cond (lt (neg half) y) (closedAt (byLogs1pWith y))
+      (cond (lt y (neg one)) (byRc1pWith y) (closedAt (byLnOf1pWith y))))))
 
 -- document 01's ln: "from 2 up .. ln(+infinity) is +infinity; all else gives NaN"
 unfoldable pub ln-before : Float → Float

@@ -1,4 +1,5 @@
--- What an answer holds, and how an entry settles it (document 01, "Rounds" and "Numbers for no"). Definitions only.
+-- What an answer holds, and how an entry settles it (document 01, "Rounds" and "Numbers for no"; document 02, 2026-04).
+-- Definitions only.
 use Prim.Native.Nat.{ℕ, _+_, _%_, _^_}
 use mathlib.Core.Bool.{Bool, cond}
 use lib.Ieee.{Float}
@@ -8,51 +9,79 @@ use Rattle.carlson.specs.declared.answer.Way.{Way}
 use Rattle.carlson.specs.declared.answer.Found.{Found}
 use Rattle.carlson.specs.declared.answer.Answer.{Answer}
 use Rattle.carlson.specs.declared.answer.Answer.the-variants.{Value, Refused}
+use Rattle.carlson.specs.declared.answer.Road.{Road}
+use Rattle.carlson.specs.declared.answer.Road.the-variants.{Closed, Infinite, Agm, Duplication, Joint, Taylor, Reduction}
 
 -- ---- the way to a value: "the round count is the number of duplication or joint passes begun, plus AGM passes that replaced
 -- the means"
 abbrev pub wayOf : ℕ → Way
-wayOf n = record { rounds = n }
+wayOf n = record { rounds = n; rescalings = 0 }
 
--- ".. over the call and all it calls". Counts are u32; with so few rounds in a call no sum of two reaches 2 ^ 32.
+-- ".. over the call and all it calls", and so "the number of rescalings" (document 02, 2026-04). Both are u32; with so few in a
+-- call no sum of two reaches 2 ^ 32.
 unfoldable pub bothWays : Way → Way → Way
-bothWays a b = record { rounds = (a .rounds + b .rounds) % 2 ^ 32 }
+bothWays a b = record {
+  rounds = (a .rounds + b .rounds) % 2 ^ 32;
+  rescalings = (a .rescalings + b .rescalings) % 2 ^ 32;
+}
 
--- ---- a value, by the road to it
+-- ---- the roads' numbers for other programs, in the order in which document 02 names them
+unfoldable pub roadNumber : Road → ℕ
+roadNumber Closed = 1
+roadNumber Infinite = 2
+roadNumber Agm = 3
+roadNumber Duplication = 4
+roadNumber Joint = 5
+roadNumber Taylor = 6
+roadNumber Reduction = 7
+
+-- ---- a value, by the road to it (document 02, 2026-04)
 -- a closed form counts no round
 unfoldable pub closedAt : Float → Found
-closedAt v = record { value = v; way = wayOf 0 }
+closedAt v = record { value = v; road = Closed; way = wayOf 0 }
 
--- a formula put together of what other functions found carries their way
+-- a formula put together of what other functions found is closed, and carries their way
 unfoldable pub carriedAt : Float → Way → Found
-carriedAt v w = record { value = v; way = w }
+carriedAt v w = record { value = v; road = Closed; way = w }
 
--- the zero for an infinite argument is +0 and counts none
+-- the zero for an infinite argument is +0 and counts none: "rescalings are then 0"
 unfoldable pub infiniteAt : Answer
-infiniteAt = Value (record { value = zero; way = wayOf 0 })
+infiniteAt = Value (record { value = zero; road = Infinite; way = wayOf 0 })
 
 -- the mean counts the passes that replaced it
 unfoldable pub agmAt : Float → ℕ → Found
-agmAt v n = record { value = v; way = wayOf n }
+agmAt v n = record { value = v; road = Agm; way = wayOf n }
 
 -- duplication counts the passes begun, and so does the joint one
 unfoldable pub duplicationAt : Float → ℕ → Found
-duplicationAt v n = record { value = v; way = wayOf n }
+duplicationAt v n = record { value = v; road = Duplication; way = wayOf n }
+
+-- RJ's passes call RC, whose rescalings it counts too
+unfoldable pub duplicationOver : Float → ℕ → ℕ → Found
+duplicationOver v n m = record { value = v; road = Duplication; way = record { rounds = n; rescalings = m } }
 
 unfoldable pub jointAt : Float → ℕ → Found
-jointAt v n = record { value = v; way = wayOf n }
+jointAt v n = record { value = v; road = Joint; way = wayOf n }
 
 -- the expansion near RJ's zero counts none
 unfoldable pub taylorAt : Float → Found
-taylorAt v = record { value = v; way = wayOf 0 }
+taylorAt v = record { value = v; road = Taylor; way = wayOf 0 }
 
 -- the reduction of a negative p counts what it called
 unfoldable pub reductionAt : Float → Way → Found
-reductionAt v w = record { value = v; way = w }
+reductionAt v w = record { value = v; road = Reduction; way = w }
 
--- what was found at rescaled arguments, with the value that this gives
+-- what was found at rescaled arguments, with the value that this gives: "a call that rescales takes that one's road"
 unfoldable pub rescaledAt : Found → Float → Found
-rescaledAt f v = record { value = v; way = f .way }
+rescaledAt f v = record {
+  value = v;
+  road = f .road;
+  way = record { rounds = f .way .rounds; rescalings = (f .way .rescalings + 1) % 2 ^ 32 };
+}
+
+-- ".. or hands its whole answer to another function": all but the value is what that one found
+unfoldable pub handedAt : Found → Float → Found
+handedAt f v = record { value = v; road = f .road; way = f .way }
 
 -- ---- how an entry settles it
 -- "steps, then 6": a finite value stands, else the number

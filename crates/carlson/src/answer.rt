@@ -1,6 +1,5 @@
-// An answer is one of two cases: a value with its way, or the number of a refusal (document 01, "Numbers for no"). What the way
-// to a value tells beside the value is `Way`, which alone grows; a `Found` is made by the functions here, one for each road to
-// a value, by `carried` and by `rescaled`.
+// An answer is one of two cases: a value with its road and way, or the number of a refusal (document 01, "Numbers for no"). A
+// `Found` is made by the functions here alone: one for each road to a value, and two that keep the road of what was found.
 use crate::constants::NAN_GIVEN;
 use binary64::is_finite;
 ghost use mathlib.Core.Path.{_≡_};
@@ -12,22 +11,53 @@ ghost use Rattle.carlson.specs.Answer.{
   infiniteAt,
   agmAt,
   duplicationAt,
+  duplicationOver,
   jointAt,
   taylorAt,
   reductionAt,
   rescaledAt,
+  handedAt,
+  roadNumber,
   settled,
   settledLate,
 };
 
-// What is known of the way to a value: the rounds begun over the call and all it calls.
+// Which formula answered (document 02, 2026-04).
+pub enum Road {
+    Closed,
+    Infinite,
+    Agm,
+    Duplication,
+    Joint,
+    Taylor,
+    Reduction,
+}
+
+// Their numbers for other programs, in the order in which document 02 names them.
+pub fn road_number(road: Road) -> u32
+    ensures { λ r. ⌜ r ≡ roadNumber road ⌝ }
+{
+    match road {
+        Road::Closed => 1,
+        Road::Infinite => 2,
+        Road::Agm => 3,
+        Road::Duplication => 4,
+        Road::Joint => 5,
+        Road::Taylor => 6,
+        Road::Reduction => 7,
+    }
+}
+
+// What adds up over the call and all it calls: the rounds begun, and the rescalings.
 pub struct Way {
     pub rounds: u32,
+    pub rescalings: u32,
 }
 
 // What the steps found. Between the inner parts the value may be any f64; an entry hands out only a finite one.
 pub struct Found {
     pub value: f64,
+    pub road: Road,
     pub way: Way,
 }
 
@@ -42,6 +72,7 @@ pub fn both_ways(a: Way, b: Way) -> Way
 {
     Way {
         rounds: std::num::wrapping_add_u32(a.rounds, b.rounds),
+        rescalings: std::num::wrapping_add_u32(a.rescalings, b.rescalings),
     }
 }
 
@@ -51,15 +82,23 @@ pub fn closed(value: f64) -> Found
 {
     Found {
         value,
-        way: Way { rounds: 0 },
+        road: Road::Closed,
+        way: Way {
+            rounds: 0,
+            rescalings: 0,
+        },
     }
 }
 
-// A formula put together of what other functions found: it carries their way.
+// A formula put together of what other functions found is closed, and carries their way.
 pub fn carried(value: f64, way: Way) -> Found
     ensures { λ r. ⌜ r ≡ carriedAt value way ⌝ }
 {
-    Found { value, way }
+    Found {
+        value,
+        road: Road::Closed,
+        way,
+    }
 }
 
 // The zero for an infinite argument.
@@ -68,7 +107,11 @@ pub fn infinite() -> Answer
 {
     Answer::Value(Found {
         value: 0.0,
-        way: Way { rounds: 0 },
+        road: Road::Infinite,
+        way: Way {
+            rounds: 0,
+            rescalings: 0,
+        },
     })
 }
 
@@ -78,7 +121,11 @@ pub fn agm(value: f64, rounds: u32) -> Found
 {
     Found {
         value,
-        way: Way { rounds },
+        road: Road::Agm,
+        way: Way {
+            rounds,
+            rescalings: 0,
+        },
     }
 }
 
@@ -88,7 +135,22 @@ pub fn duplication(value: f64, rounds: u32) -> Found
 {
     Found {
         value,
-        way: Way { rounds },
+        road: Road::Duplication,
+        way: Way {
+            rounds,
+            rescalings: 0,
+        },
+    }
+}
+
+// Duplication whose passes called functions that rescaled so often: RJ's.
+pub fn duplication_over(value: f64, rounds: u32, rescalings: u32) -> Found
+    ensures { λ r. ⌜ r ≡ duplicationOver value rounds rescalings ⌝ }
+{
+    Found {
+        value,
+        road: Road::Duplication,
+        way: Way { rounds, rescalings },
     }
 }
 
@@ -98,7 +160,11 @@ pub fn joint(value: f64, rounds: u32) -> Found
 {
     Found {
         value,
-        way: Way { rounds },
+        road: Road::Joint,
+        way: Way {
+            rounds,
+            rescalings: 0,
+        },
     }
 }
 
@@ -108,7 +174,11 @@ pub fn taylor(value: f64) -> Found
 {
     Found {
         value,
-        way: Way { rounds: 0 },
+        road: Road::Taylor,
+        way: Way {
+            rounds: 0,
+            rescalings: 0,
+        },
     }
 }
 
@@ -116,15 +186,36 @@ pub fn taylor(value: f64) -> Found
 pub fn reduction(value: f64, way: Way) -> Found
     ensures { λ r. ⌜ r ≡ reductionAt value way ⌝ }
 {
-    Found { value, way }
+    Found {
+        value,
+        road: Road::Reduction,
+        way,
+    }
 }
 
-// What was found at rescaled arguments, with the value that this gives at those of the call.
+// What was found at rescaled arguments, with the value that this gives at those of the call: its road, and a rescaling more.
 pub fn rescaled(found: Found, value: f64) -> Found
     ensures { λ r. ⌜ r ≡ rescaledAt found value ⌝ }
 {
+    let road = found.road;
     let way = found.way;
-    Found { value, way }
+    Found {
+        value,
+        road,
+        way: Way {
+            rounds: way.rounds,
+            rescalings: std::num::wrapping_add_u32(way.rescalings, 1),
+        },
+    }
+}
+
+// What was found by the function that the whole answer was left to, with the value that this gives.
+pub fn handed(found: Found, value: f64) -> Found
+    ensures { λ r. ⌜ r ≡ handedAt found value ⌝ }
+{
+    let road = found.road;
+    let way = found.way;
+    Found { value, road, way }
 }
 
 // A finite value stands; else the number says why there is none.

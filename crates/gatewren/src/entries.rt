@@ -1,22 +1,35 @@
-// The five entries for C: 0 with the value and its rounds written, or the number of the refusal with neither touched.
+// The five entries for C: 0 with the value, its rounds, its road and its rescalings written, or the number of the refusal with
+// none of them touched.
 use carlson::answer::Answer;
+use carlson::answer::road_number;
 ghost use mathlib.Core.Path.{_≡_};
 ghost use Rattle.elliprc.specs.Rc.{rc};
 ghost use Rattle.elliprf.specs.Rf.{rf};
 ghost use Rattle.elliprd.specs.Rd.{rd};
 ghost use Rattle.elliprg.specs.Rg.{rg};
 ghost use Rattle.elliprj.specs.Rj.{rj};
-ghost use Rattle.gatewren.specs.Told.{numberOf, valueAfter, roundsAfter};
+ghost use Rattle.gatewren.specs.Told.{numberOf, valueAfter, roundsAfter, roadAfter, rescalingsAfter};
 
-pub fn told(a: Answer, value: &mut f64, rounds: &mut u32) -> u32
+pub fn told(
+    a: Answer,
+    value: &mut f64,
+    rounds: &mut u32,
+    road: &mut u32,
+    rescalings: &mut u32,
+) -> u32
     ensures { λ r. ⌜ r ≡ numberOf a ⌝ }
     ensures { λ r. ⌜ now (value .exit) ≡ valueAfter a (now (value .entry)) ⌝ }
     ensures { λ r. ⌜ now (rounds .exit) ≡ roundsAfter a (now (rounds .entry)) ⌝ }
+    ensures { λ r. ⌜ now (road .exit) ≡ roadAfter a (now (road .entry)) ⌝ }
+    ensures { λ r. ⌜ now (rescalings .exit) ≡ rescalingsAfter a (now (rescalings .entry)) ⌝ }
 {
     match a {
         Answer::Value(found) => {
+            let taken = found.road;
             *value = found.value;
             *rounds = found.way.rounds;
+            *road = road_number(taken);
+            *rescalings = found.way.rescalings;
             0
         }
         Answer::Refused(n) => n,
@@ -24,39 +37,78 @@ pub fn told(a: Answer, value: &mut f64, rounds: &mut u32) -> u32
 }
 
 #[no_mangle]
-pub extern "C" fn gatewren_rc(x: f64, y: f64, value: &mut f64, rounds: &mut u32) -> u32
+pub extern "C" fn gatewren_rc(
+    x: f64,
+    y: f64,
+    value: &mut f64,
+    rounds: &mut u32,
+    road: &mut u32,
+    rescalings: &mut u32,
+) -> u32
     ensures { λ r. ⌜ r ≡ numberOf (rc x y) ⌝ }
     ensures { λ r. ⌜ now (value .exit) ≡ valueAfter (rc x y) (now (value .entry)) ⌝ }
     ensures { λ r. ⌜ now (rounds .exit) ≡ roundsAfter (rc x y) (now (rounds .entry)) ⌝ }
+    ensures { λ r. ⌜ now (road .exit) ≡ roadAfter (rc x y) (now (road .entry)) ⌝ }
+    ensures { λ r. ⌜ now (rescalings .exit) ≡ rescalingsAfter (rc x y) (now (rescalings .entry)) ⌝ }
 {
-    told(elliprc::elliprc(x, y), value, rounds)
+    told(elliprc::elliprc(x, y), value, rounds, road, rescalings)
 }
 
 #[no_mangle]
-pub extern "C" fn gatewren_rf(x: f64, y: f64, z: f64, value: &mut f64, rounds: &mut u32) -> u32
+pub extern "C" fn gatewren_rf(
+    x: f64,
+    y: f64,
+    z: f64,
+    value: &mut f64,
+    rounds: &mut u32,
+    road: &mut u32,
+    rescalings: &mut u32,
+) -> u32
     ensures { λ r. ⌜ r ≡ numberOf (rf x y z) ⌝ }
     ensures { λ r. ⌜ now (value .exit) ≡ valueAfter (rf x y z) (now (value .entry)) ⌝ }
     ensures { λ r. ⌜ now (rounds .exit) ≡ roundsAfter (rf x y z) (now (rounds .entry)) ⌝ }
+    ensures { λ r. ⌜ now (road .exit) ≡ roadAfter (rf x y z) (now (road .entry)) ⌝ }
+    ensures { λ r. ⌜ now (rescalings .exit) ≡ rescalingsAfter (rf x y z) (now (rescalings .entry)) ⌝ }
 {
-    told(elliprf::elliprf(x, y, z), value, rounds)
+    told(elliprf::elliprf(x, y, z), value, rounds, road, rescalings)
 }
 
 #[no_mangle]
-pub extern "C" fn gatewren_rd(x: f64, y: f64, z: f64, value: &mut f64, rounds: &mut u32) -> u32
+pub extern "C" fn gatewren_rd(
+    x: f64,
+    y: f64,
+    z: f64,
+    value: &mut f64,
+    rounds: &mut u32,
+    road: &mut u32,
+    rescalings: &mut u32,
+) -> u32
     ensures { λ r. ⌜ r ≡ numberOf (rd x y z) ⌝ }
     ensures { λ r. ⌜ now (value .exit) ≡ valueAfter (rd x y z) (now (value .entry)) ⌝ }
     ensures { λ r. ⌜ now (rounds .exit) ≡ roundsAfter (rd x y z) (now (rounds .entry)) ⌝ }
+    ensures { λ r. ⌜ now (road .exit) ≡ roadAfter (rd x y z) (now (road .entry)) ⌝ }
+    ensures { λ r. ⌜ now (rescalings .exit) ≡ rescalingsAfter (rd x y z) (now (rescalings .entry)) ⌝ }
 {
-    told(elliprd::elliprd(x, y, z), value, rounds)
+    told(elliprd::elliprd(x, y, z), value, rounds, road, rescalings)
 }
 
 #[no_mangle]
-pub extern "C" fn gatewren_rg(x: f64, y: f64, z: f64, value: &mut f64, rounds: &mut u32) -> u32
+pub extern "C" fn gatewren_rg(
+    x: f64,
+    y: f64,
+    z: f64,
+    value: &mut f64,
+    rounds: &mut u32,
+    road: &mut u32,
+    rescalings: &mut u32,
+) -> u32
     ensures { λ r. ⌜ r ≡ numberOf (rg x y z) ⌝ }
     ensures { λ r. ⌜ now (value .exit) ≡ valueAfter (rg x y z) (now (value .entry)) ⌝ }
     ensures { λ r. ⌜ now (rounds .exit) ≡ roundsAfter (rg x y z) (now (rounds .entry)) ⌝ }
+    ensures { λ r. ⌜ now (road .exit) ≡ roadAfter (rg x y z) (now (road .entry)) ⌝ }
+    ensures { λ r. ⌜ now (rescalings .exit) ≡ rescalingsAfter (rg x y z) (now (rescalings .entry)) ⌝ }
 {
-    told(elliprg::elliprg(x, y, z), value, rounds)
+    told(elliprg::elliprg(x, y, z), value, rounds, road, rescalings)
 }
 
 #[no_mangle]
@@ -67,10 +119,20 @@ pub extern "C" fn gatewren_rj(
     p: f64,
     value: &mut f64,
     rounds: &mut u32,
+    road: &mut u32,
+    rescalings: &mut u32,
 ) -> u32
     ensures { λ r. ⌜ r ≡ numberOf (rj x y z p) ⌝ }
     ensures { λ r. ⌜ now (value .exit) ≡ valueAfter (rj x y z p) (now (value .entry)) ⌝ }
     ensures { λ r. ⌜ now (rounds .exit) ≡ roundsAfter (rj x y z p) (now (rounds .entry)) ⌝ }
+    ensures { λ r. ⌜ now (road .exit) ≡ roadAfter (rj x y z p) (now (road .entry)) ⌝ }
+    ensures { λ r. ⌜ now (rescalings .exit) ≡ rescalingsAfter (rj x y z p) (now (rescalings .entry)) ⌝ }
 {
-    told(elliprj::elliprj(x, y, z, p), value, rounds)
+    told(
+        elliprj::elliprj(x, y, z, p),
+        value,
+        rounds,
+        road,
+        rescalings,
+    )
 }

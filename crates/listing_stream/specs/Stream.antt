@@ -11,9 +11,9 @@ use Rattle.writing.specs.Fed.{Ran, quiet, Fed, run}
 use Rattle.listing_stream.specs.declared.stream.Progress.{Progress}
 
 -- ---- what is right: a header, and a reply to each line of the input
--- "carlson 1", and the line's end
+-- "carlson 2" (document 02, 2026-04), and the line's end
 abbrev pub headerText : List ℕ
-headerText = 99 ∷ 97 ∷ 114 ∷ 108 ∷ 115 ∷ 111 ∷ 110 ∷ 32 ∷ 49 ∷ 10 ∷ []
+headerText = 99 ∷ 97 ∷ 114 ∷ 108 ∷ 115 ∷ 111 ∷ 110 ∷ 32 ∷ 50 ∷ 10 ∷ []
 
 unfoldable pub repliesTo : List (List ℕ) → List ℕ
 repliesTo [] = []
@@ -41,7 +41,7 @@ saidLast held = repliesTo (lastLine held)
 
 -- so many bytes are read at once: the replies to them fit, if each ends a line
 abbrev pub blockLength : ℕ
-blockLength = 2048
+blockLength = 1024
 
 -- ---- what a function that is fed some bytes does: some of the bytes in `after` are held, and what is said was put into `out`
 abbrev pub Lists : Ran (List ℕ) → List ℕ → List ℕ → ℕ → List ℕ → Progress → Type 0

@@ -17,7 +17,7 @@ ghost use Rattle.listing_stream.specs.Stream.{headerText, listingByte, l
 pub const HELD: usize = LONGEST + 1;
 
 // So many bytes are read at once: the replies to them fit, if each ends a line.
-pub const BLOCK: usize = 2048;
+pub const BLOCK: usize = 1024;
 
 // How many bytes are held now, and how many were written.
 pub struct Progress {
@@ -30,7 +30,7 @@ pub fn begin(out: &mut [u8; OUT]) -> usize
     ensures { λ r. ⌜ Put (now (out .entry)) 0 headerText (now (out .exit)) r ⌝ }
     ensures { λ r. ⌜ Counts r (now (out .exit)) ⌝ }
 {
-    put_text(b"carlson 1\n", out, 0)
+    put_text(b"carlson 2\n", out, 0)
 }
 
 fn step(b: u8, held: &mut [u8], n: usize, out: &mut [u8], used: usize) -> Progress

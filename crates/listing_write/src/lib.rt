@@ -1,8 +1,9 @@
-// An answer to its text, a line of the listing (document 01).
+// An answer to its text, a line of the listing (document 01; document 02, 2026-04).
 use binary64::split;
 use calls::Call;
 use carlson::answer::Answer;
 use carlson::answer::Found;
+use carlson::answer::Road;
 use writing::has_room;
 use writing::put_decimal;
 use writing::put_text;
@@ -13,12 +14,19 @@ ghost use Prim.Native.Nat.{_+_, _≤_};
 ghost use lib.ListN.{length};
 ghost use Rattle.io.specs.Counts.{Counts};
 ghost use Rattle.calls.specs.Calls.{nameOf, longestName};
-ghost use Rattle.listing_write.specs.Text.{countText, valueText, refusalText, textOf};
-ghost use Rattle.listing_write.specs.Text.{longestCount, longestValue, longestRefusal, longestReply};
+ghost use Rattle.listing_write.specs.Text.{countText, roadText, wayText, valueText, refusalText, textOf};
+ghost use Rattle.listing_write.specs.Text.{
+  longestCount,
+  longestRoad,
+  longestWay,
+  longestValue,
+  longestRefusal,
+  longestReply,
+};
 ghost use Rattle.writing.specs.Written.{Put, Tried};
 
 // No reply is longer, its end counted.
-pub const LONGEST: usize = 31;
+pub const LONGEST: usize = 54;
 
 // The letter after the R.
 fn letter(call: Call) -> u8
@@ -42,14 +50,41 @@ fn put_name(call: Call, out: &mut [u8], at: usize) -> usize
     at + 2
 }
 
-// A count in decimal, at most ten digits, and the line's end.
-fn put_count(n: u32, out: &mut [u8], at: usize) -> usize
+// A count in decimal, at most ten digits, and the byte after it.
+fn put_count(n: u32, after: u8, out: &mut [u8], at: usize) -> usize
     requires { ⌜ at + longestCount ≤ length (now out) ⌝ }
-    ensures { λ r. ⌜ Put (now (out .entry)) at (countText n) (now (out .exit)) r ⌝ }
+    ensures { λ r. ⌜ Put (now (out .entry)) at (countText n after) (now (out .exit)) r ⌝ }
 {
     let end = put_decimal(n as u64, 9, out, at);
-    out[end] = b'\n';
+    out[end] = after;
     end + 1
+}
+
+// A road's word, and a blank.
+fn put_road(road: Road, out: &mut [u8], at: usize) -> usize
+    requires { ⌜ at + longestRoad ≤ length (now out) ⌝ }
+    ensures { λ r. ⌜ Put (now (out .entry)) at (roadText road) (now (out .exit)) r ⌝ }
+{
+    match road {
+        Road::Closed => put_text(b"closed ", out, at),
+        Road::Infinite => put_text(b"infinite ", out, at),
+        Road::Agm => put_text(b"agm ", out, at),
+        Road::Duplication => put_text(b"duplication ", out, at),
+        Road::Joint => put_text(b"joint ", out, at),
+        Road::Taylor => put_text(b"taylor ", out, at),
+        Road::Reduction => put_text(b"reduction ", out, at),
+    }
+}
+
+// The rounds, the road and the rescalings, to the line's end.
+fn put_way(found: Found, out: &mut [u8], at: usize) -> usize
+    requires { ⌜ at + longestWay ≤ length (now out) ⌝ }
+    ensures { λ r. ⌜ Put (now (out .entry)) at (wayText found) (now (out .exit)) r ⌝ }
+{
+    let road = found.road;
+    let word = put_count(found.way.rounds, b' ', out, at);
+    let end = put_road(road, out, word);
+    put_count(found.way.rescalings, b'\n', out, end)
 }
 
 fn put_value(found: Found, out: &mut [u8], at: usize) -> usize
@@ -59,7 +94,7 @@ fn put_value(found: Found, out: &mut [u8], at: usize) -> usize
     out[at] = b' ';
     let end = put_word(split(found.value), out, at + 1);
     out[end] = b' ';
-    put_count(found.way.rounds, out, end + 1)
+    put_way(found, out, end + 1)
 }
 
 fn put_refusal(number: u32, out: &mut [u8], at: usize) -> usize
@@ -67,7 +102,7 @@ fn put_refusal(number: u32, out: &mut [u8], at: usize) -> usize
     ensures { λ r. ⌜ Put (now (out .entry)) at (refusalText number) (now (out .exit)) r ⌝ }
 {
     let end = put_text(b" refused ", out, at);
-    put_count(number, out, end)
+    put_count(number, b'\n', out, end)
 }
 
 // The answer's line, with its end, from `at` on; the place after it.

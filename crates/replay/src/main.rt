@@ -58,7 +58,7 @@ fn count_odd(tally: Tally) -> Tally {
 fn take_header(row: &[u8], tally: Tally) -> Tally {
     let mut t = tally;
     t.header = false;
-    if check::same(row, b"gatewren calls 1") {
+    if check::same(row, b"gatewren calls 2") {
         return t;
     }
     count_odd(t)

@@ -3,6 +3,7 @@ use calls::Call;
 use libc::STDOUT_FILENO;
 use listing_read::Line;
 use listing_read::call_of;
+use listing_write::LONGEST;
 ghost use Prim.Native.Nat.{_≤_};
 ghost use lib.ListN.{length};
 
@@ -71,7 +72,7 @@ fn show(row: &[u8], line: &[u8]) {
 }
 
 fn compare(call: Call, said: &[u8], row: &[u8], shown: bool) -> Verdict {
-    let mut text = [0u8; 31];
+    let mut text = [0u8; LONGEST];
     let n = listing_write::answer_text(call, answers::answer_of(call), &mut text);
     if says(&text[..n], said) {
         return Verdict::Agrees(place(call));

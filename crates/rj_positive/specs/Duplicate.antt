@@ -1,5 +1,5 @@
 -- RJ's duplication for p above zero, in the Rust's steps (elliprj.rs; document 01, Rounds). Definitions only.
-use Prim.Native.Nat.{ℕ}
+use Prim.Native.Nat.{ℕ, _+_, _%_, _^_}
 use mathlib.Core.Bool.{Bool, false, cond}
 use lib.Ieee.{Float, nan, neg, lt, le}
 use Rattle.binary64.specs.Leaves.{absolute, maximum}
@@ -10,7 +10,7 @@ use Rattle.derived.specs.Starts.{rj-start}
 use Rattle.carlson.specs.Constants.{zero, one, two, three, four, half}
 use Rattle.carlson.specs.Common.{lambdaWith, thirdKind}
 use Rattle.carlson.specs.Loop.{capped}
-use Rattle.carlson.specs.Answer.{duplicationAt}
+use Rattle.carlson.specs.Answer.{duplicationOver}
 use Rattle.carlson.specs.declared.answer.Found.{Found}
 use Rattle.carlson.specs.declared.common.Lambda.{Lambda}
 use Rattle.elliprc.specs.Rc.{rcUnchecked}
@@ -38,6 +38,7 @@ rjBegin x y z p = record {
   delta = (p ⊖ x) ⊗ (p ⊖ y) ⊗ (p ⊖ z);
   fmn = one;
   sum = zero;
+  rescalings = 0;
 }
 
 -- ---- one pass
@@ -59,14 +60,18 @@ rjMiddle pn r dn = two ⊗ r .p ⊗ (pn ⊕ r .x ⊗ (r .y ⊕ r .z) ⊕ r .y �
 
 -- between -3/2 and -1/2 RC itself, at an argument that keeps its digits
 -- by its bits: 1.5
-unfoldable pub rjTerm : Float → Roots → Float → Float → Float
+unfoldable pub rjTerm : Float → Roots → Float → Float → Found
 rjTerm pn r dn en =
-    cond (lt en (neg half)) (cond (lt (neg (bits 0x3FF8_0000_0000_0000)) en) (rcUnchecked one (rjMiddle pn r dn) .value)
+    cond (lt en (neg half)) (cond (lt (neg (bits 0x3FF8_0000_0000_0000)) en) (rcUnchecked one (rjMiddle pn r dn))
     (rc1p en)) (rc1p en)
 
+-- "the number of rescalings over the call and all it calls": those of the terms before, and of this one
+unfoldable pub rjRescalings : Round → Found → ℕ
+rjRescalings s rc = (s .rescalings + rc .way .rescalings) % 2 ^ 32
+
 -- by its bits: 64
-unfoldable pub rjMoved : Round → Lambda → Float → Round
-rjMoved s l added = record {
+unfoldable pub rjMoved : Round → Lambda → Float → ℕ → Round
+rjMoved s l added rescalings = record {
   an = (s .an ⊕ l .lambda) ⊘ four;
   xn = (s .xn ⊕ l .lambda) ⊘ four;
   yn = (s .yn ⊕ l .lambda) ⊘ four;
@@ -75,12 +80,14 @@ rjMoved s l added = record {
   delta = s .delta ⊘ bits 0x4050_0000_0000_0000;
   fmn = s .fmn ⊘ four;
   sum = s .sum ⊕ added;
+  rescalings = rescalings;
 }
 
 unfoldable pub rjWith : Round → Roots → Round
 rjWith s r =
     let dn = rjDenominator r in
-    rjMoved s (lambdaWith (r .x) (r .y) (r .z)) (s .fmn ⊘ dn ⊗ rjTerm (s .pn) r dn (rjRatio s r dn))
+    let rc = rjTerm (s .pn) r dn (rjRatio s r dn) in
+    rjMoved s (lambdaWith (r .x) (r .y) (r .z)) (s .fmn ⊘ dn ⊗ rc .value) (rjRescalings s rc)
 
 unfoldable pub rjStep : Round → Round
 rjStep s = rjWith s (record { x = root (s .xn); y = root (s .yn); z = root (s .zn); p = root (s .pn) })
@@ -115,10 +122,10 @@ abbrev pub rjCap : ℕ
 rjCap = 100
 
 abbrev pub rjFound : Float → Float → Float → Float → Round → ℕ → Found
-rjFound x y z a0 s n = duplicationAt (rjSeries x y z a0 s) n
+rjFound x y z a0 s n = duplicationOver (rjSeries x y z a0 s) n (s .rescalings)
 
 abbrev pub rjSpent : Round → ℕ → Found
-rjSpent s n = duplicationAt nan n
+rjSpent s n = duplicationOver nan n (s .rescalings)
 
 -- document 01, Rounds: counted are the passes begun. With the cap spent there is no number.
 unfoldable pub rjDuplication : Float → Float → Float → Float → Found

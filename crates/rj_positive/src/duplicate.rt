@@ -3,7 +3,7 @@ use crate::helper::elliprc1p;
 use binary64::abs;
 use binary64::max;
 use carlson::answer::Found;
-use carlson::answer::duplication;
+use carlson::answer::duplication_over;
 use carlson::answer::not_a_number;
 use carlson::common::Lambda;
 use carlson::common::lambda_with;
@@ -21,6 +21,7 @@ ghost use Rattle.rj_positive.specs.Duplicate.{
   rjRatio,
   rjMiddle,
   rjTerm,
+  rjRescalings,
   rjMoved,
   rjWith,
   rjStep,
@@ -39,7 +40,8 @@ const START: f64 = 110.67925377307274;
 
 const MIN_POSITIVE: f64 = 2.2250738585072014e-308; // the least normal f64, 2 ^ -1022
 
-// The running mean and arguments, the product of the differences, the power of four and the sum of one pass.
+// The running mean and arguments, the product of the differences, the power of four, the sum of one pass, and how often RC
+// rescaled on the way to it.
 pub struct Round {
     pub an: f64,
     pub xn: f64,
@@ -49,6 +51,7 @@ pub struct Round {
     pub delta: f64,
     pub fmn: f64,
     pub sum: f64,
+    pub rescalings: u32,
 }
 
 // The roots of the running arguments.
@@ -83,6 +86,7 @@ fn begin(x: f64, y: f64, z: f64, p: f64) -> Round
         delta: (p - x) * (p - y) * (p - z),
         fmn: 1.0,
         sum: 0.0,
+        rescalings: 0,
     }
 }
 
@@ -117,21 +121,27 @@ fn middle(pn: f64, r: Roots, dn: f64) -> f64
 }
 
 // RC(1, 1 + en), by another way where 1 + en would lose its digits.
-fn term(pn: f64, r: Roots, dn: f64, en: f64) -> f64
+fn term(pn: f64, r: Roots, dn: f64, en: f64) -> Found
     ensures { λ t. ⌜ t ≡ rjTerm pn r dn en ⌝ }
 {
     if en < -0.5 {
         if en > -1.5 {
-            let rc = elliprc_unchecked(1.0, middle(pn, r, dn));
-            return rc.value;
+            return elliprc_unchecked(1.0, middle(pn, r, dn));
         }
         return elliprc1p(en);
     }
     elliprc1p(en)
 }
 
-fn moved(s: Round, l: Lambda, added: f64) -> Round
-    ensures { λ r. ⌜ r ≡ rjMoved s l added ⌝ }
+// The rescalings of the passes so far and of one term more.
+fn rescalings_with(s: Round, rc: Found) -> u32
+    ensures { λ r. ⌜ r ≡ rjRescalings s rc ⌝ }
+{
+    std::num::wrapping_add_u32(s.rescalings, rc.way.rescalings)
+}
+
+fn moved(s: Round, l: Lambda, added: f64, rescalings: u32) -> Round
+    ensures { λ r. ⌜ r ≡ rjMoved s l added rescalings ⌝ }
 {
     Round {
         an: (s.an + l.lambda) / 4.0,
@@ -142,6 +152,7 @@ fn moved(s: Round, l: Lambda, added: f64) -> Round
         delta: s.delta / 64.0,
         fmn: s.fmn / 4.0,
         sum: s.sum + added,
+        rescalings,
     }
 }
 
@@ -150,8 +161,9 @@ fn with_roots(s: Round, r: Roots) -> Round
     ensures { λ t. ⌜ t ≡ rjWith s r ⌝ }
 {
     let dn = denominator(r);
-    let added = s.fmn / dn * term(s.pn, r, dn, ratio(s, r, dn));
-    moved(s, lambda_with(r.x, r.y, r.z), added)
+    let rc = term(s.pn, r, dn, ratio(s, r, dn));
+    let added = s.fmn / dn * rc.value;
+    moved(s, lambda_with(r.x, r.y, r.z), added, rescalings_with(s, rc))
 }
 
 fn step(s: Round) -> Round
@@ -215,12 +227,12 @@ pub fn duplicated(x: f64, y: f64, z: f64, p: f64) -> Found
     let mut n: u32 = 0;
     loop {
         if n == CAP {
-            break duplication(not_a_number(), n);
+            break duplication_over(not_a_number(), n, at.rescalings);
         }
         at = step(at);
         n += 1;
         if close(at, q) {
-            break duplication(series(x, y, z, a0, at), n);
+            break duplication_over(series(x, y, z, a0, at), n, at.rescalings);
         }
     }
 }

@@ -1,5 +1,8 @@
 // RC(1, 1 + y), as RJ's sum wants it (elliprj.rs, elliprc1p).
 use binary64::abs;
+use carlson::answer::Found;
+use carlson::answer::carried;
+use carlson::answer::closed;
 use elliprc::elliprc_unchecked;
 use polynomial::polynomial;
 use root::sqrt;
@@ -25,11 +28,11 @@ fn by_logs(y: f64) -> f64
 }
 
 // y < -1: the Cauchy principal value
-fn by_rc(y: f64) -> f64
+fn by_rc(y: f64) -> Found
     ensures { λ r. ⌜ r ≡ byRc1p y ⌝ }
 {
     let rc = elliprc_unchecked(-y, -1.0 - y);
-    sqrt(1.0 / -y) * rc.value
+    carried(sqrt(1.0 / -y) * rc.value, rc.way)
 }
 
 // else
@@ -39,23 +42,23 @@ fn by_ln(y: f64) -> f64
     ln((1.0 + sqrt(-y)) / sqrt(1.0 + y)) / sqrt(-y)
 }
 
-pub fn elliprc1p(y: f64) -> f64
+pub fn elliprc1p(y: f64) -> Found
     ensures { λ r. ⌜ r ≡ rc1p y ⌝ }
 {
     if abs(y) <= 0.01 {
-        return polynomial(y);
+        return closed(polynomial(y));
     }
     if y > 0.0 {
-        return by_atan(y);
+        return closed(by_atan(y));
     }
     if y == 0.0 {
-        return 1.0;
+        return closed(1.0);
     }
     if y > -0.5 {
-        return by_logs(y);
+        return closed(by_logs(y));
     }
     if y < -1.0 {
         return by_rc(y);
     }
-    by_ln(y)
+    closed(by_ln(y))
 }

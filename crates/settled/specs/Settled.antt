@@ -11,6 +11,8 @@ use Rattle.fused.specs.Fused.{fused}
 use Rattle.carlson.specs.Constants.{zero, one, two, three, four, half, infinity}
 use Rattle.carlson.specs.Answer.{wayOf, closedAt, taylorAt, infiniteAt, settled, settledLate}
 use Rattle.carlson.specs.Rescaling.{rescaling2, rescaling3}
+use Rattle.carlson.specs.declared.answer.Road.{Road}
+use Rattle.carlson.specs.declared.answer.Road.the-variants.{Closed, Infinite, Taylor}
 use Rattle.carlson.specs.declared.answer.Answer.{Answer}
 use Rattle.carlson.specs.declared.answer.Answer.the-variants.{Value, Refused}
 use Rattle.elliprc.specs.Rc.{rc, rcUnchecked, rcFound, rcSteps, rcCases, rcAtEqual}
@@ -40,9 +42,9 @@ All [] = Unit {0}
 All (row ∷ rest) = Holds row × All rest
 
 -- ---- the table's numbers; the others are the constants of the entries
--- a value that no round was counted for
-abbrev pub is : Float → Answer
-is v = Value (record { value = v; way = wayOf 0 })
+-- a value found on a road, with no round and no rescaling
+abbrev pub is : Road → Float → Answer
+is r v = Value (record { value = v; road = r; way = wayOf 0 })
 
 -- all NaNs are one `Float`
 abbrev pub not-a-number : Float
@@ -63,21 +65,21 @@ eighth = bits 0x3FC0_0000_0000_0000
 -- ---- the table
 abbrev pub table : List Row
 table =
-    RF four four four (is half)
-    ∷ RF four zero four (is (bits 0x3FE9_21FB_5444_2D18))
+    RF four four four (is Closed half)
+    ∷ RF four zero four (is Closed (bits 0x3FE9_21FB_5444_2D18))
     ∷ RF infinity zero zero (Refused 3)
-    ∷ RF infinity zero one (is zero)
+    ∷ RF infinity zero one (is Infinite zero)
     ∷ RF not-a-number minus-one one (Refused 1)
-    ∷ RC zero minus-four (is zero)
+    ∷ RC zero minus-four (is Closed zero)
     ∷ RC not-a-number zero (Refused 4)
     ∷ RC minus-one zero (Refused 2)
-    ∷ RD four four four (is eighth)
+    ∷ RD four four four (is Closed eighth)
     ∷ RD not-a-number minus-one one (Refused 2)
     ∷ RD zero zero minus-one (Refused 3)
-    ∷ RG zero zero four (is one)
+    ∷ RG zero zero four (is Closed one)
     ∷ RG infinity zero zero (Refused 8)
-    ∷ RJ four four four four (is eighth)
-    ∷ RJ three two two minus-one (is zero)
+    ∷ RJ four four four four (is Closed eighth)
+    ∷ RJ three two two minus-one (is Taylor zero)
     ∷ RJ one one one minus-infinity (Refused 6)
     ∷ []
 

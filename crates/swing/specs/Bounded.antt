@@ -15,7 +15,7 @@ use Rattle.binary64.specs.Operators.{_⊗_, bits}
 use Rattle.carlson.specs.Constants.{zero as +0, one}
 use Rattle.carlson.specs.Checks.{below3}
 use Rattle.carlson.specs.Rescaling.{scaleOf3, beyondLimits, rescaling3}
-use Rattle.carlson.specs.Answer.{carriedAt, settled}
+use Rattle.carlson.specs.Answer.{handedAt, settled}
 use Rattle.carlson.specs.Only.{Only, Finite, refused}
 use Rattle.carlson.specs.Only as only
 use Rattle.carlson.specs.declared.answer.Found.{Found}
@@ -143,11 +143,11 @@ record InRange (l h g : ℕ) : Type 0 where
   gravity-in : From1 g 20000000
   height-in : From1 h (2 * l - 1)
 
--- what a swing of arguments in range takes, with RF's way
+-- what a swing of arguments in range takes, with RF's road and way
 swing-of : ℕ → ℕ → ℕ → Found
 swing-of l h g =
     let f = rfAgmOf one (ratio (2 * l - h) (2 * l)) in
-    carriedAt (fourRoots l g ⊗ f .value) (f .way)
+    handedAt f (fourRoots l g ⊗ f .value)
 
 module _ (l h g : ℕ) (R : InRange l h g) where
   argument-in : Between (power 998) below-one (ratio (2 * l - h) (2 * l))
@@ -169,7 +169,7 @@ module _ (l h g : ℕ) (R : InRange l h g) where
   swung-is = rw (rf-is argument-in)
 
   swing-between : Between (power 1012) (power 1042) (swing-of l h g .value)
-  unfolding value swing-of carriedAt
+  unfolding value swing-of handedAt
   swing-between =
       product-between (four-roots l g (R .length-in) (R .gravity-in)) (mean (ratio (2 * l - h) (2 * l)) argument-in) (power 1012)
       (power 1042) tt tt tt

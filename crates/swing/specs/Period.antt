@@ -8,7 +8,7 @@ use lib.Ieee.{Float, binary64, ofInt}
 use Rattle.binary64.specs.Operators.{_⊗_, _⊘_}
 use Rattle.root.specs.Root.{root}
 use Rattle.carlson.specs.Constants.{zero, one, four}
-use Rattle.carlson.specs.Answer.{carriedAt}
+use Rattle.carlson.specs.Answer.{handedAt}
 use Rattle.carlson.specs.declared.answer.Answer.{Answer}
 use Rattle.carlson.specs.declared.answer.Answer.the-variants.{Value, Refused}
 use Rattle.elliprf.specs.Rf.{rf}
@@ -35,9 +35,9 @@ ratio a b = whole a ⊘ whole b
 unfoldable pub fourRoots : ℕ → ℕ → Float
 fourRoots length gravity = four ⊗ root (ratio length gravity)
 
--- "times" what RF answers, with RF's way
+-- "times" what RF answers, with RF's road and way
 unfoldable pub times : Float → Answer → Answer
-times factor (Value f) = Value (carriedAt (factor ⊗ f .value) (f .way))
+times factor (Value f) = Value (handedAt f (factor ⊗ f .value))
 times factor (Refused n) = Refused n
 
 -- "four times the root of L/g times RF(0, (2L-h)/(2L), 1)"

@@ -1,6 +1,6 @@
 // The period of a swing, in seconds, from whole micrometres: four times the root of L/g times RF(0, (2L-h)/(2L), 1).
 use carlson::answer::Answer;
-use carlson::answer::carried;
+use carlson::answer::handed;
 use elliprf::elliprf;
 use root::sqrt;
 ghost use mathlib.Core.Path.{_≡_};
@@ -49,7 +49,7 @@ fn multiplied(factor: f64, answer: Answer) -> Answer
     ensures { λ r. ⌜ r ≡ times factor answer ⌝ }
 {
     match answer {
-        Answer::Value(found) => Answer::Value(carried(factor * found.value, found.way)),
+        Answer::Value(found) => Answer::Value(handed(found, factor * found.value)),
         Answer::Refused(number) => Answer::Refused(number),
     }
 }
@@ -64,7 +64,7 @@ fn swing_time(length: u64, height: u64, gravity: u64) -> Answer
     multiplied(four_roots(length, gravity), elliprf(0.0, y, 1.0))
 }
 
-// Any three numbers: the period with RF's rounds, or 11 or 12. Why RF never refuses here is in specs/Bounded.antt.
+// Any three numbers: the period with RF's road and way, or 11 or 12. Why RF never refuses here is in specs/Bounded.antt.
 pub fn period(length: u64, height: u64, gravity: u64) -> Answer
     ensures { λ r. ⌜ r ≡ periodOf length height gravity ⌝ }
     ensures { λ r. ⌜ Only Finite swingNumbers r ⌝ }

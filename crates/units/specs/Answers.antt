@@ -16,6 +16,7 @@ use Rattle.scaling.specs.Kind.{Kind}
 use Rattle.scaling.specs.Two.{Two}
 use Rattle.scaling.specs.Plain.{cross, is-finite, units-times}
 use Rattle.carlson.specs.Answer.{settled, settledLate}
+use Rattle.carlson.specs.declared.answer.Road.{Road}
 use Rattle.carlson.specs.declared.answer.Way.{Way}
 use Rattle.carlson.specs.declared.answer.Found.{Found}
 use Rattle.carlson.specs.declared.answer.Answer.{Answer}
@@ -26,8 +27,8 @@ use Rattle.units.specs.Runs.{Same, both, lost}
 -- ---- what an entry settles
 pub data Pair (k : ℕ) (K : Kind) : Answer → Answer → Type 0 where
   no : {n : ℕ} → Pair k K (Refused n) (Refused n)
-  yes : {v w : Float} {c : Way} → Two binary64 k K v w → Pair k K (Value (record { value = v; way = c }))
-      (Value (record { value = w; way = c }))
+  yes : {v w : Float} {r : Road} {c : Way} → Two binary64 k K v w → Pair k K (Value (record { value = v; road = r; way = c }))
+      (Value (record { value = w; road = r; way = c }))
 
 finite-is : {x : Float} {s : Bool} {n : ℕ} → Is binary64 x s n → finite x ≡ true
 finite-is {x = nan} a = absurd (a .val)
@@ -36,9 +37,9 @@ finite-is {x = fin t m e} a = refl
 
 pub settled-same : {k : ℕ} {K : Kind} {f g : Found} (n : ℕ) → Same k K f g → Pair k K (settled f n) (settled g n)
 unfolding settled
-settled-same {k} {K} n (both {v = v} {w = w} {c = c} a) =
-    let f : Found = record { value = v; way = c } in
-    let g : Found = record { value = w; way = c } in
+settled-same {k} {K} n (both {v = v} {w = w} {r = r} {c = c} a) =
+    let f : Found = record { value = v; road = r; way = c } in
+    let g : Found = record { value = w; road = r; way = c } in
     subst₂ (λ p q. Pair k K (cond p (Value f) (Refused n)) (cond q (Value g) (Refused n))) (sym (finite-is (a .first)))
     (sym (finite-is (a .second)))
     (yes a)
@@ -47,9 +48,9 @@ settled-same n lost = no
 pub late-same : {k : ℕ} {K : Kind} {f g : Found} (n : ℕ) → Same k K f g
     → Pair k K (settledLate f false false n) (settledLate g false false n)
 unfolding settledLate
-late-same {k} {K} n (both {v = v} {w = w} {c = c} a) =
-    let f : Found = record { value = v; way = c } in
-    let g : Found = record { value = w; way = c } in
+late-same {k} {K} n (both {v = v} {w = w} {r = r} {c = c} a) =
+    let f : Found = record { value = v; road = r; way = c } in
+    let g : Found = record { value = w; road = r; way = c } in
     subst₂ (λ p q. Pair k K (cond p (Value f) (Refused n)) (cond q (Value g) (Refused n))) (sym (finite-is (a .first)))
     (sym (finite-is (a .second)))
     (yes a)

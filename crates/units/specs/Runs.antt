@@ -10,8 +10,10 @@ use lib.Ieee.{Float, nan, binary64}
 use Rattle.scaling.specs.Kind.{Kind, within}
 use Rattle.scaling.specs.Two.{Two}
 use Rattle.scaling.specs.One.{widen-two}
-use Rattle.carlson.specs.Answer.{wayOf, closedAt, carriedAt, agmAt, duplicationAt, jointAt}
+use Rattle.carlson.specs.Answer.{wayOf, closedAt, carriedAt, agmAt, duplicationAt, duplicationOver, jointAt}
 use Rattle.carlson.specs.Loop.{capped}
+use Rattle.carlson.specs.declared.answer.Road.{Road}
+use Rattle.carlson.specs.declared.answer.Road.the-variants.{Closed, Agm, Duplication, Joint}
 use Rattle.carlson.specs.declared.answer.Way.{Way}
 use Rattle.carlson.specs.declared.answer.Found.{Found}
 
@@ -19,10 +21,11 @@ use Rattle.carlson.specs.declared.answer.Found.{Found}
 abbrev pub Fair : ℕ → Kind → Float → Float → Type 0
 Fair k K v w = ((v ≡ nan) × (w ≡ nan)) ⊎ Two binary64 k K v w
 
--- with a way, which is the same
+-- with a road and a way, which are the same
 pub data Same (k : ℕ) (K : Kind) : Found → Found → Type 0 where
-  both : {v w : Float} {c : Way} → Two binary64 k K v w → Same k K (record { value = v; way = c }) (record { value = w; way = c })
-  lost : {c : Way} → Same k K (record { value = nan; way = c }) (record { value = nan; way = c })
+  both : {v w : Float} {r : Road} {c : Way} → Two binary64 k K v w
+      → Same k K (record { value = v; road = r; way = c }) (record { value = w; road = r; way = c })
+  lost : {r : Road} {c : Way} → Same k K (record { value = nan; road = r; way = c }) (record { value = nan; road = r; way = c })
 
 -- what the two found, alone, and that their ways are one
 pub value-fair : {k : ℕ} {K : Kind} {f g : Found} → Same k K f g → Fair k K (f .value) (g .value)
@@ -33,12 +36,13 @@ pub same-way : {k : ℕ} {K : Kind} {f g : Found} → Same k K f g → f .way �
 same-way (both a) = refl
 same-way lost = refl
 
--- ---- of whatever is made with one way
-pub made : {k : ℕ} {K : Kind} {v w : Float} (c : Way) → Fair k K v w
-    → Same k K (record { value = v; way = c }) (record { value = w; way = c })
-made {k} {K} c (inl p) = subst₂ (λ a b. Same k K (record { value = a; way = c }) (record { value = b; way = c })) (sym (p .0))
+-- ---- of whatever is made with one road and one way
+pub made : {k : ℕ} {K : Kind} {v w : Float} (r : Road) (c : Way) → Fair k K v w
+    → Same k K (record { value = v; road = r; way = c }) (record { value = w; road = r; way = c })
+made {k} {K} r c (inl p) =
+    subst₂ (λ a b. Same k K (record { value = a; road = r; way = c }) (record { value = b; road = r; way = c })) (sym (p .0))
     (sym (p .1)) lost
-made c (inr a) = both a
+made r c (inr a) = both a
 
 pub closed : {k : ℕ} {K : Kind} {v w : Float} → Two binary64 k K v w → Same k K (closedAt v) (closedAt w)
 unfolding closedAt
@@ -46,26 +50,34 @@ closed a = both a
 
 pub fair : {k : ℕ} {K : Kind} {v w : Float} → Fair k K v w → Same k K (closedAt v) (closedAt w)
 unfolding closedAt
-fair a = made (wayOf 0) a
+fair a = made Closed (wayOf 0) a
 
 -- a formula of what was found on ways that are the same
 pub carried : {k : ℕ} {K : Kind} {v w : Float} {c d : Way} → c ≡ d → Fair k K v w → Same k K (carriedAt v c) (carriedAt w d)
 unfolding carriedAt
-carried {k} {K} {v} {w} {c} e a = subst (λ d. Same k K (record { value = v; way = c }) (record { value = w; way = d })) e
-    (made c a)
+carried {k} {K} {v} {w} {c} e a =
+    subst (λ d. Same k K (record { value = v; road = Closed; way = c }) (record { value = w; road = Closed; way = d })) e
+    (made Closed c a)
 
 -- the loops count their passes
 pub mean : {k : ℕ} {K : Kind} {v w : Float} (c : ℕ) → Fair k K v w → Same k K (agmAt v c) (agmAt w c)
 unfolding agmAt
-mean c a = made (wayOf c) a
+mean c a = made Agm (wayOf c) a
 
 pub duplicated : {k : ℕ} {K : Kind} {v w : Float} (c : ℕ) → Fair k K v w → Same k K (duplicationAt v c) (duplicationAt w c)
 unfolding duplicationAt
-duplicated c a = made (wayOf c) a
+duplicated c a = made Duplication (wayOf c) a
+
+-- and RJ's the rescalings, as many in both
+pub duplicated-over : {k : ℕ} {K : Kind} {v w : Float} (c : ℕ) {m n : ℕ} → m ≡ n → Fair k K v w
+    → Same k K (duplicationOver v c m) (duplicationOver w c n)
+unfolding duplicationOver
+duplicated-over {k} {K} {v} {w} c {m} e a = subst (λ n. Same k K (duplicationOver v c m) (duplicationOver w c n)) e
+    (made Duplication (record { rounds = c; rescalings = m }) a)
 
 pub jointly : {k : ℕ} {K : Kind} {v w : Float} (c : ℕ) → Fair k K v w → Same k K (jointAt v c) (jointAt w c)
 unfolding jointAt
-jointly c a = made (wayOf c) a
+jointly c a = made Joint (wayOf c) a
 
 -- neither is a number
 pub neither : {k : ℕ} {K : Kind} → Fair k K nan nan

@@ -12,6 +12,7 @@ use Rattle.binary64.specs.Leaves.{absolute}
 use Rattle.binary64.specs.Operators.{bits}
 use Rattle.scaling.specs.One.{sign}
 use Rattle.carlson.specs.Constants.{zero}
+use Rattle.carlson.specs.declared.answer.Road.{Road}
 use Rattle.carlson.specs.declared.answer.Way.{Way}
 use Rattle.carlson.specs.declared.answer.Answer.{Answer}
 use Rattle.carlson.specs.declared.answer.Answer.the-variants.{Value, Refused}
@@ -40,9 +41,9 @@ pub record Times (u d : ℕ) (x y : Float) : Type 0 where
 abbrev pub TimesFour : ℕ → ℕ → Float → Float → Type 0
 TimesFour u d x y = Times (2 * u) (2 * d) x y
 
--- Two answers are alike: both refused with one number, or both values found on one way, with one round count, the second value
--- being the first times 2 ^ u / 2 ^ d.
+-- Two answers are alike: both refused with one number, or both values found on one road, with one round count and as many
+-- rescalings (document 02, 2026-04), the second value being the first times 2 ^ u / 2 ^ d.
 pub data Alike (u d : ℕ) : Answer → Answer → Type 0 where
   refused : {n : ℕ} → Alike u d (Refused n) (Refused n)
-  values : {v w : Float} {c : Way} → Times u d v w → Alike u d (Value (record { value = v; way = c }))
-      (Value (record { value = w; way = c }))
+  values : {v w : Float} {r : Road} {c : Way} → Times u d v w → Alike u d (Value (record { value = v; road = r; way = c }))
+      (Value (record { value = w; road = r; way = c }))

@@ -15,6 +15,8 @@ use Rattle.root.specs.Root.{root}
 use Rattle.series.specs.Atan.{atan}
 use Rattle.series.specs.Ln.{ln}
 use Rattle.carlson.specs.Constants.{zero, one, two, half}
+use Rattle.carlson.specs.Answer.{closedAt, carriedAt}
+use Rattle.carlson.specs.declared.answer.Found.{Found}
 use Rattle.elliprc.specs.Rc.{rcUnchecked}
 use Rattle.polynomial.specs.Polynomial.{horner}
 use Rattle.rj_positive.specs.Helper.{byAtan1p, byLogs1p, byRc1p, byLn1p, rc1p}
@@ -43,6 +45,10 @@ ratioOfK = record { any = true; zer = true; lo = 0; hi = 2 ^ 1090; g = 0; u = 0;
 
 abbrev pub termK : Kind
 termK = record { any = false; zer = false; lo = 2 ^ 884; hi = 2 ^ 1230; g = last binary64 (2 ^ 884); u = 0; d = 0 }
+
+-- what two terms found, by their values
+abbrev pub FairTerm : ℕ → Found → Found → Type 0
+FairTerm k f g = Fair k termK (f .value) (g .value)
 
 -- a size from 1/128 to 2 ^ 16
 abbrev sizeK : Kind
@@ -123,8 +129,8 @@ unfolding mulK mulOk within
 by-root {r = r} R (inl e) = let g = ap (λ a. r ⊗ a) (e .0) ∙ mul-nan binary64 r in inl (g, g)
 by-root R (inr v) = inr (widen-two (mul-two R v tt) tt)
 
-by-rc : {k : ℕ} (y : Float) → Two binary64 k largeK (neg y) (neg y) → Fair k termK (byRc1p y) (byRc1p y)
-unfolding byRc1p sub divK divOk rootK rootOk nudgeK nudgeOk within litOk ofBits
+by-rc : {k : ℕ} (y : Float) → Two binary64 k largeK (neg y) (neg y) → Fair k termK (byRc1p y .value) (byRc1p y .value)
+unfolding byRc1p carriedAt sub divK divOk rootK rootOk nudgeK nudgeOk within litOk ofBits
 by-rc y N =
     let r = root-two (div-two (lit-two one tt) N tt) tt in
     let q = nudge-last-two (neg-two (lit-two one tt)) N tt in
@@ -226,7 +232,7 @@ module _ {k : ℕ} {y : Float} (Y : Two binary64 k ratioOfK y y) where
       minus-half = lit-is binary64 (neg half) tt
 
       below-one : T (lt y (neg one)) → (T (lt y (neg half)) → T (not (lt (neg (bits 0x3FF8_0000_0000_0000)) y)))
-          → Fair k termK (byRc1p y) (byRc1p y)
+          → Fair k termK (byRc1p y .value) (byRc1p y .value)
       unfolding litOk ofBits neg
       below-one t h =
           let one-is : Is binary64 (neg one) true (2 ^ 1074) = lit-is binary64 (neg one) tt in
@@ -261,12 +267,13 @@ module _ {k : ℕ} {y : Float} (Y : Two binary64 k ratioOfK y y) where
           rest : one ⊕ neg half ≡ half
           rest = unfold add ofBits neg in refl
 
-  pub rc1p-fair : (T (lt y (neg half)) → T (not (lt (neg (bits 0x3FF8_0000_0000_0000)) y))) → Fair k termK (rc1p y) (rc1p y)
-  unfolding rc1p within litOk ofBits
+  pub rc1p-fair : (T (lt y (neg half)) → T (not (lt (neg (bits 0x3FF8_0000_0000_0000)) y)))
+      → Fair k termK (rc1p y .value) (rc1p y .value)
+  unfolding rc1p closedAt within litOk ofBits
   rc1p-fair h =
-      choose (Fair k termK) (le (absolute y) hundredth) (le (absolute y) hundredth) refl near-zero
-      (λ far. choose (Fair k termK) (lt zero y) (lt zero y) refl (above-zero far)
-      (λ low. choose (Fair k termK) (eq y zero) (eq y zero) refl (λ e. inr (widen-two (lit-two one tt) tt))
-      (λ e. choose (Fair k termK) (lt (neg half) y) (lt (neg half) y) refl (λ t. above-half far low)
-      (λ t. choose (Fair k termK) (lt y (neg one)) (lt y (neg one)) refl (λ u. below-one far low u h)
+      choose (FairTerm k) (le (absolute y) hundredth) (le (absolute y) hundredth) refl near-zero
+      (λ far. choose (FairTerm k) (lt zero y) (lt zero y) refl (above-zero far)
+      (λ low. choose (FairTerm k) (eq y zero) (eq y zero) refl (λ e. inr (widen-two (lit-two one tt) tt))
+      (λ e. choose (FairTerm k) (lt (neg half) y) (lt (neg half) y) refl (λ t. above-half far low)
+      (λ t. choose (FairTerm k) (lt y (neg one)) (lt y (neg one)) refl (λ u. below-one far low u h)
       (λ u. at-half far low t u h)))))

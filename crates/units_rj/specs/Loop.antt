@@ -13,7 +13,7 @@ use Rattle.rj_positive.specs.Duplicate.{rjMean, rjStart, rjBegin, rjStep, rjClo
 use Rattle.rj_positive.specs.declared.duplicate.Round.{Round}
 use Rattle.scaling.specs.Kind.{Kind}
 use Rattle.scaling.specs.Two.{Two}
-use Rattle.units.specs.Runs.{Same, duplicated, neither, loops-two}
+use Rattle.units.specs.Runs.{Same, duplicated-over, neither, loops-two}
 use Rattle.units_rd.specs.Mean.{argK, Arg, some, some?}
 use Rattle.units_rd.specs.Gaps.{gap}
 use Rattle.units_rj.specs.Step.{Whole, step-whole}
@@ -58,7 +58,7 @@ module _ {k : ℕ} {x x' y y' z z' p p' : Float} (a : Arg k x x') (b : Arg k y y
       (e .0) (e .1) in
       let Z = correction-two j A₀ A₀' z z' h (i .a) (i .w) (gap (mean a b c P t) c .two) (S .M) (S .M') (S .third) (S .third')
       (e .0) (e .1) in
-      duplicated n (series-fair j s s' x x' y y' z z' A₀ A₀' h (i .a) (i .w) (i .sum) X Y Z)
+      duplicated-over n (i .rescalings) (series-fair j s s' x x' y y' z z' A₀ A₀' h (i .a) (i .w) (i .sum) X Y Z)
 
   pass : (j : ℕ) (s s' : Round) → j < 99 → Whole k (suc j) s s' → Whole k j (rjStep s) (rjStep s')
   pass j s s' l w = step-whole (let r : j < 100 = omega arith in r) w
@@ -74,6 +74,6 @@ module _ {k : ℕ} {x x' y y' z z' p p' : Float} (a : Arg k x x') (b : Arg k y y
       (same-test 99 s s' (lit< tt) i)
       (loops-two rjStep rjStep (rjClose q) (rjClose q') (rjFound x y z A₀) rjSpent (rjFound x' y' z' A₀') rjSpent
       (Same k valueK) (Whole k) 99 pass
-      (λ j s s' l w. same-test j s s' (let r : j < 101 = omega arith in r) w) ends (λ s s' n w. duplicated n neither) 99
+      (λ j s s' l w. same-test j s s' (let r : j < 101 = omega arith in r) w) ends (λ s s' n w. duplicated-over n (w .inv .rescalings) neither) 99
       (rjClose q s) s s' 1
       (le-refl 99) (λ u. u) i)

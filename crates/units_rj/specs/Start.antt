@@ -290,6 +290,7 @@ module _ {k : ℕ} {x x' y y' z z' p p' : Float} (a : Arg k x x') (b : Arg k y y
         delta = D .two;
         w = widen-two (lit-two one tt) tt;
         sum = inr (nothing-two (sumsK 100) (record { s = false; first = zero-is binary64; second = zero-is binary64 }) refl tt);
+        rescalings = refl;
         small = D .small;
         small' = D .small';
       }

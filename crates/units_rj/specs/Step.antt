@@ -1,8 +1,8 @@
 -- A pass of RJ's duplication in two runs: what it keeps. Assumes nothing.
-use mathlib.Core.Path.{_≡_, refl, sym, ap, _∙_, subst, subst₂}
+use mathlib.Core.Path.{_≡_, refl, sym, ap, ap₂, _∙_, subst, subst₂}
 use mathlib.Core.Logic.{_⊎_, inl, inr}
 use mathlib.Core.List.{[], _∷_}
-use Prim.Native.Nat.{ℕ, suc, _+_, _-_, _*_, _^_, _≤_, _<_}
+use Prim.Native.Nat.{ℕ, suc, _+_, _-_, _*_, _%_, _^_, _≤_, _<_}
 use native.Mathlib.Nat.{le-trans, le-of-eq, le-of-mul-le-mul-left, mul-le-mul, zero-lt-suc, mul-pos}
 use native.Mathlib.Omega.{arith}
 use mathlib.Core.Bool.{Bool, true, false, _&&_, cond}
@@ -15,9 +15,10 @@ use Rattle.binary64.specs.Operators.{_⊕_, _⊗_, _⊘_, bits}
 use Rattle.root.specs.Root.{root}
 use Rattle.carlson.specs.Constants.{one, four, half}
 use Rattle.carlson.specs.Common.{lambdaOf}
+use Rattle.carlson.specs.declared.answer.Found.{Found}
 use Rattle.elliprc.specs.Rc.{rcUnchecked}
 use Rattle.rj_positive.specs.Helper.{rc1p}
-use Rattle.rj_positive.specs.Duplicate.{rjDenominator, rjRatio, rjMiddle, rjTerm, rjMoved, rjWith, rjStep}
+use Rattle.rj_positive.specs.Duplicate.{rjDenominator, rjRatio, rjMiddle, rjTerm, rjRescalings, rjMoved, rjWith, rjStep}
 use Rattle.rj_positive.specs.declared.duplicate.Round.{Round}
 use Rattle.rj_positive.specs.declared.duplicate.Roots.{Roots}
 use Rattle.scaling.specs.Near.{near, near-same, near-zero}
@@ -34,34 +35,34 @@ use Rattle.units.specs.Runs.{Fair}
 use Rattle.units_rd.specs.Lead.{part}
 use Rattle.units_rd.specs.Mean.{meanK}
 use Rattle.units_rd.specs.Step.{lambdaK, quarter-two, mean-fourth, roots-two, lambda-two}
-use Rattle.units_rj.specs.Helper.{ratioOfK, termK, rc1p-fair}
+use Rattle.units_rj.specs.Helper.{ratioOfK, termK, FairTerm, rc1p-fair}
 use Rattle.units_rj.specs.Middle.{middleK, middle-fair}
 use Rattle.units_rj.specs.Pass.{l, l-pos}
 use Rattle.units_rj.specs.Ratio.{denominatorK, deltaK, taken, denominatorOf, denominatorOf', denominator-two, normal, ratio-two, middle-two}
 
 -- ---- what RC gives, at floats that are the same in both runs
-pub term-fair : {k : ℕ} (e e' b b' : Float) → Two binary64 k ratioOfK e e' → Two binary64 k middleK b b'
-    → Fair k termK (cond (lt e (neg half)) (cond (lt (neg (bits 0x3FF8_0000_0000_0000)) e) (rcUnchecked one b .value) (rc1p e))
-    (rc1p e))
-    (cond (lt e' (neg half)) (cond (lt (neg (bits 0x3FF8_0000_0000_0000)) e') (rcUnchecked one b' .value) (rc1p e')) (rc1p e'))
-term-fair {k} e e' b b' E B =
-    subst₂
-    (λ i j. Fair k termK (cond (lt e (neg half)) (cond (lt (neg (bits 0x3FF8_0000_0000_0000)) e) (rcUnchecked one b .value)
-    (rc1p e)) (rc1p e))
-    (cond (lt i (neg half)) (cond (lt (neg (bits 0x3FF8_0000_0000_0000)) i) (rcUnchecked one j .value) (rc1p i)) (rc1p i)))
-    (same-float E refl)
-    (same-float B refl)
-    (choose (Fair k termK) (lt e (neg half)) (lt e (neg half)) refl
-    (λ t. choose (Fair k termK) (lt (neg (bits 0x3FF8_0000_0000_0000)) e) (lt (neg (bits 0x3FF8_0000_0000_0000)) e) refl
-    (λ u. middle-fair B₀)
-    (λ u. rc1p-fair E₀ (λ q. u)))
-    (λ t. rc1p-fair E₀ (λ q. absurd (T-not (lt e (neg half)) t q))))
-  where
-    E₀ : Two binary64 k ratioOfK e e
-    E₀ = subst (λ i. Two binary64 k ratioOfK e i) (sym (same-float E refl)) E
+abbrev termOf : Float → Float → Found
+termOf e b =
+    cond (lt e (neg half)) (cond (lt (neg (bits 0x3FF8_0000_0000_0000)) e) (rcUnchecked one b) (rc1p e)) (rc1p e)
 
-    B₀ : Two binary64 k middleK b b
-    B₀ = subst (λ i. Two binary64 k middleK b i) (sym (same-float B refl)) B
+module _ {k : ℕ} (e e' b b' : Float) (E : Two binary64 k ratioOfK e e') (B : Two binary64 k middleK b b') where
+  pub term-same : termOf e b ≡ termOf e' b'
+  term-same = ap₂ termOf (same-float E refl) (same-float B refl)
+
+  pub term-fair : FairTerm k (termOf e b) (termOf e' b')
+  term-fair =
+      subst (λ f. FairTerm k (termOf e b) f) term-same
+      (choose (FairTerm k) (lt e (neg half)) (lt e (neg half)) refl
+      (λ t. choose (FairTerm k) (lt (neg (bits 0x3FF8_0000_0000_0000)) e) (lt (neg (bits 0x3FF8_0000_0000_0000)) e) refl
+      (λ u. middle-fair B₀)
+      (λ u. rc1p-fair E₀ (λ q. u)))
+      (λ t. rc1p-fair E₀ (λ q. absurd (T-not (lt e (neg half)) t q))))
+    where
+      E₀ : Two binary64 k ratioOfK e e
+      E₀ = subst (λ i. Two binary64 k ratioOfK e i) (sym (same-float E refl)) E
+
+      B₀ : Two binary64 k middleK b b
+      B₀ = subst (λ i. Two binary64 k middleK b i) (sym (same-float B refl)) B
 
 -- ---- kinds, with j passes left
 abbrev pub fourthK : ℕ → Kind
@@ -223,6 +224,7 @@ pub record Inv (k j : ℕ) (s s' : Round) : Type 0 where
   pub delta : Two binary64 k (productK j) (s .delta) (s' .delta)
   pub w : Two binary64 k (fourthK j) (s .fmn) (s' .fmn)
   pub sum : Fair k (sumsK j) (s .sum) (s' .sum)
+  pub rescalings : s .rescalings ≡ s' .rescalings
   pub small : delta .m * (l * l) ≤ 4 * ((p .m + units x) * (p .m + units y) * (p .m + units z))
   pub small' : delta .n * (l * l) ≤ 4 * ((p .n + units' x) * (p .n + units' y) * (p .n + units' z))
 
@@ -269,29 +271,46 @@ module _ {k j : ℕ} {s s' : Round} (h : j < 100) (i : Inv k (suc j) s s') (L : 
   unfolding rjRatio
   ratio-is s d t r = taken (le (bits 0x0010_0000_0000_0000) (d ⊗ d)) (s .delta ⊘ (d ⊗ d)) _ t
 
-  added : Fair k addedK (s .fmn ⊘ rjDenominator (roots s) ⊗ rjTerm (s .pn) (roots s) (rjDenominator (roots s))
-      (rjRatio s (roots s) (rjDenominator (roots s))))
-      (s' .fmn ⊘ rjDenominator (roots s') ⊗ rjTerm (s' .pn) (roots s') (rjDenominator (roots s'))
-      (rjRatio s' (roots s') (rjDenominator (roots s'))))
+  abbrev termAt : Round → Found
+  termAt s = rjTerm (s .pn) (roots s) (rjDenominator (roots s)) (rjRatio s (roots s) (rjDenominator (roots s)))
+
+  -- at the two ratios, past their tests
+  past : (R : Found → Found → Type 0)
+      → (let d = denominatorOf (i .p) (i .x) (i .y) (i .z) in
+      let d' = denominatorOf' (i .p) (i .x) (i .y) (i .z) in
+      R (termOf (s .delta ⊘ (d ⊗ d)) (rjMiddle (s .pn) (roots s) d)) (termOf (s' .delta ⊘ (d' ⊗ d')) (rjMiddle (s' .pn) (roots s') d')))
+      → R (termAt s) (termAt s')
   unfolding rjDenominator rjTerm rjMiddle
-  added =
+  past R r =
       let t = normal (i .p) (i .x) (i .y) (i .z) in
       let d = denominatorOf (i .p) (i .x) (i .y) (i .z) in
       let d' = denominatorOf' (i .p) (i .x) (i .y) (i .z) in
-      let E = ratio-two (i .p) (i .x) (i .y) (i .z) wide-delta small-wide small-wide' in
-      subst₂ (λ e e'. Fair k addedK (s .fmn ⊘ d ⊗ rjTerm (s .pn) (roots s) d e) (s' .fmn ⊘ d' ⊗ rjTerm (s' .pn) (roots s') d' e'))
-      (sym (ratio-is s d (t .0) (roots s)))
+      subst₂ (λ e e'. R (rjTerm (s .pn) (roots s) d e) (rjTerm (s' .pn) (roots s') d' e')) (sym (ratio-is s d (t .0) (roots s)))
       (sym (ratio-is s' d' (t .1) (roots s')))
-      (added-fair (widen-two (i .w) (any-fourth (suc j) j₁)) (denominator-two (i .p) (i .x) (i .y) (i .z))
-      (term-fair (s .delta ⊘ (d ⊗ d)) (s' .delta ⊘ (d' ⊗ d')) (rjMiddle (s .pn) (roots s) d) (rjMiddle (s' .pn) (roots s') d') E
-      (middle-two (i .p) (i .x) (i .y) (i .z))))
+      r
+
+  E : (let d = denominatorOf (i .p) (i .x) (i .y) (i .z) in
+      let d' = denominatorOf' (i .p) (i .x) (i .y) (i .z) in
+      Two binary64 k ratioOfK (s .delta ⊘ (d ⊗ d)) (s' .delta ⊘ (d' ⊗ d')))
+  E = ratio-two (i .p) (i .x) (i .y) (i .z) wide-delta small-wide small-wide'
+
+  -- the terms are the same, in both runs
+  terms : termAt s ≡ termAt s'
+  unfolding rjMiddle
+  terms = past _≡_ (term-same _ _ _ _ E (middle-two (i .p) (i .x) (i .y) (i .z)))
+
+  added : Fair k addedK (s .fmn ⊘ rjDenominator (roots s) ⊗ termAt s .value) (s' .fmn ⊘ rjDenominator (roots s') ⊗ termAt s' .value)
+  unfolding rjDenominator rjMiddle
+  added =
+      added-fair (widen-two (i .w) (any-fourth (suc j) j₁)) (denominator-two (i .p) (i .x) (i .y) (i .z))
+      (past (FairTerm k) (term-fair _ _ _ _ E (middle-two (i .p) (i .x) (i .y) (i .z))))
 
   spare : T (leb (2 ^ 59) (2 ^ (120 + 6 * suc j)))
   unfolding spareOk
   spare = spares (suc j) j₁
 
   pub pass : Inv k j (rjStep s) (rjStep s')
-  unfolding rjStep rjWith rjMoved fourthOk productOk fourK sixtyFourK litOk ofBits widen-two div-two lit-two
+  unfolding rjStep rjWith rjMoved rjRescalings fourthOk productOk fourK sixtyFourK litOk ofBits widen-two div-two lit-two
   pass = record {
     x = some (X .two);
     y = some (Y .two);
@@ -304,6 +323,7 @@ module _ {k j : ℕ} {s s' : Round} (h : j < 100) (i : Inv k (suc j) s s') (L : 
     w = widen-two (div-two (i .w) (lit-two four tt) (and-l (divOk binary64 (fourthK (suc j)) fourK) _ (fourths j h)))
         (and-r (divOk binary64 (fourthK (suc j)) fourK) _ (fourths j h));
     sum = sum-fair j h (i .sum) added;
+    rescalings = ap₂ (λ m n. (m + n) % 2 ^ 32) (i .rescalings) (ap (λ f. f .way .rescalings) terms);
     small = small-kept (i .delta .m) _ _ _ _ _ _ _ (sixty-fourth (i .delta .m) (digits-of (i .delta .first))
         (many (i .delta .in-first) spare))
         (pair-falls (i .p .m) (units (i .x)) (P .two .m) (X .two .m) (P .more) (X .more))

@@ -4,6 +4,7 @@ use binary64::split;
 use calls::Call;
 use carlson::answer::Answer;
 use carlson::answer::Found;
+use carlson::answer::road_number;
 ghost use Prim.Native.Nat.{_+_, _≤_, _<_};
 
 const TOP: u64 = 0x8000_0000_0000_0000; // the sign's weight in a pattern
@@ -155,6 +156,14 @@ fn values_alike(call: Call, j: u64, first: Found, second: Found) -> bool
     if first.way.rounds != second.way.rounds {
         return false;
     }
+    if first.way.rescalings != second.way.rescalings {
+        return false;
+    }
+    let road = first.road;
+    let other = second.road;
+    if road_number(road) != road_number(other) {
+        return false;
+    }
     let x = split(first.value);
     let y = split(second.value);
     match call {
@@ -166,7 +175,8 @@ fn values_alike(call: Call, j: u64, first: Found, second: Found) -> bool
     }
 }
 
-// Both are refused with one number, or have one count and values as far apart as the entry's weight says.
+// Both are refused with one number, or have one road, one count and as many rescalings, and values as far apart as the entry's
+// weight says.
 fn compare(call: Call, j: u64, first: Answer, second: Answer) -> Verdict
     requires { ⌜ j ≤ 128 ⌝ }
 {

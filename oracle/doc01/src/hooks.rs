@@ -1,7 +1,7 @@
-//! What the hooked bodies call: the count of rounds, the AGM cap and the depth of RJ.
+//! What the hooked bodies call: the count of rounds, the AGM cap, the depth of RJ, the road and the rescalings.
 //! A limit that is met leaves the Rust by unwinding, so that it is never run where it would not end.
 
-use std::cell::Cell;
+use std::cell::{Cell, RefCell};
 use std::panic::resume_unwind;
 
 /// Document 01, "Rounds": the AGM passes that the port allows RD and RG.
@@ -14,6 +14,9 @@ thread_local! {
     static DEPTH: Cell<u32> = const { Cell::new(0) };
     static DEEPEST: Cell<u32> = const { Cell::new(0) };
     static SERIES: Cell<bool> = const { Cell::new(false) };
+    static RESCALINGS: Cell<u32> = const { Cell::new(0) };
+    static OPEN: RefCell<Vec<Open>> = const { RefCell::new(Vec::new()) };
+    static ROAD: Cell<Road> = const { Cell::new(Road::Infinite) };
     static THEIRS: Cell<Theirs> = const { Cell::new(Theirs::Nothing) };
 }
 
@@ -46,6 +49,9 @@ pub fn start() {
     DEPTH.set(0);
     DEEPEST.set(0);
     SERIES.set(false);
+    RESCALINGS.set(0);
+    OPEN.with_borrow_mut(Vec::clear);
+    ROAD.set(Road::Infinite);
 }
 
 pub fn count() -> u32 {
@@ -58,6 +64,15 @@ pub fn deepest() -> u32 {
 
 pub fn went_through_series() -> bool {
     SERIES.get()
+}
+
+pub fn rescalings() -> u32 {
+    RESCALINGS.get()
+}
+
+/// The road of the outermost part; infinite where none was asked.
+pub fn road() -> Road {
+    ROAD.get()
 }
 
 /// A round.
@@ -75,6 +90,7 @@ pub struct Agm(u32);
 
 impl Agm {
     pub fn new() -> Agm {
+        takes(Road::Agm);
         Agm(0)
     }
 
@@ -106,6 +122,72 @@ impl Drop for RjCall {
     fn drop(&mut self) {
         DEPTH.set(DEPTH.get() - 1);
     }
+}
+
+/// Document 02, 2026-04: which formula answered.
+#[derive(Clone, Copy, Debug, PartialEq, Eq, PartialOrd, Ord)]
+pub enum Road {
+    Closed,
+    Infinite,
+    Agm,
+    Duplication,
+    Joint,
+    Taylor,
+    Reduction,
+}
+
+/// A part of an entry that is at work: the road it is on, and whether the next part that it asks will give its whole answer.
+struct Open {
+    road: Road,
+    hands_over: bool,
+}
+
+/// One call of a part, while it lasts. It is a formula until it turns out to be something else.
+pub struct Part;
+
+impl Part {
+    pub fn enter() -> Part {
+        OPEN.with_borrow_mut(|open| open.push(Open { road: Road::Closed, hands_over: false }));
+        Part
+    }
+}
+
+impl Drop for Part {
+    fn drop(&mut self) {
+        OPEN.with_borrow_mut(|open| {
+            let Some(done) = open.pop() else { return };
+            match open.last_mut() {
+                None => ROAD.set(done.road),
+                Some(asker) if asker.hands_over => *asker = Open { road: done.road, hands_over: false },
+                Some(_) => {}
+            }
+        });
+    }
+}
+
+fn of_the_open_part(change: impl FnOnce(&mut Open)) {
+    OPEN.with_borrow_mut(|open| open.last_mut().map(change));
+}
+
+pub fn takes(road: Road) {
+    of_the_open_part(|part| part.road = road);
+}
+
+pub fn hands_over() {
+    of_the_open_part(|part| part.hands_over = true);
+}
+
+pub fn rescales() {
+    RESCALINGS.set(RESCALINGS.get() + 1);
+    hands_over();
+}
+
+pub fn reduces() {
+    takes(Road::Reduction);
+}
+
+pub fn expands() {
+    takes(Road::Taylor);
 }
 
 fn leave(number: u32) -> ! {

@@ -1,5 +1,5 @@
-//! The crate's five Carlson files over document 01's leaves, and what document 01 says of a call: value and count, or a
-//! number for no. The bodies carry hooks (numeric_literals_hooked); `judge` asks the entries and reads the hooks.
+//! The crate's five Carlson files over document 01's leaves, and what document 01 says of a call: value, count, road and
+//! rescalings, or a number for no. The bodies carry hooks (numeric_literals_hooked); `judge` asks the entries and reads the hooks.
 
 include!("../../frame.rs");
 
@@ -15,7 +15,7 @@ mod start;
 
 use polyeval::polyeval;
 
-pub use hooks::{with, Theirs};
-pub use judge::{rc, rd, rf, rg, rj, Answer, Judged};
+pub use hooks::{with, Road, Theirs};
+pub use judge::{rc, rd, rf, rg, rj, Answer, Judged, Way};
 pub use numbers::refusal;
 pub use power::neg_three_halves;

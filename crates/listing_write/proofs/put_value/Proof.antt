@@ -1,4 +1,4 @@
--- `put_value` meets its contract: a blank, the digits, a blank, the count. Assumes nothing.
+-- `put_value` meets its contract: a blank, the digits, a blank, the way. Assumes nothing.
 use Prim.Native.Nat.{ℕ, _+_}
 use mathlib.Core.Path.{_≡_}
 use mathlib.Core.List.{List}
@@ -10,7 +10,7 @@ use lib.ListN.{length, set, length-set}
 use Rattle.carlson.specs.declared.answer.Found.{Found}
 use Rattle.digits.specs.Digits.{digits}
 use Rattle.digits.specs.Digits.{wordText}
-use Rattle.listing_write.specs.Text.{countText, valueText}
+use Rattle.listing_write.specs.Text.{wayText, valueText}
 use Rattle.writing.specs.Written.{Put, tried-put, put-more, put-length, put-byte}
 use Rattle.writing.specs.Places.{spelled-place}
 use Rattle.listing_write.proofs.put_value.Statement.{statement}
@@ -19,7 +19,7 @@ use Rattle.listing_write.proofs.put_value.Tie as tie
 valued :
     (f : Found) (o o′ out : List ℕ) (at bits end next : ℕ) → bits ≡ toBits binary64 (f .value)
     → Put (set o at 32) (at + 1) (digits 16 16 bits) o′ end
-    → Put (set o′ end 32) (end + 1) (countText (f .way .rounds)) out next → Put o at (valueText f) out next
+    → Put (set o′ end 32) (end + 1) (wayText f) out next → Put o at (valueText f) out next
 unfolding valueText wordText
 valued f o o′ out at bits end next e p q = put-more (put-more (put-byte o at 32) (rw e at p)) (put-more (put-byte o′ end 32) q)
 
@@ -47,7 +47,7 @@ returns : tie.Need-returns
 returns c =
     let k = c .before .before in
     let w = k .before .before .before .before in
-    valued _ _ _ _ _ _ _ _ (w .before .before .split .ensures) (word w) (k .put-count .ensures)
+    valued _ _ _ _ _ _ _ _ (w .before .before .split .ensures) (word w) (k .put-way .ensures)
 
 pub put-value-spec : {M : Type 1} → statement M
 put-value-spec =

@@ -4,6 +4,8 @@
 //! - RF's AGM passes that replaced the means: a `for` whose `continue` follows the replacing; a hook before `continue`;
 //! - RD's and RG's AGM passes: a `while`, whose body always replaces the means; a hook at its head, which also keeps
 //!   the added cap and so has a counter of its own, declared before the `while`.
+//!
+//! A loop that is begun is also the road that is taken: every `for` begins a pass, a `while` may not.
 
 use crate::literals::regrouped;
 use proc_macro::{Delimiter, Group, TokenStream, TokenTree};
@@ -14,7 +16,8 @@ enum Loop {
     While,
 }
 
-pub fn hooked(stream: TokenStream) -> TokenStream {
+/// `road` is that of a `for` without `continue`.
+pub fn hooked(road: &str, stream: TokenStream) -> TokenStream {
     let mut out = TokenStream::new();
     // The loop whose head has been read and whose body, the next brace, has not.
     let mut head = None;
@@ -31,23 +34,27 @@ pub fn hooked(stream: TokenStream) -> TokenStream {
                 }
                 out.extend([TokenTree::Ident(word)]);
             }
-            TokenTree::Group(group) => out.extend([hooked_group(&mut head, &group)]),
+            TokenTree::Group(group) => out.extend([hooked_group(road, &mut head, &group)]),
             other => out.extend([other]),
         }
     }
     out
 }
 
-fn hooked_group(head: &mut Option<Loop>, group: &Group) -> TokenTree {
-    let inner = hooked(group.stream());
+fn hooked_group(road: &str, head: &mut Option<Loop>, group: &Group) -> TokenTree {
+    let inner = hooked(road, group.stream());
     let kind = if group.delimiter() == Delimiter::Brace { head.take() } else { None };
     let body = match kind {
         None => inner,
         Some(Loop::While) => headed("agm.pass();", inner),
-        Some(Loop::For) if continues(&inner) => before_continue(inner),
-        Some(Loop::For) => headed("crate::hooks::pass();", inner),
+        Some(Loop::For) if continues(&inner) => headed(&took("Agm"), before_continue(inner)),
+        Some(Loop::For) => headed(&format!("crate::hooks::pass(); {}", took(road)), inner),
     };
     regrouped(group, body)
+}
+
+fn took(road: &str) -> String {
+    format!("crate::hooks::takes(crate::hooks::Road::{road});")
 }
 
 fn headed(hook: &str, body: TokenStream) -> TokenStream {

@@ -10,5 +10,6 @@ gatewren-swing-spec =
     (λ c κs. tt)
     (λ c κs. tt)
     (λ c.
-    let e = sym (c .before .before .before .period .ensures .0) in
-    (rw e (c .told .ensures .0), (rw e (c .told .ensures .1 .0), rw e (c .told .ensures .1 .1)))))
+    let e = sym (c .before .before .before .before .before .period .ensures .0) in
+    let t = c .told .ensures in
+    (rw e (t .0), (rw e (t .1 .0), (rw e (t .1 .1 .0), (rw e (t .1 .1 .1 .0), rw e (t .1 .1 .1 .1)))))))

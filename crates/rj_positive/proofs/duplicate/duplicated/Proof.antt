@@ -4,7 +4,7 @@ use mathlib.Core.Path.{_≡_, refl, sym, ap, _∙_}
 use mathlib.Core.Bool.{false}
 use native.Mathlib.Omega.{arith}
 use lib.Ieee.{Float}
-use Rattle.carlson.specs.Answer.{duplicationAt}
+use Rattle.carlson.specs.Answer.{duplicationOver}
 use Rattle.carlson.specs.Loop.{capped, Left, left-begins, left-on, left-spent, left-found}
 use Rattle.rj_positive.specs.declared.duplicate.Round.{Round}
 use Rattle.rj_positive.specs.Duplicate.{rjCap, rjBegin, rjStart, rjStep, rjClose, rjFound, rjSpent, rjDuplication}
@@ -33,7 +33,7 @@ returns c =
     let a = c .before .before .before .before in
     let b = a .before .before .args in
     let g = a .before .begin in
-    c .duplication .ensures ∙ ap (λ (v : Float). duplicationAt v (l .n)) (c .before .not-a-number .ensures)
+    c .duplication-over .ensures ∙ ap (λ (v : Float). duplicationOver v (l .n) (l .at .rescalings)) (c .before .not-a-number .ensures)
     ∙ left-spent (l .inv) refl (c .before .before .if1 .taken)
     ∙ whole (b .x) (b .y) (b .z) (b .p) (a .start-of .result) (g .result) (g .ensures) (a .start-of .ensures)
 
@@ -44,7 +44,8 @@ returns-2 c =
     let a = k .before .before .before .before in
     let b = a .before .before .args in
     let g = a .before .begin in
-    c .duplication2 .ensures ∙ ap (λ (v : Float). duplicationAt v (l .n + 1)) (c .before .series .ensures)
+    c .duplication-over2 .ensures
+    ∙ ap (λ (v : Float). duplicationOver v (l .n + 1) (k .before .step .result .rescalings)) (c .before .series .ensures)
     ∙ left-found (left-on (l .inv) refl (omega arith) (k .before .step .ensures) (k .close .ensures))
     (c .before .before .if2 .taken)
     ∙ whole (b .x) (b .y) (b .z) (b .p) (a .start-of .result) (g .result) (g .ensures) (a .start-of .ensures)

@@ -5,4 +5,4 @@ use Rattle.rj_positive.proofs.duplicate.with_roots.Tie as tie
 
 pub with-roots-spec : {M : Type 1} → statement M
 unfolding rjWith
-with-roots-spec = tie.close (tie.spec (λ c κs. tt) (λ c κs. tt) (λ c κs. tt) (λ c κs. tt) (λ c κs. tt) (λ c. cc))
+with-roots-spec = tie.close (tie.spec (λ c κs. tt) (λ c κs. tt) (λ c κs. tt) (λ c κs. tt) (λ c κs. tt) (λ c κs. tt) (λ c. cc))

@@ -6,5 +6,4 @@ use Rattle.rj_positive.proofs.helper.by_rc.Tie as tie
 
 pub by-rc-spec : {M : Type 1} → statement M
 unfolding byRc1p
-by-rc-spec = tie.close (tie.spec (λ c κs. tt) (λ c κs. tt)
-    (λ c. rw (sym (c .before .before .elliprc-unchecked .ensures), sym (c .before .sqrt .ensures))))
+by-rc-spec = tie.close (tie.spec (λ c κs. tt) (λ c κs. tt) (λ c κs. tt) (λ c. cc))

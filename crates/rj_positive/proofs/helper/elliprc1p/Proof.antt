@@ -11,19 +11,37 @@ elliprc1p-spec =
     (tie.spec
     (λ c κs. tt)
     (λ c κs. tt)
-    (λ c. rw (sym (c .before .before .abs .ensures), c .before .if1 .taken) (c .polynomial .ensures))
-    (λ c κs. tt)
-    (λ c. rw (sym (c .before .before .before .abs .ensures), c .before .before .if1 .left, c .before .if2 .taken)
-    (c .by-atan .ensures))
-    (λ c. rw (sym (c .before .before .before .abs .ensures), c .before .before .if1 .left, c .before .if2 .left, c .if3 .taken))
     (λ c κs. tt)
     (λ c. rw (
-      sym (c .before .before .before .before .before .abs .ensures),
-      c .before .before .before .before .if1 .left,
-      c .before .before .before .if2 .left,
-      c .before .before .if3 .left,
-      c .before .if4 .taken,
-    ) (c .by-logs .ensures))
+      sym (c .before .before .before .abs .ensures),
+      c .before .before .if1 .taken,
+      sym (c .before .polynomial .ensures),
+    ) (c .closed .ensures))
+    (λ c κs. tt)
+    (λ c κs. tt)
+    (λ c. rw (
+      sym (c .before .before .before .before .abs .ensures),
+      c .before .before .before .if1 .left,
+      c .before .before .if2 .taken,
+      sym (c .before .by-atan .ensures),
+    ) (c .closed2 .ensures))
+    (λ c κs. tt)
+    (λ c. rw (
+      sym (c .before .before .before .before .abs .ensures),
+      c .before .before .before .if1 .left,
+      c .before .before .if2 .left,
+      c .before .if3 .taken,
+    ) (c .closed3 .ensures))
+    (λ c κs. tt)
+    (λ c κs. tt)
+    (λ c. rw (
+      sym (c .before .before .before .before .before .before .abs .ensures),
+      c .before .before .before .before .before .if1 .left,
+      c .before .before .before .before .if2 .left,
+      c .before .before .before .if3 .left,
+      c .before .before .if4 .taken,
+      sym (c .before .by-logs .ensures),
+    ) (c .closed4 .ensures))
     (λ c κs. tt)
     (λ c. rw (
       sym (c .before .before .before .before .before .before .abs .ensures),
@@ -34,11 +52,13 @@ elliprc1p-spec =
       c .before .if5 .taken,
     ) (c .by-rc .ensures))
     (λ c κs. tt)
+    (λ c κs. tt)
     (λ c. rw (
-      sym (c .before .before .before .before .before .before .abs .ensures),
-      c .before .before .before .before .before .if1 .left,
-      c .before .before .before .before .if2 .left,
-      c .before .before .before .if3 .left,
-      c .before .before .if4 .left,
-      c .before .if5 .left,
-    ) (c .by-ln .ensures)))
+      sym (c .before .before .before .before .before .before .before .abs .ensures),
+      c .before .before .before .before .before .before .if1 .left,
+      c .before .before .before .before .before .if2 .left,
+      c .before .before .before .before .if3 .left,
+      c .before .before .before .if4 .left,
+      c .before .before .if5 .left,
+      sym (c .before .by-ln .ensures),
+    ) (c .closed5 .ensures)))

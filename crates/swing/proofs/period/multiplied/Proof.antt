@@ -13,5 +13,5 @@ multiplied-spec =
     (λ c. search needs)
     (λ c κs. tt)
     (λ c. search needs)
-    (λ c. rw (c .before .before .before .answer .given .1, sym (c .carried .ensures)))
+    (λ c. rw (c .before .before .before .answer .given .1, sym (c .handed .ensures)))
     (λ c. rw (c .before .answer2 .given .1)))
