@@ -1,6 +1,6 @@
--- From the f64s to the windows: `fused` is the sum of the two windows. Assumes nothing.
+-- From the windows to the f64s: the sum of the two windows is `fused`. Assumes nothing.
 use Prim.Native.Nat.{ℕ, _+_, _-_, _*_, _%_, _^_, _≤_, _<_}
-use mathlib.Core.Path.{_≡_, refl, sym, ap, _∙_}
+use mathlib.Core.Path.{_≡_, refl, sym, _∙_}
 use mathlib.Core.Bool.{Bool}
 use mathlib.Core.List.{[], _∷_}
 use native.Mathlib.Nat.{mul-le-mul, mul-pos}
@@ -12,7 +12,7 @@ use Rattle.algebra.specs.Ring.{con, _:*_, _≈_, _⊩_, _times_≼_, ring}
 use Rattle.rounding.specs.Cut.{value}
 use Rattle.fused.specs.Fused.{times, fused}
 use Rattle.fused.specs.Parts.{Scaled, Window, wide}
-use Rattle.fused.specs.Signs.{sum-same, sum-comm}
+use Rattle.fused.specs.Signs.{sum-same}
 use Rattle.fused.specs.Laws.{fused-sum}
 use Rattle.fused.proofs.Pattern.{bits-value}
 
@@ -32,23 +32,6 @@ window-product hi lo m n a b c d l e =
 
 pub window-one : (m : ℕ) → 2 ^ 52 ≤ m → m < 2 ^ 53 → Window (m * 512) 0
 window-one m a b = record { low = omega arith; high = omega arith; last = refl }
-
--- ---- the scale 2 ^ d is taken out again
-scale-one : (P Y S : ℕ) → P * Y * S * 2 ^ 2296 ≡ P * S * (Y * 2 ^ 2296)
-scale-one = ring 3 (λ P Y S. P :* Y :* S :* con (2 ^ 2296) ≈ P :* S :* (Y :* con (2 ^ 2296))) tt
-
-scale-two : (Q Y S : ℕ) → Q * (S * Y) * 2 ^ 2296 ≡ Q * S * (Y * 2 ^ 2296)
-scale-two = ring 3 (λ Q Y S. Q :* (S :* Y) :* con (2 ^ 2296) ≈ Q :* S :* (Y :* con (2 ^ 2296))) tt
-
-unscaled : (s t : Bool) (P Q e f : ℕ) → f ≤ e
-    → sum binary64 s (P * 2 ^ (e - f) * 2 ^ e) t (Q * 2 ^ e) (2 ^ (e - f) * 2 ^ 2296) ≡ sum binary64 s (P * 2 ^ e) t (Q * 2 ^ f) (2 ^ 2296)
-unscaled s t P Q e f h =
-    let d = e - f in
-    let i : e ≡ f + d = omega arith in
-    sum-same s t (P * 2 ^ d * 2 ^ e) (Q * 2 ^ e) (2 ^ d * 2 ^ 2296) (P * 2 ^ e) (Q * 2 ^ f) (2 ^ 2296) (mul-pos (pow-pos d) (pow-pos 2296))
-    (pow-pos 2296)
-    (scale-one P (2 ^ d) (2 ^ e))
-    (ap (λ (z : ℕ). Q * z * 2 ^ 2296) (ap (λ (z : ℕ). 2 ^ z) i ∙ pow-add 2 f d) ∙ scale-two Q (2 ^ d) (2 ^ f))
 
 -- ---- `fused` of three patterns
 last-one : (v w x y P E F S : ℕ) → v * 2 ^ 64 ≡ x * E → w * 2 ^ 64 ≡ y * F → x * 1024 * (y * 1024) ≡ P → E * F ≡ S
@@ -99,20 +82,13 @@ module _ (a b c m n k x y z P : ℕ) (ka : Scaled (a % 2 ^ 63) m x) (kb : Scaled
       let vc = value (c % 2 ^ 63) in
       let q : k * 2 ^ 73 ≡ Q = omega arith in
       sym
-      (fused-sum (ofBits binary64 a) (ofBits binary64 b) (ofBits binary64 c) (leb (2 ^ 63) a) (leb (2 ^ 63) b) t va vb vc K K K p p p
+      (fused-sum (ofBits binary64 a) (ofBits binary64 b) (ofBits binary64 c) (leb (2 ^ 63) a)
+      (leb (2 ^ 63) b) t va vb vc K K K p p p
       (bits-value a (ka .finite)) (bits-value b (kb .finite)) (bits-value c (kc .finite))
       ∙ sum-same s t (va * vb * K) (vc * (K * K)) (K * K * K) (P * 2 ^ (x + y)) (Q * 2 ^ (z + 1085)) (2 ^ 2296)
       (mul-pos (mul-pos p p) p) (pow-pos 2296)
       (last-one va vb m n P (2 ^ x) (2 ^ y) (2 ^ (x + y)) (ka .same) (kb .same) (sym e) (sym (pow-add 2 x y)))
       (last-two vc k Q (2 ^ z) (2 ^ (z + 1085)) (kc .same) q (sym (pow-add 2 z 1085))))
 
-  -- the product's unit is the larger, or the addend's
-  pub product-first : (r : Float) → z + 1085 ≤ x + y
-      → r ≡ sum binary64 s (P * 2 ^ (x + y - (z + 1085)) * 2 ^ (x + y)) t (Q * 2 ^ (x + y)) (2 ^ (x + y - (z + 1085)) * 2 ^ 2296) → r ≡ answer
-  product-first r h f = f ∙ unscaled s t P Q (x + y) (z + 1085) h ∙ by-windows
-
-  pub addend-first : (r : Float) → x + y ≤ z + 1085
-      → r ≡ sum binary64 t (Q * 2 ^ (z + 1085 - (x + y)) * 2 ^ (z + 1085)) s (P * 2 ^ (z + 1085)) (2 ^ (z + 1085 - (x + y)) * 2 ^ 2296)
-      → r ≡ answer
-  addend-first r h f =
-      f ∙ unscaled t s Q P (z + 1085) (x + y) h ∙ sum-comm t s (Q * 2 ^ (z + 1085)) (P * 2 ^ (x + y)) (2 ^ 2296) ∙ by-windows
+  pub windows-fused : (r : Float) → r ≡ sum binary64 s (P * 2 ^ (x + y)) t (Q * 2 ^ (z + 1085)) (2 ^ 2296) → r ≡ answer
+  windows-fused r f = f ∙ by-windows

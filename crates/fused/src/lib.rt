@@ -36,9 +36,9 @@ pub fn mul_add(a: f64, b: f64, c: f64) -> f64
         return special(a, b, c);
     }
     numbers(
-        ab,
-        bb,
-        cb,
+        a,
+        b,
+        c,
         normal(ab % TOP),
         normal(bb % TOP),
         normal(cb % TOP),

@@ -33,12 +33,5 @@ pub fn special(a: f64, b: f64, c: f64) -> f64
     let ab = f64::to_bits(a);
     let bb = f64::to_bits(b);
     let cb = f64::to_bits(c);
-    numbers(
-        ab,
-        bb,
-        cb,
-        split(ab % TOP),
-        split(bb % TOP),
-        split(cb % TOP),
-    )
+    numbers(a, b, c, split(ab % TOP), split(bb % TOP), split(cb % TOP))
 }

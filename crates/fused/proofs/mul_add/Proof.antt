@@ -1,12 +1,13 @@
 -- `mul_add` meets its contract: `numbers` has three normal numbers, `special` the rest. Assumes nothing.
 use borrow.Author.Needs.{needs}
-use mathlib.Core.Path.{sym, subst, _∙_}
+use mathlib.Core.Path.{sym, _∙_}
+use mathlib.Core.Bool.{not}
 use borrow.Author.Tests.{not-false}
 use lib.Dec.{T}
-use lib.Ieee.{binary64, fits}
+use lib.Ieee.{isNan}
 use Rattle.binary64.specs.Tests.{not-nan}
 use Rattle.fused.proofs.Zeros.{none-nan}
-use Rattle.fused.proofs.Pattern.{same-three, in-range}
+use Rattle.fused.proofs.Pattern.{in-range}
 use Rattle.fused.proofs.mul_add.Statement.{statement}
 use Rattle.fused.proofs.mul_add.Tie as tie
 
@@ -16,24 +17,22 @@ special-requires c κs = search needs
 returns : tie.Need-returns
 returns c = search needs
 
--- what owning an f64 tells: the format holds it
-held-a : (c : tie.Start) → T (fits binary64 (c .args .a))
-held-a c = subst T (sym (c .good .0 .1)) tt
-
-held-b : (c : tie.Start) → T (fits binary64 (c .args .b))
-held-b c = subst T (sym (c .good .1 .0 .1)) tt
-
-held-c : (c : tie.Start) → T (fits binary64 (c .args .c))
-held-c c = subst T (sym (c .good .1 .1 .0 .1)) tt
+-- none of the three is a NaN
+no-nan : (c : tie.Else1)
+    → T (not (isNan (c .before .args .a))) × T (not (isNan (c .before .args .b))) × T (not (isNan (c .before .args .c)))
+no-nan c =
+    let a = c .before .args in
+    let n = none-nan (a .a) (a .b) (a .c) (c .if1 .left) in
+    (not-nan (a .a) (n .0), not-nan (a .b) (n .1), not-nan (a .c) (n .2))
 
 float-to-bits-ab : tie.Need-float-to-bits-ab
-float-to-bits-ab c = let a = c .before .args in not-nan _ (none-nan (a .a) (a .b) (a .c) (c .if1 .left) .0)
+float-to-bits-ab c = no-nan c .0
 
 float-to-bits-bb : tie.Need-float-to-bits-bb
-float-to-bits-bb c = let a = c .before .args in not-nan _ (none-nan (a .a) (a .b) (a .c) (c .if1 .left) .1)
+float-to-bits-bb c = no-nan c .1
 
 float-to-bits-cb : tie.Need-float-to-bits-cb
-float-to-bits-cb c = let a = c .before .args in not-nan _ (none-nan (a .a) (a .b) (a .c) (c .if1 .left) .2)
+float-to-bits-cb c = no-nan c .2
 
 is-normal-requires : tie.Need-is-normal-requires
 is-normal-requires c κs = search needs
@@ -78,12 +77,15 @@ normal-requires-3 c κs =
     in-range _ (sym (four .before .is-normal3 .ensures) ∙ not-false _ (four .if4 .left))
 
 numbers-requires : tie.Need-numbers-requires
-numbers-requires c κs = search needs
+numbers-requires c κs =
+    let n = no-nan (c .before .before .before .before .before .before .before .before .before) in (
+      record { some = n .0; parts = c .before .before .normal .ensures },
+      record { some = n .1; parts = c .before .normal2 .ensures },
+      record { some = n .2; parts = c .normal3 .ensures },
+    )
 
 returns-5 : tie.Need-returns-5
-returns-5 c =
-    let s = c .before .before .before .before .before .before .before .before .before .before .before in
-    c .numbers .ensures ∙ same-three (s .args .a) (s .args .b) (s .args .c) (held-a s) (held-b s) (held-c s)
+returns-5 c = search needs
 
 pub mul-add-spec : {M : Type 1} → statement M
 mul-add-spec =

@@ -7,7 +7,7 @@ use lib.Dec.{T}
 use lib.Ieee.{binary64, fits}
 use lib.Ieee.Scale.{finite}
 use Rattle.binary64.specs.Tests.{number, is-number, is-zero}
-use Rattle.fused.proofs.Pattern.{pattern, no-nan, same-three}
+use Rattle.fused.proofs.Pattern.{pattern, no-nan}
 use Rattle.fused.proofs.Zeros.{first-special, second-special, third-special, first-zero, second-zero, third-zero}
 use Rattle.fused.proofs.special.special.Statement.{statement}
 use Rattle.fused.proofs.special.special.Tie as tie
@@ -45,7 +45,10 @@ held-c : (c : tie.Start) → T (fits binary64 (c .args .c))
 held-c c = subst T (sym (c .good .1 .1 .0 .1)) tt
 
 returns : tie.Need-returns
-returns c = let a = c .before .before .args in first-special (a .a) (a .b) (a .c) (sym (c .before .is-finite .ensures) ∙ not-true _ (c .if1 .taken))
+returns c =
+    let a =
+    c .before .before .args in first-special (a .a) (a .b) (a .c)
+    (sym (c .before .is-finite .ensures) ∙ not-true _ (c .if1 .taken))
 
 is-finite-requires-2 : tie.Need-is-finite-requires-2
 is-finite-requires-2 c κs = search needs
@@ -63,7 +66,8 @@ returns-3 c =
     let two = c .before .before in
     let one = two .before .before in
     let a = one .before .before .args in
-    third-special (a .a) (a .b) (a .c) (finite-a one) (finite-b two) (sym (c .before .is-finite3 .ensures) ∙ not-true _ (c .if3 .taken))
+    third-special (a .a) (a .b) (a .c) (finite-a one) (finite-b two)
+    (sym (c .before .is-finite3 .ensures) ∙ not-true _ (c .if3 .taken))
 
 returns-4 : tie.Need-returns-4
 returns-4 c =
@@ -95,7 +99,8 @@ float-to-bits-cb : tie.Need-float-to-bits-cb
 float-to-bits-cb c = no-nan _ (number-c c)
 
 split-requires : tie.Need-split-requires
-split-requires c κs = pattern _ (held-a (c .before .before .before .before .before .before .before .before .before)) (number-a (c .before .before))
+split-requires c κs =
+    pattern _ (held-a (c .before .before .before .before .before .before .before .before .before)) (number-a (c .before .before))
 
 split-requires-2 : tie.Need-split-requires-2
 split-requires-2 c κs =
@@ -108,12 +113,15 @@ split-requires-3 c κs =
     pattern _ (held-c (six .before .before .before .before .before .before .before .before .before)) (number-c six)
 
 numbers-requires : tie.Need-numbers-requires
-numbers-requires c κs = search needs
+numbers-requires c κs =
+    let six = c .before .before .before in (
+      record { some = no-nan _ (number-a (six .before .before)); parts = c .before .before .split .ensures },
+      record { some = no-nan _ (number-b (six .before)); parts = c .before .split2 .ensures },
+      record { some = no-nan _ (number-c six); parts = c .split3 .ensures },
+    )
 
 returns-7 : tie.Need-returns-7
-returns-7 c =
-    let s = c .before .before .before .before .before .before .before .before .before .before .before .before .before in
-    c .numbers .ensures ∙ same-three (s .args .a) (s .args .b) (s .args .c) (held-a s) (held-b s) (held-c s)
+returns-7 c = search needs
 
 pub special-spec : {M : Type 1} → statement M
 special-spec =
