@@ -43,7 +43,9 @@ class Examples(unittest.TestCase):
             (rg(INF, 0, 0), Refused(8)),
             (rj(4, 4, 4, 4), value(0x3FC0000000000000)),
             (rj(3, 2, 2, -1), value(0, Road.TAYLOR)),
-            (rj(1, 1, 1, -INF), Refused(6)),
+            (rj(1, 1, 1, -INF), value(0, Road.INFINITE)),
+            (rj(-1, 1, 1, -INF), Refused(2)),
+            (rj(1, 1, 1, -1.7976931348623157e308), Refused(6)),
         ]
         for came_out, wanted in settled:
             self.assertEqual(came_out, wanted)

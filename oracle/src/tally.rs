@@ -85,8 +85,8 @@ impl Tally {
             }
             Answer::Refused(number) => *self.refusals.entry(number).or_default() += 1,
         }
-        // There the untouched crate need not end.
-        if !matches!(judged.answer, Answer::Refused(9 | 10)) {
+        // There the untouched crate need not end; and demand 2 leaves p = -infinity out (document 02, 2026-07).
+        if !matches!(judged.answer, Answer::Refused(9 | 10)) && call.bits()[3] != f64::NEG_INFINITY.to_bits() {
             self.untouched.entry(call, judged.answer);
         }
         if let Some(said) = gatewren::answer(call) {

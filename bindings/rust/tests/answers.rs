@@ -38,7 +38,9 @@ fn the_sixteen_settled_examples() {
     same(rg(INF, 0.0, 0.0), no(8));
     same(rj(4.0, 4.0, 4.0, 4.0), value(0x3FC0_0000_0000_0000));
     same(rj(3.0, 2.0, 2.0, -1.0), by(Road::Taylor, 0, 0, 0));
-    same(rj(1.0, 1.0, 1.0, -INF), no(6));
+    same(rj(1.0, 1.0, 1.0, -INF), by(Road::Infinite, 0, 0, 0));
+    same(rj(-1.0, 1.0, 1.0, -INF), no(2));
+    same(rj(1.0, 1.0, 1.0, -f64::MAX), no(6));
 }
 
 #[test]

@@ -1,7 +1,7 @@
 -- The tests on arguments (document 01, "Numbers for no"; the Rust's check! and case!). Definitions only.
 use mathlib.Core.Bool.{Bool, _&&_, _||_}
 use lib.Ieee.{Float, lt, eq, isNan}
-use Rattle.binary64.specs.Leaves.{minimum}
+use Rattle.binary64.specs.Leaves.{absolute, minimum}
 use Rattle.carlson.specs.Constants.{zero, infinity}
 
 -- 1: an argument is NaN
@@ -21,8 +21,9 @@ anyInfinite2 x y = eq x infinity || eq y infinity
 abbrev pub anyInfinite3 : Float → Float → Float → Bool
 anyInfinite3 x y z = anyInfinite2 x y || eq z infinity
 
+-- RJ's, whose p may be infinite with either sign (document 02, 2026-07)
 abbrev pub anyInfinite4 : Float → Float → Float → Float → Bool
-anyInfinite4 x y z p = anyInfinite3 x y z || eq p infinity
+anyInfinite4 x y z p = anyInfinite3 x y z || eq (absolute p) infinity
 
 -- 2: an argument is below zero. The minimum passes over a NaN.
 abbrev pub below3 : Float → Float → Float → Bool

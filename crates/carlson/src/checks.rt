@@ -1,4 +1,5 @@
 // The tests on arguments, as the Rust's macros make them.
+use binary64::abs;
 use binary64::min;
 ghost use mathlib.Core.Path.{_≡_};
 ghost use mathlib.Core.Bool.{_&&_, _||_};
@@ -76,10 +77,11 @@ pub fn any_infinite3(x: f64, y: f64, z: f64) -> bool
     either(any_infinite2(x, y), is_infinite(z))
 }
 
+// RJ's, whose p may be infinite with either sign.
 pub fn any_infinite4(x: f64, y: f64, z: f64, p: f64) -> bool
     ensures { λ r. ⌜ r ≡ anyInfinite4 x y z p ⌝ }
 {
-    either(any_infinite3(x, y, z), is_infinite(p))
+    either(any_infinite3(x, y, z), is_infinite(abs(p)))
 }
 
 // By the smallest, which passes over a NaN.

@@ -1,5 +1,5 @@
--- Document 01's sixteen settled examples, in its order, as one table under one statement: antt computes each from the
--- definitions. Assumes nothing.
+-- Document 01's sixteen settled examples, in its order, the last as document 02, 2026-07, has it, as one table under one
+-- statement: antt computes each from the definitions. Assumes nothing.
 use mathlib.Core.Path.{_≡_, refl}
 use mathlib.Core.List.{List, [], _∷_}
 use lib.Ieee.{Float, ofBits, add, sub, mul, div, neg, lt, le, eq, isNan}
@@ -80,7 +80,7 @@ table =
     ∷ RG infinity zero zero (Refused 8)
     ∷ RJ four four four four (is Closed eighth)
     ∷ RJ three two two minus-one (is Taylor zero)
-    ∷ RJ one one one minus-infinity (Refused 6)
+    ∷ RJ one one one minus-infinity (is Infinite zero)
     ∷ []
 
 -- ---- the statement

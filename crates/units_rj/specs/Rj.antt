@@ -19,7 +19,7 @@ use Rattle.scaling.specs.Kind.{Kind}
 use Rattle.scaling.specs.Units.{Is, lt-units}
 use Rattle.scaling.specs.Two.{Two}
 use Rattle.scaling.specs.Tests.{zero-is, zero-two, no-units}
-use Rattle.scaling.specs.One.{number}
+use Rattle.scaling.specs.One.{number, abs-units}
 use Rattle.scaling.specs.Pick.{choose}
 use Rattle.scaling.specs.Signs.{bounded}
 use Rattle.units.specs.Statement.{InRange, TimesFour, Alike}
@@ -103,10 +103,10 @@ module _ {k : ℕ} {x x' y y' z z' p p' : Float} (X : Two binary64 k argumentK x
   no-nan' = ap₂ _||_ (numbers3 (X .second) (Y .second) (Z .second)) (number (P .second))
 
   no-infinite : anyInfinite4 x y z p ≡ false
-  no-infinite = ap₂ _||_ (finite3 (X .first) (Y .first) (Z .first)) (bounded (P .first))
+  no-infinite = ap₂ _||_ (finite3 (X .first) (Y .first) (Z .first)) (bounded (abs-units (P .first)))
 
   no-infinite' : anyInfinite4 x' y' z' p' ≡ false
-  no-infinite' = ap₂ _||_ (finite3 (X .second) (Y .second) (Z .second)) (bounded (P .second))
+  no-infinite' = ap₂ _||_ (finite3 (X .second) (Y .second) (Z .second)) (bounded (abs-units (P .second)))
 
   abbrev last : Float → Float → Float → Float → Bool → Answer
   last x y z p i = cond i infiniteAt (rjSettled (rjUnchecked x y z p))

@@ -63,8 +63,13 @@ pub fn rg(x: f64, y: f64, z: f64) -> Judged {
     judged(|| elliprg(Ruled(x), Ruled(y), Ruled(z)))
 }
 
+/// Document 02, 2026-07: p = -infinity is as +infinity, after the numbers that come before it. The Rust makes a NaN of it.
 pub fn rj(x: f64, y: f64, z: f64, p: f64) -> Judged {
-    judged(|| elliprj(Ruled(x), Ruled(y), Ruled(z), Ruled(p)))
+    let it = judged(|| elliprj(Ruled(x), Ruled(y), Ruled(z), Ruled(p)));
+    match p == f64::NEG_INFINITY && !matches!(it.answer, Answer::Refused(1..=4)) {
+        true => Judged { answer: INFINITE, series: false, depth: 0 },
+        false => it,
+    }
 }
 
 fn judged(entry: impl FnOnce() -> Result<Ruled, StrErr>) -> Judged {
