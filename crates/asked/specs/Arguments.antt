@@ -1,16 +1,16 @@
 -- The arguments that the logarithms are given, by their units: from 2 up, and between -3/4 and 3/4. Each step rounds once and
 -- keeps the order, and each bound is an f64, so that no error is estimated. Assumes nothing.
 use mathlib.Core.Path.{_≡_, refl, sym, subst}
-use mathlib.Core.Logic.{inl, inr}
-use mathlib.Core.Bool.{Bool, true, false, cond}
+use mathlib.Core.Bool.{true, false, cond}
 use Prim.Native.Nat.{ℕ, _+_, _-_, _*_, _^_, _≤_, _<_}
-use native.Mathlib.Nat.{le-trans, le-of-eq, le-of-lt, lt-of-lt-of-le, lt-of-le-of-lt, eq-zero-or-pos, zero-lt-suc}
-use native.Mathlib.Nat.{add-le-add, mul-le-mul-right}
+use native.Mathlib.Nat.{le-trans, le-of-eq, le-of-lt, lt-of-lt-of-le, lt-of-le-of-lt, zero-lt-suc}
+use native.Mathlib.Nat.{add-le-add}
 use native.Mathlib.Omega.{arith}
 use borrow.Author.Tests.{le-ltb}
 use lib.Dec.{T, lit<, lit≤}
-use lib.Pow.{pow-add, pow-pos}
+use lib.Pow.{pow-pos}
 use lib.Ieee.{Float, binary64, low, round, neg, sub, le, ofBits}
+use lib.Ieee.Bits.{is-true}
 use lib.Ieee.Order.{round-mono}
 use lib.Ieee.Scale.{overflow}
 use Rattle.rounding.specs.Cut.{value}
@@ -30,7 +30,6 @@ use Rattle.scaling.specs.Root.{rootUnits, root-mono, root-at, root-value}
 use Rattle.carlson.specs.Constants.{one, two, half}
 use Rattle.asked.specs.Twice.{half-most}
 use Rattle.asked.specs.With.{three-quarters, FromTwo, Within}
-use Rattle.asked.specs.Lost.{over-nothing, lost-two}
 
 -- ---- roots
 root-some : (n : ℕ) → 0 < n → 0 < rootUnits n
@@ -80,10 +79,6 @@ sum-units {X = X} {Y} Ix Iy h k =
 two-is : round binary64 false 2 1 ≡ two
 unfolding round ofBits
 two-is = refl
-
-is-true : (b : Bool) → T b → b ≡ true
-is-true true t = refl
-is-true false t = absurd t
 
 twice-over : {x y : Float} {X Y : ℕ} → Is binary64 x false X → Is binary64 y false Y → 0 < Y → Y * 2 ≤ X → FromTwo (x ⊘ y)
 twice-over {x} {y} {X} {Y} Ix Iy pos h =
@@ -147,38 +142,3 @@ root-within {X = X} Ix h =
       λ f. is-true _ (units-le (abs-units R) three-quarters-is l),
       λ f. is-true _ (units-le (abs-units (neg-units R)) three-quarters-is l),
     )
-
--- ---- the helper's ln: (1 + √-y) / √(1 + y) for y from -1 to -1/2, at least 3/2 over 3/4. At -1 it is the infinity.
-module _ {y : Float} {Y : ℕ} (Iy : Is binary64 y true Y) (l : 2 ^ 1073 ≤ Y) (h : Y ≤ 2 ^ 1074) where
-  abbrev W : ℕ
-  W = near binary64 (2 ^ 1074 - Y) 1
-
-  under-is : Is binary64 (root (one ⊕ y)) false (rootUnits W)
-  under-is = root-value (fall-units one-is Iy h)
-
-  under-most : rootUnits W ≤ 3 * 2 ^ 1072
-  under-most = root-half W
-      (le-trans (near-le binary64 1 (zero-lt-suc 0) (rest (2 ^ 1073) (2 ^ 1074) Y (pow-add 2 1 1073) l))
-      (le-of-eq (near-exact binary64 1 1073 1 (zero-lt-suc 0) (lit< tt))))
-    where
-      rest : (a b y : ℕ) → b ≡ 2 * a → a ≤ y → b - y ≤ 1 * a * 1
-      rest a b y e h = omega arith
-
-  pub helper-least : FromTwo ((one ⊕ root (neg y)) ⊘ root (one ⊕ y))
-  helper-least =
-      let N = root-value (neg-units Iy) in
-      let S = sum-units one-is N (lit≤ tt) (root-most Y (is-under Iy)) in
-      let r : 2 ^ 1073 ≤ rootUnits Y =
-      le-trans (le-of-eq (sym (root-at 536 (lit≤ tt)))) (root-mono (2 ^ 1072) Y (le-trans (lit≤ tt) l)) in
-      let least : 3 * 2 ^ 1073 ≤ near binary64 (2 ^ 1074 + rootUnits Y) 1 =
-      le-trans (le-of-eq (sym (near-exact binary64 3 1073 1 (zero-lt-suc 0) (lit< tt))))
-      (near-le binary64 1 (zero-lt-suc 0) (sum (2 ^ 1073) (2 ^ 1074) (rootUnits Y) (pow-add 2 1 1073) r)) in
-      elim (eq-zero-or-pos (rootUnits W)) [
-        | inl z ↦ lost-two _ (over-nothing (one ⊕ root (neg y)) (subst (Is binary64 (root (one ⊕ y)) false) z under-is))
-        | inr p ↦
-            twice-over S under-is p
-            (le-trans (mul-le-mul-right 2 under-most) (le-trans (lit≤ {m = 3 * 2 ^ 1072 * 2} {n = 3 * 2 ^ 1073} tt) least))
-      ]
-    where
-      sum : (a b r : ℕ) → b ≡ 2 * a → a ≤ r → 3 * a * 1 ≤ b + r
-      sum a b r e h = omega arith

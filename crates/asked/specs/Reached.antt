@@ -20,7 +20,7 @@ use Rattle.asked.specs.Arguments.{half-is}
 use Rattle.asked.specs.Twice.{at-most-half, more-than-half}
 
 -- ---- the order, from tests
-pub some : (s : Bool) (X : ℕ) → T (not (level s X false 0)) → 0 < X
+some : (s : Bool) (X : ℕ) → T (not (level s X false 0)) → 0 < X
 some s X h = elim (eq-zero-or-pos X) [
   | inl z ↦ absurd (T-not (level s 0 false 0) (subst (λ n. T (not (level s n false 0))) z h) (both s))
   | inr p ↦ p

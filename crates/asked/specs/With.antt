@@ -1,5 +1,5 @@
--- RC's steps and RJ's helper with two other functions in the place of ln and ln_1p, and where these must be ln and ln_1p for the
--- answers to stay (document 02, 2026-02). Definitions only.
+-- RC's steps, RJ's helper and a term of RJ's sum with two other functions in the place of ln and ln_1p, and where these must be
+-- ln and ln_1p for the answers to stay (document 02, 2026-02). Definitions only.
 use mathlib.Core.Path.{_≡_}
 use mathlib.Core.Bool.{true, cond}
 use lib.Ieee.{Float, nan, neg, lt, le, eq}
@@ -15,7 +15,9 @@ use Rattle.carlson.specs.Rescaling.{rescaling2}
 use Rattle.carlson.specs.Answer.{closedAt, carriedAt}
 use Rattle.carlson.specs.declared.answer.Found.{Found}
 use Rattle.elliprc.specs.Rc.{rcAtZero, rcAtEqual, rcByAtan, overRoot}
-use Rattle.rj_positive.specs.Helper.{byAtan1p}
+use Rattle.rj_positive.specs.Helper.{hundredth, three-halves, byAtan1p, lnArgument}
+use Rattle.rj_positive.specs.Duplicate.{rjMiddle}
+use Rattle.rj_positive.specs.declared.duplicate.Roots.{Roots}
 
 abbrev pub three-quarters : Float
 three-quarters = bits 0x3FE8_0000_0000_0000
@@ -65,15 +67,20 @@ module _ (log log1p : Float → Float) where
   byRc1pWith y = let rc = rcUncheckedWith (neg y) (neg one ⊖ y) in carriedAt (root (one ⊘ neg y) ⊗ rc .value) (rc .way)
 
   unfoldable pub byLnOf1pWith : Float → Float
-  byLnOf1pWith y = log ((one ⊕ root (neg y)) ⊘ root (one ⊕ y)) ⊘ root (neg y)
+  byLnOf1pWith y = log (lnArgument y) ⊘ root (neg y)
 
   unfoldable pub rc1pWith : Float → Found
   rc1pWith y =
-      cond (le (absolute y) (bits 0x3F84_7AE1_47AE_147B)) (closedAt (horner y))
+      cond (le (absolute y) hundredth) (closedAt (horner y))
       (cond (lt zero y) (closedAt (byAtan1p y))
-      (cond (eq y zero) (closedAt one)
       (cond (lt (neg half) y) (closedAt (byLogs1pWith y))
-      (cond (lt y (neg one)) (byRc1pWith y) (closedAt (byLnOf1pWith y))))))
+      (cond (lt y (neg one)) (byRc1pWith y) (closedAt (byLnOf1pWith y)))))
+
+  -- ---- a term of RJ's sum: the text of crates/rj_positive/specs/Duplicate.antt
+  unfoldable pub rjTermWith : Float → Roots → Float → Float → Found
+  rjTermWith pn r dn en =
+      cond (lt en (neg half)) (cond (lt (neg three-halves) en) (rcUncheckedWith one (rjMiddle pn r dn))
+      (rc1pWith en)) (rc1pWith en)
 
 -- document 01's ln: "from 2 up .. ln(+infinity) is +infinity; all else gives NaN"
 unfoldable pub ln-before : Float → Float

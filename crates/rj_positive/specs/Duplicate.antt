@@ -14,7 +14,7 @@ use Rattle.carlson.specs.Answer.{duplicationOver}
 use Rattle.carlson.specs.declared.answer.Found.{Found}
 use Rattle.carlson.specs.declared.common.Lambda.{Lambda}
 use Rattle.elliprc.specs.Rc.{rcUnchecked}
-use Rattle.rj_positive.specs.Helper.{rc1p}
+use Rattle.rj_positive.specs.Helper.{three-halves, rc1p}
 use Rattle.rj_positive.specs.declared.duplicate.Round.{Round}
 use Rattle.rj_positive.specs.declared.duplicate.Roots.{Roots}
 
@@ -59,10 +59,9 @@ unfoldable pub rjMiddle : Float → Roots → Float → Float
 rjMiddle pn r dn = two ⊗ r .p ⊗ (pn ⊕ r .x ⊗ (r .y ⊕ r .z) ⊕ r .y ⊗ r .z) ⊘ dn
 
 -- between -3/2 and -1/2 RC itself, at an argument that keeps its digits
--- by its bits: 1.5
 unfoldable pub rjTerm : Float → Roots → Float → Float → Found
 rjTerm pn r dn en =
-    cond (lt en (neg half)) (cond (lt (neg (bits 0x3FF8_0000_0000_0000)) en) (rcUnchecked one (rjMiddle pn r dn))
+    cond (lt en (neg half)) (cond (lt (neg three-halves) en) (rcUnchecked one (rjMiddle pn r dn))
     (rc1p en)) (rc1p en)
 
 -- "the number of rescalings over the call and all it calls": those of the terms before, and of this one

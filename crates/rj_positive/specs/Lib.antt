@@ -1,3 +1,4 @@
 pub mod Helper
+pub mod Borders
 pub mod Duplicate
 pub mod Positive

@@ -1,4 +1,4 @@
 // RJ for p above zero, before any rescaling; and RC(1, 1 + y), which its sum adds up.
 mod duplicate;
-pub mod helper;
+mod helper;
 pub mod positive;

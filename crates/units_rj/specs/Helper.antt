@@ -4,13 +4,14 @@ use mathlib.Core.Path.{_≡_, refl, sym, ap, _∙_, subst}
 use mathlib.Core.Logic.{_⊎_, inl, inr}
 use Prim.Native.Nat.{ℕ, _*_, _^_, _≤_, _<_}
 use lib.Pow.{pow-mono}
-use native.Mathlib.Nat.{le-antisymm, not-le-of-lt, lt-of-le-of-lt, lt-of-lt-of-le, le-trans, le-of-lt}
+use native.Mathlib.Nat.{lt-of-le-of-lt, lt-of-lt-of-le, le-trans, le-of-lt}
 use native.Mathlib.Omega.{arith}
 use mathlib.Core.Bool.{Bool, true, false, not}
-use lib.Dec.{T, T-not, not-T, ltb, ltb→lt, lt→ltb, nltb→le, lit≤, lit<}
+use lib.Dec.{T, not-T, ltb→lt, lt→ltb, nltb→le, lit≤, lit<}
 use lib.Ieee.{Float, nan, binary64, neg, add, sub, div, lt, le, eq, below, ofBits}
+use lib.Ieee.Fits.{and-i, and-r}
 use Rattle.binary64.specs.Leaves.{absolute}
-use Rattle.binary64.specs.Operators.{_⊕_, _⊗_, _⊘_, bits}
+use Rattle.binary64.specs.Operators.{_⊕_, _⊗_, _⊘_}
 use Rattle.root.specs.Root.{root}
 use Rattle.series.specs.Atan.{atan}
 use Rattle.series.specs.Ln.{ln}
@@ -19,9 +20,10 @@ use Rattle.carlson.specs.Answer.{closedAt, carriedAt}
 use Rattle.carlson.specs.declared.answer.Found.{Found}
 use Rattle.elliprc.specs.Rc.{rcUnchecked}
 use Rattle.polynomial.specs.Polynomial.{horner}
-use Rattle.rj_positive.specs.Helper.{byAtan1p, byLogs1p, byRc1p, byLn1p, rc1p}
+use Rattle.rj_positive.specs.Helper.{hundredth, three-halves, Outside, AtHalf, byAtan1p, byLogs1p, byRc1p, byLn1p, rc1p}
+use Rattle.rj_positive.specs.Borders.{past, toAtan, toLogs, atan-reached, logs-reached, ln-reached-from-rj}
 use Rattle.scaling.specs.Kind.{Kind, last, floor-le, mulK, mulOk, divK, divOk, plusK, plusOk, nudgeK, nudgeOk, within}
-use Rattle.scaling.specs.Units.{Is, unique, lt-units}
+use Rattle.scaling.specs.Units.{Is, lt-units}
 use Rattle.scaling.specs.Two.{Two, mul-two, div-two, plus-two}
 use Rattle.scaling.specs.Tests.{zero-is}
 use Rattle.scaling.specs.One.{lit-two, litOk, lit-is, widen-two, clip-two, clipK, neg-two, abs-units}
@@ -31,8 +33,7 @@ use Rattle.scaling.specs.Still.{flat-two, still-two, recast-two}
 use Rattle.scaling.specs.Nan.{mul-nan}
 use Rattle.scaling.specs.Swap.{nudge-last-two}
 use Rattle.scaling.specs.Pick.{choose}
-use Rattle.scaling.specs.Plain.{le-units, units-le}
-use Rattle.algebra.specs.Order.{lt-or-le}
+use Rattle.scaling.specs.Plain.{le-units}
 use Rattle.units.specs.Runs.{Fair}
 use Rattle.units.specs.Arguments.{Argument, no-units-of}
 use Rattle.units_rf.specs.Leaves.{ratioK, leafK, spread, atan-leaf, ln-leaf, spread-leaf}
@@ -161,10 +162,6 @@ module _ {k : ℕ} {y : Float} (Y : Two binary64 k ratioOfK y y) where
       a refl refl refl
       (record { sign = λ t. e; from = inr p; to = q })
 
-  -- 0.01
-  abbrev hundredth : Float
-  hundredth = bits 0x3F84_7AE1_47AE_147B
-
   near-zero : T (le (absolute y) hundredth) → Fair k termK (horner y) (horner y)
   unfolding within clipK litOk ofBits flat-two
   near-zero t =
@@ -174,106 +171,76 @@ module _ {k : ℕ} {y : Float} (Y : Two binary64 k ratioOfK y y) where
       recast-tiny : m ≤ 2 ^ 1068 → Two binary64 k tinyK y y
       recast-tiny h = widen-two (clip-two (2 ^ 1068) (flat-two k Y) h h) tt
 
-  module _ (far : T (not (le (absolute y) hundredth))) where
-    least : 2 ^ 1067 ≤ m
-    unfolding litOk ofBits
-    least = elim (lt-or-le m (2 ^ 1067)) [
-      | inl l ↦ absurd (T-not (le (absolute y) hundredth) far
-          (units-le (abs-units (Y .first)) (lit-is binary64 hundredth tt) (le-trans (le-of-lt l) (lit≤ tt))))
-      | inr l ↦ l
-    ]
+  -- the sign and the size, by a test against a constant
+  above-units : {c : Float} {n : ℕ} → Is binary64 c false n → T (lt c y) → (Y .s ≡ false) × (n < m)
+  above-units {n = n} C t = go (Y .s) (subst T (lt-units C (Y .first)) t)
+    where
+      go : (s : Bool) → T (below false n s m) → (s ≡ false) × (n < m)
+      go false h = (refl, ltb→lt n m h)
+      go true h = absurd h
 
-    some-m : 0 < m
-    some-m = lt-of-lt-of-le (lit< tt) least
+  below-units : {c : Float} {n : ℕ} → Is binary64 c true n → T (lt y c) → (Y .s ≡ true) × (n < m)
+  below-units {n = n} C t = go (Y .s) (subst T (lt-units (Y .first) C) t)
+    where
+      go : (s : Bool) → T (below s m true n) → (s ≡ true) × (n < m)
+      go true h = (refl, ltb→lt n m h)
+      go false h = absurd h
 
-    plus : T (lt zero y) → Y .s ≡ false
-    plus t = go (Y .s) (subst T (lt-units (zero-is binary64) (Y .first)) t)
-      where
-        go : (s : Bool) → T (below false 0 s m) → s ≡ false
-        go false h = refl
-        go true h = absurd h
+  above-zero : T (toAtan y) → Fair k termK (byAtan1p y) (byAtan1p y)
+  unfolding litOk ofBits
+  above-zero t =
+      let r = above-units (lit-is binary64 hundredth tt) (subst T (atan-reached y) t) in
+      by-atan (recast (2 ^ 1067) (2 ^ 1090) Y (r .0) (le-trans (lit≤ tt) (le-of-lt (r .1))) (Y .in-first .to))
 
-    minus : T (not (lt zero y)) → Y .s ≡ true
-    minus t = go (Y .s) (subst (λ b. T (not b)) (lt-units (zero-is binary64) (Y .first)) t)
-      where
-        go : (s : Bool) → T (not (below false 0 s m)) → s ≡ true
-        go false h = absurd (T-not (ltb 0 m) h (lt→ltb 0 m some-m))
-        go true h = refl
+  module _ (minus : Y .s ≡ true) where
+    N : Two binary64 k (record { any = true; zer = true; lo = 0; hi = 2 ^ 1090; g = 0; u = 0; d = 0 }) (neg y) (neg y)
+    unfolding neg-two
+    N = neg-two Y
 
-    above-zero : T (lt zero y) → Fair k termK (byAtan1p y) (byAtan1p y)
-    above-zero t = by-atan (recast (2 ^ 1067) (2 ^ 1090) Y (plus t) least (Y .in-first .to))
+    N-plus : N .s ≡ false
+    unfolding N neg-two
+    N-plus = ap not minus
 
-    module _ (low : T (not (lt zero y))) where
-      N : Two binary64 k (record { any = true; zer = true; lo = 0; hi = 2 ^ 1090; g = 0; u = 0; d = 0 }) (neg y) (neg y)
-      unfolding neg-two
-      N = neg-two Y
+    N-units : N .m ≡ m
+    unfolding N neg-two
+    N-units = refl
 
-      N-plus : N .s ≡ false
-      unfolding N neg-two
-      N-plus = ap not (minus low)
+    sized : (lo hi : ℕ) → lo ≤ m → m ≤ hi → Two binary64 k
+        (record { any = false; zer = false; lo = lo; hi = hi; g = last binary64 lo; u = 0; d = 0 }) (neg y) (neg y)
+    sized lo hi p q = recast lo hi N N-plus (subst (λ n. lo ≤ n) (sym N-units) p) (subst (λ n. n ≤ hi) (sym N-units) q)
 
-      N-units : N .m ≡ m
-      unfolding N neg-two
-      N-units = refl
+  above-half : T (toLogs y) → Fair k termK (byLogs1p y) (byLogs1p y)
+  unfolding litOk ofBits neg
+  above-half t =
+      let h = and-r (lt (neg half) y) (lt y (neg hundredth)) (subst T (logs-reached y) t) in
+      let r = below-units (lit-is binary64 (neg hundredth) tt) h in
+      by-logs y (sized (r .0) (2 ^ 1067) (2 ^ 1090) (le-trans (lit≤ tt) (le-of-lt (r .1))) (Y .in-first .to))
 
-      sized : (lo hi : ℕ) → lo ≤ m → m ≤ hi → Two binary64 k
-          (record { any = false; zer = false; lo = lo; hi = hi; g = last binary64 lo; u = 0; d = 0 }) (neg y) (neg y)
-      sized lo hi p q = recast lo hi N N-plus (subst (λ n. lo ≤ n) (sym N-units) p) (subst (λ n. n ≤ hi) (sym N-units) q)
+  below-one : T (lt y (neg one)) → Outside y → Fair k termK (byRc1p y .value) (byRc1p y .value)
+  unfolding litOk ofBits neg
+  below-one t o =
+      let r = below-units (lit-is binary64 (neg one) tt) t in
+      let Y-is : Is binary64 y true m = subst (λ s. Is binary64 y s m) (r .0) (Y .first) in
+      let g : T (lt y (neg half)) = subst T (sym (lt-units Y-is (lit-is binary64 (neg half) tt)))
+      (lt→ltb (2 ^ 1073) m (lt-of-le-of-lt (pow-mono {i = 1073} {j = 1074} (lit≤ tt)) (r .1))) in
+      let q : 3 * 2 ^ 1073 ≤ m = nltb→le m (3 * 2 ^ 1073)
+      (subst (λ b. T (not b)) (lt-units (lit-is binary64 (neg three-halves) tt) Y-is) (o g)) in
+      by-rc y (sized (r .0) (3 * 2 ^ 1073) (2 ^ 1090) q (Y .in-first .to))
 
-      above-half : Fair k termK (byLogs1p y) (byLogs1p y)
-      above-half = by-logs y (sized (2 ^ 1067) (2 ^ 1090) least (Y .in-first .to))
+  at-half : AtHalf y → Fair k termK (byLn1p y) (byLn1p y)
+  unfolding litOk ofBits neg add within
+  at-half (inl e) =
+      subst (λ v. Fair k termK (byLn1p v) (byLn1p v)) (sym e)
+      (by-ln (neg half) (widen-two (lit-two half tt) tt) (widen-two (lit-two half tt) tt))
+  at-half (inr e) = absurd (subst (λ v. Is binary64 v (Y .s) m) e (Y .first) .val)
 
-      -- y is -m units
-      Y-is : Is binary64 y true m
-      Y-is = subst (λ s. Is binary64 y s m) (minus low) (Y .first)
-
-      minus-half : Is binary64 (neg half) true (2 ^ 1073)
-      unfolding litOk ofBits neg
-      minus-half = lit-is binary64 (neg half) tt
-
-      below-one : T (lt y (neg one)) → (T (lt y (neg half)) → T (not (lt (neg (bits 0x3FF8_0000_0000_0000)) y)))
-          → Fair k termK (byRc1p y .value) (byRc1p y .value)
-      unfolding litOk ofBits neg
-      below-one t h =
-          let one-is : Is binary64 (neg one) true (2 ^ 1074) = lit-is binary64 (neg one) tt in
-          let l : 2 ^ 1074 < m = ltb→lt (2 ^ 1074) m (subst T (lt-units Y-is one-is) t) in
-          let g : T (lt y (neg half)) = subst T (sym (lt-units Y-is minus-half))
-          (lt→ltb (2 ^ 1073) m (lt-of-le-of-lt (pow-mono {i = 1073} {j = 1074} (lit≤ tt)) l)) in
-          let q : 3 * 2 ^ 1073 ≤ m = nltb→le m (3 * 2 ^ 1073)
-          (subst (λ b. T (not b)) (lt-units (lit-is binary64 (neg (bits 0x3FF8_0000_0000_0000)) tt) Y-is) (h g)) in
-          by-rc y (sized (3 * 2 ^ 1073) (2 ^ 1090) q (Y .in-first .to))
-
-      at-half : T (not (lt (neg half) y)) → T (not (lt y (neg one)))
-          → (T (lt y (neg half)) → T (not (lt (neg (bits 0x3FF8_0000_0000_0000)) y)))
-          → Fair k termK (byLn1p y) (byLn1p y)
-      unfolding litOk ofBits neg within
-      at-half t u h =
-          let p : 2 ^ 1073 ≤ m = nltb→le m (2 ^ 1073) (subst (λ b. T (not b)) (lt-units minus-half Y-is) t) in
-          let one-is : Is binary64 (neg one) true (2 ^ 1074) = lit-is binary64 (neg one) tt in
-          let q : m ≤ 2 ^ 1074 = nltb→le (2 ^ 1074) m (subst (λ b. T (not b)) (lt-units Y-is one-is) u) in
-          let r : m ≤ 2 ^ 1073 = elim (lt-or-le (2 ^ 1073) m) [
-            | inl l ↦
-                let g : T (lt y (neg half)) = subst T (sym (lt-units Y-is minus-half)) (lt→ltb (2 ^ 1073) m l) in
-                let w : 3 * 2 ^ 1073 ≤ m = nltb→le m (3 * 2 ^ 1073)
-                (subst (λ b. T (not b)) (lt-units (lit-is binary64 (neg (bits 0x3FF8_0000_0000_0000)) tt) Y-is) (h g)) in
-                absurd (not-le-of-lt (lit< tt) (le-trans w q))
-            | inr l ↦ l
-          ] in
-          let y-is : y ≡ neg half = unique (subst (λ n. Is binary64 y true n) (le-antisymm r p) Y-is) minus-half in
-          let O : Two binary64 k halfK (one ⊕ y) (one ⊕ y) =
-          subst (λ v. Two binary64 k halfK v v) (sym (ap (λ v. one ⊕ v) y-is ∙ rest)) (widen-two (lit-two half tt) tt) in
-          by-ln y (sized (2 ^ 1073) (2 ^ 1073) p r) O
-        where
-          rest : one ⊕ neg half ≡ half
-          rest = unfold add ofBits neg in refl
-
-  pub rc1p-fair : (T (lt y (neg half)) → T (not (lt (neg (bits 0x3FF8_0000_0000_0000)) y)))
-      → Fair k termK (rc1p y .value) (rc1p y .value)
-  unfolding rc1p closedAt within litOk ofBits
-  rc1p-fair h =
+  pub rc1p-fair : Outside y → Fair k termK (rc1p y .value) (rc1p y .value)
+  unfolding rc1p closedAt
+  rc1p-fair o =
       choose (FairTerm k) (le (absolute y) hundredth) (le (absolute y) hundredth) refl near-zero
-      (λ far. choose (FairTerm k) (lt zero y) (lt zero y) refl (above-zero far)
-      (λ low. choose (FairTerm k) (eq y zero) (eq y zero) refl (λ e. inr (widen-two (lit-two one tt) tt))
-      (λ e. choose (FairTerm k) (lt (neg half) y) (lt (neg half) y) refl (λ t. above-half far low)
-      (λ t. choose (FairTerm k) (lt y (neg one)) (lt y (neg one)) refl (λ u. below-one far low u h)
-      (λ u. at-half far low t u h)))))
+      (λ far. choose (FairTerm k) (lt zero y) (lt zero y) refl (λ t. above-zero (and-i (past y) (lt zero y) far t))
+      (λ low. choose (FairTerm k) (lt (neg half) y) (lt (neg half) y) refl
+      (λ t. above-half (and-i (past y) _ far (and-i (not (lt zero y)) (lt (neg half) y) low t)))
+      (λ t. choose (FairTerm k) (lt y (neg one)) (lt y (neg one)) refl (λ u. below-one u o)
+      (λ u. at-half (ln-reached-from-rj y (Y .first .fit) o
+      (and-i (past y) _ far (and-i (not (lt zero y)) _ low (and-i (not (lt (neg half) y)) (not (lt y (neg one))) t u))))))))

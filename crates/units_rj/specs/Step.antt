@@ -17,7 +17,7 @@ use Rattle.carlson.specs.Constants.{one, four, half}
 use Rattle.carlson.specs.Common.{lambdaOf}
 use Rattle.carlson.specs.declared.answer.Found.{Found}
 use Rattle.elliprc.specs.Rc.{rcUnchecked}
-use Rattle.rj_positive.specs.Helper.{rc1p}
+use Rattle.rj_positive.specs.Helper.{three-halves, rc1p}
 use Rattle.rj_positive.specs.Duplicate.{rjDenominator, rjRatio, rjMiddle, rjTerm, rjRescalings, rjMoved, rjWith, rjStep}
 use Rattle.rj_positive.specs.declared.duplicate.Round.{Round}
 use Rattle.rj_positive.specs.declared.duplicate.Roots.{Roots}
@@ -38,12 +38,13 @@ use Rattle.units_rd.specs.Step.{lambdaK, quarter-two, mean-fourth, roots-two, l
 use Rattle.units_rj.specs.Helper.{ratioOfK, termK, FairTerm, rc1p-fair}
 use Rattle.units_rj.specs.Middle.{middleK, middle-fair}
 use Rattle.units_rj.specs.Pass.{l, l-pos}
-use Rattle.units_rj.specs.Ratio.{denominatorK, deltaK, taken, denominatorOf, denominatorOf', denominator-two, normal, ratio-two, middle-two}
+use Rattle.units_rj.specs.Ratio.{denominatorK, deltaK, taken, denominatorOf, denominatorOf'}
+use Rattle.units_rj.specs.Ratio.{denominator-two, normal, ratio-two, middle-two}
 
 -- ---- what RC gives, at floats that are the same in both runs
 abbrev termOf : Float → Float → Found
 termOf e b =
-    cond (lt e (neg half)) (cond (lt (neg (bits 0x3FF8_0000_0000_0000)) e) (rcUnchecked one b) (rc1p e)) (rc1p e)
+    cond (lt e (neg half)) (cond (lt (neg three-halves) e) (rcUnchecked one b) (rc1p e)) (rc1p e)
 
 module _ {k : ℕ} (e e' b b' : Float) (E : Two binary64 k ratioOfK e e') (B : Two binary64 k middleK b b') where
   pub term-same : termOf e b ≡ termOf e' b'
@@ -53,7 +54,7 @@ module _ {k : ℕ} (e e' b b' : Float) (E : Two binary64 k ratioOfK e e') (B : T
   term-fair =
       subst (λ f. FairTerm k (termOf e b) f) term-same
       (choose (FairTerm k) (lt e (neg half)) (lt e (neg half)) refl
-      (λ t. choose (FairTerm k) (lt (neg (bits 0x3FF8_0000_0000_0000)) e) (lt (neg (bits 0x3FF8_0000_0000_0000)) e) refl
+      (λ t. choose (FairTerm k) (lt (neg three-halves) e) (lt (neg three-halves) e) refl
       (λ u. middle-fair B₀)
       (λ u. rc1p-fair E₀ (λ q. u)))
       (λ t. rc1p-fair E₀ (λ q. absurd (T-not (lt e (neg half)) t q))))
@@ -278,7 +279,8 @@ module _ {k j : ℕ} {s s' : Round} (h : j < 100) (i : Inv k (suc j) s s') (L : 
   past : (R : Found → Found → Type 0)
       → (let d = denominatorOf (i .p) (i .x) (i .y) (i .z) in
       let d' = denominatorOf' (i .p) (i .x) (i .y) (i .z) in
-      R (termOf (s .delta ⊘ (d ⊗ d)) (rjMiddle (s .pn) (roots s) d)) (termOf (s' .delta ⊘ (d' ⊗ d')) (rjMiddle (s' .pn) (roots s') d')))
+      R (termOf (s .delta ⊘ (d ⊗ d)) (rjMiddle (s .pn) (roots s) d))
+      (termOf (s' .delta ⊘ (d' ⊗ d')) (rjMiddle (s' .pn) (roots s') d')))
       → R (termAt s) (termAt s')
   unfolding rjDenominator rjTerm rjMiddle
   past R r =
@@ -299,7 +301,8 @@ module _ {k j : ℕ} {s s' : Round} (h : j < 100) (i : Inv k (suc j) s s') (L : 
   unfolding rjMiddle
   terms = past _≡_ (term-same _ _ _ _ E (middle-two (i .p) (i .x) (i .y) (i .z)))
 
-  added : Fair k addedK (s .fmn ⊘ rjDenominator (roots s) ⊗ termAt s .value) (s' .fmn ⊘ rjDenominator (roots s') ⊗ termAt s' .value)
+  added : Fair k addedK (s .fmn ⊘ rjDenominator (roots s) ⊗ termAt s .value)
+      (s' .fmn ⊘ rjDenominator (roots s') ⊗ termAt s' .value)
   unfolding rjDenominator rjMiddle
   added =
       added-fair (widen-two (i .w) (any-fourth (suc j) j₁)) (denominator-two (i .p) (i .x) (i .y) (i .z))
