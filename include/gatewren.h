@@ -11,9 +11,9 @@
 #include <stddef.h>
 #include <stdint.h>
 
-#define GATEWREN_VERSION "0.3.0"
+#define GATEWREN_VERSION "0.4.0"
 #define GATEWREN_VERSION_MAJOR 0
-#define GATEWREN_VERSION_MINOR 3
+#define GATEWREN_VERSION_MINOR 4
 #define GATEWREN_VERSION_PATCH 0
 
 #ifdef __cplusplus
@@ -39,7 +39,8 @@ enum gatewren_outcome {
     GATEWREN_LIST_CUT = 14,     /* a work list stops inside a job */
     GATEWREN_NUMBER_BAD = 15,   /* a work list has a number over 64 bits or not in its shortest form */
     GATEWREN_UNKNOWN_FUNCTION = 16, /* a job's function is none of those that work lists know */
-    GATEWREN_NO_ROOM = 17       /* a job is longer than what is left of the buffer */
+    GATEWREN_NO_ROOM = 17,      /* a job is longer than what is left of the buffer */
+    GATEWREN_WRONG_SIGN = 21    /* RJ's p has the wrong sign for this entry */
 };
 
 /* Which formula gave a value. A call that rescales, or hands its whole answer to another function, has that one's road. */
@@ -78,9 +79,13 @@ uint32_t gatewren_rd(double x, double y, double z,
 uint32_t gatewren_rg(double x, double y, double z,
                      double *value, uint32_t *rounds, uint32_t *road, uint32_t *rescalings);
 
-/* RJ(x, y, z, p); for p below zero its Cauchy principal value. Returns 0, 1, 2, 3, 4, 6, 9 or 10. */
-uint32_t gatewren_rj(double x, double y, double z, double p,
-                     double *value, uint32_t *rounds, uint32_t *road, uint32_t *rescalings);
+/* RJ(x, y, z, p) for p above zero. Returns 0, 1, 2, 3, 4, 6, 9, 10 or 21; 21 where p is below zero. */
+uint32_t gatewren_rj_positive(double x, double y, double z, double p,
+                              double *value, uint32_t *rounds, uint32_t *road, uint32_t *rescalings);
+
+/* RJ(x, y, z, p) for p below zero, its Cauchy principal value. The same numbers; 21 where p is above zero. */
+uint32_t gatewren_rj_negative(double x, double y, double z, double p,
+                              double *value, uint32_t *rounds, uint32_t *road, uint32_t *rescalings);
 
 /*
  * The knee bench: whole micrometres, and micrometres per second squared.
@@ -126,9 +131,14 @@ static inline uint32_t gatewren_rg_answer(double x, double y, double z, gatewren
     return gatewren_rg(x, y, z, &answer->value, &answer->rounds, &answer->road, &answer->rescalings);
 }
 
-static inline uint32_t gatewren_rj_answer(double x, double y, double z, double p, gatewren_answer *answer)
+static inline uint32_t gatewren_rj_positive_answer(double x, double y, double z, double p, gatewren_answer *answer)
 {
-    return gatewren_rj(x, y, z, p, &answer->value, &answer->rounds, &answer->road, &answer->rescalings);
+    return gatewren_rj_positive(x, y, z, p, &answer->value, &answer->rounds, &answer->road, &answer->rescalings);
+}
+
+static inline uint32_t gatewren_rj_negative_answer(double x, double y, double z, double p, gatewren_answer *answer)
+{
+    return gatewren_rj_negative(x, y, z, p, &answer->value, &answer->rounds, &answer->road, &answer->rescalings);
 }
 
 static inline uint32_t gatewren_swing_answer(uint64_t length, uint64_t height, uint64_t gravity, gatewren_answer *answer)

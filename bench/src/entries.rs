@@ -54,7 +54,12 @@ fn of_three(
 }
 
 fn rj() -> Vec<Row> {
-    let ours = symbols::RJ.map(|f| move |[x, y, z, p]: [f64; 4]| value(|v, n, r, s| unsafe { f(x, y, z, p, v, n, r, s) }));
+    let ours = symbols::RJ_POSITIVE.zip(symbols::RJ_NEGATIVE).map(|(above, below)| {
+        move |[x, y, z, p]: [f64; 4]| {
+            let f = if p < 0.0 { below } else { above };
+            value(|v, n, r, s| unsafe { f(x, y, z, p, v, n, r, s) })
+        }
+    });
     let row = |name, inputs| Row::new(name, inputs, ours, |[x, y, z, p]| elliprj(x, y, z, p).unwrap_or(0.0));
     vec![
         row("RJ", many(|r| [moderate(r), moderate(r), moderate(r), moderate(r)])),

@@ -13,7 +13,7 @@ import sys
 import unittest
 
 import gatewren
-from gatewren import Refusal, Refused, Road, Value, rc, rd, rf, rg, rj
+from gatewren import Refusal, Refused, Road, Value, rc, rd, rf, rg, rj_negative, rj_positive
 
 INF, NAN = math.inf, math.nan
 
@@ -41,11 +41,11 @@ class Examples(unittest.TestCase):
             (rd(0, 0, -1), Refused(3)),
             (rg(0, 0, 4), value(0x3FF0000000000000)),
             (rg(INF, 0, 0), Refused(8)),
-            (rj(4, 4, 4, 4), value(0x3FC0000000000000)),
-            (rj(3, 2, 2, -1), value(0, Road.TAYLOR)),
-            (rj(1, 1, 1, -INF), value(0, Road.INFINITE)),
-            (rj(-1, 1, 1, -INF), Refused(2)),
-            (rj(1, 1, 1, -1.7976931348623157e308), Refused(6)),
+            (rj_positive(4, 4, 4, 4), value(0x3FC0000000000000)),
+            (rj_negative(3, 2, 2, -1), value(0, Road.TAYLOR)),
+            (rj_negative(1, 1, 1, -INF), value(0, Road.INFINITE)),
+            (rj_negative(-1, 1, 1, -INF), Refused(2)),
+            (rj_negative(1, 1, 1, -1.7976931348623157e308), Refused(6)),
         ]
         for came_out, wanted in settled:
             self.assertEqual(came_out, wanted)
@@ -56,7 +56,7 @@ class Examples(unittest.TestCase):
             (rf(1, 0.5, 0.25), 1.370171633266872),
             (rd(1, 0.5, 0.25), 4.022594757168912),
             (rg(1, 0.5, 0.25), 0.7526721491833781),
-            (rj(1, 0.5, 0.25, 0.125), 5.680557292035963),
+            (rj_positive(1, 0.5, 0.25, 0.125), 5.680557292035963),
             (rg(0, 25, 9), 25.526998863398124 / 8),
         ]
         for answer, near in printed:
@@ -75,17 +75,23 @@ class Examples(unittest.TestCase):
             (rf(0, 1, 2), Road.AGM, 0),
             (rd(0, 1, 2), Road.AGM, 0),
             (rg(1, 0.5, 0.25), Road.JOINT, 0),
-            (rj(1, 2, 3, -4), Road.REDUCTION, 0),
-            (rj(0, thirteen, thirteen, of_bits(0x37E0000000000000)), Road.CLOSED, 2),
-            (rj(*map(of_bits, bits)), Road.TAYLOR, 1),
+            (rj_negative(1, 2, 3, -4), Road.REDUCTION, 0),
+            (rj_positive(0, thirteen, thirteen, of_bits(0x37E0000000000000)), Road.CLOSED, 2),
+            (rj_negative(*map(of_bits, bits)), Road.TAYLOR, 1),
             (gatewren.swing(250_000, 50_000, 9_806_650), Road.AGM, 0),
         ]
         for answer, road, rescalings in told:
             self.assertEqual((answer.road, answer.rescalings), (road, rescalings))
 
+    def test_rj_in_two(self):
+        for x, p, number in [(NAN, -1, 1), (1, NAN, 1), (-1, -0.0, 4), (-1, -1, 21), (1, -INF, 21)]:
+            self.assertEqual(rj_positive(x, 1, 1, p), Refused(number))
+        for x, p, number in [(NAN, 1, 1), (1, NAN, 1), (-1, 0.0, 4), (-1, 1, 21), (1, INF, 21), (-1, -1, 2)]:
+            self.assertEqual(rj_negative(x, 1, 1, p), Refused(number))
+
     def test_no_10(self):
         tiny = of_bits(1)
-        self.assertEqual(rj(0, tiny, 0.25, -tiny), Refused(Refusal.TOO_DEEP))
+        self.assertEqual(rj_negative(0, tiny, 0.25, -tiny), Refused(Refusal.TOO_DEEP))
 
     def test_work_lists(self):
         top = 2**64 - 1
@@ -143,7 +149,7 @@ class Examples(unittest.TestCase):
                 gatewren.steps(0, bad)
 
     def test_the_number_of_arguments(self):
-        for call in (rc, rf, rd, rg, rj, gatewren.sqrt, gatewren.mul_add):
+        for call in (rc, rf, rd, rg, rj_positive, rj_negative, gatewren.sqrt, gatewren.mul_add):
             with self.assertRaises(TypeError, msg=call.__name__):
                 call()
             with self.assertRaises(TypeError, msg=call.__name__):
@@ -158,7 +164,7 @@ class Examples(unittest.TestCase):
         number, whole = "SupportsFloat", "SupportsIndex"
         wanted = {
             rf: f"(x: '{number}', y: '{number}', z: '{number}') -> 'Value | Refused'",
-            rj: f"(x: '{number}', y: '{number}', z: '{number}', p: '{number}') -> 'Value | Refused'",
+            rj_positive: f"(x: '{number}', y: '{number}', z: '{number}', p: '{number}') -> 'Value | Refused'",
             gatewren.swing: f"(length: '{whole}', height: '{whole}', gravity: '{whole}') -> 'Value | Refused'",
             gatewren.steps: f"(total: '{whole}', readings: 'Iterable[{whole}]') -> 'Total | Refused'",
             gatewren.mul_add: f"(a: '{number}', b: '{number}', c: '{number}') -> 'float'",
@@ -217,7 +223,7 @@ class Answers(unittest.TestCase):
             rf(-1, 1, 1).value = 1.0
 
     def test_every_number_has_a_meaning(self):
-        self.assertEqual([refusal.value for refusal in Refusal], list(range(1, 18)))
+        self.assertEqual([refusal.value for refusal in Refusal], [*range(1, 18), 21])
         for number in (0, 18):
             with self.assertRaises(ValueError):
                 Refused(number)
@@ -227,7 +233,7 @@ class Interface(unittest.TestCase):
     """The C interface as include/gatewren.h has it."""
 
     ENTRIES = [("rc", (-1.0, 1.0)), ("rf", (-1.0, 1.0, 1.0)), ("rd", (-1.0, 1.0, 1.0)), ("rg", (-1.0, 1.0, 1.0))]
-    ENTRIES.append(("rj", (-1.0, 1.0, 1.0, 1.0)))
+    ENTRIES += [("rj_positive", (-1.0, 1.0, 1.0, 1.0)), ("rj_negative", (-1.0, 1.0, 1.0, -1.0))]
 
     def test_a_refusal_touches_no_place(self):
         for name, arguments in self.ENTRIES:
@@ -239,7 +245,7 @@ class Interface(unittest.TestCase):
     def test_the_header_names_every_function_that_is_called(self):
         header = pathlib.Path(__file__).resolve().parents[2] / "include" / "gatewren.h"
         text = header.read_text()
-        names = ["rc", "rf", "rd", "rg", "rj", "sqrt", "mul_add", "pow_neg_3_2", "atan", "ln", "ln_1p", "swing", "steps"]
+        names = ["rc", "rf", "rd", "rg", "rj_positive", "rj_negative", "sqrt", "mul_add", "pow_neg_3_2", "atan", "ln", "ln_1p", "swing", "steps"]
         for name in names:
             self.assertIn(f"gatewren_{name}(", text)
         for refusal in Refusal:

@@ -4,7 +4,7 @@ use crate::call::{Call, Entry};
 use crate::symbols;
 use doc01::{Answer, Road, Way};
 
-/// Nothing where the entry is not linked, or where a refusal touched a place.
+/// Nothing where the entry is not linked, where a refusal touched a place, or where RJ's other entry does not refuse as it must.
 pub fn answer(call: &Call) -> Option<Answer> {
     // The functions read numbers and write through four pointers, which live for the call.
     match (call.entry, call.args()) {
@@ -13,8 +13,11 @@ pub fn answer(call: &Call) -> Option<Answer> {
             told(|v, n, r, s| unsafe { rc(x, y, v, n, r, s) })
         }
         (Entry::RJ, &[x, y, z, p]) => {
-            let rj = symbols::RJ?;
-            told(|v, n, r, s| unsafe { rj(x, y, z, p, v, n, r, s) })
+            let (positive, negative) = (symbols::RJ_POSITIVE?, symbols::RJ_NEGATIVE?);
+            let (own, other) = if p < 0.0 { (negative, positive) } else { (positive, negative) };
+            let answer = told(|v, n, r, s| unsafe { own(x, y, z, p, v, n, r, s) })?;
+            let wrong = told(|v, n, r, s| unsafe { other(x, y, z, p, v, n, r, s) })?;
+            (wrong == of_the_wrong_sign(x, y, z, p)).then_some(answer)
         }
         (entry, &[x, y, z]) => {
             let three = match entry {
@@ -26,6 +29,15 @@ pub fn answer(call: &Call) -> Option<Answer> {
         }
         _ => unreachable!("a call has its entry's number of arguments"),
     }
+}
+
+/// Document 02, 2026-10: what the entry for the other sign must say. 1 and 4 come before its 21, so that a NaN or zero p is refused
+/// alike by both.
+fn of_the_wrong_sign(x: f64, y: f64, z: f64, p: f64) -> Answer {
+    if [x, y, z, p].iter().any(|arg| arg.is_nan()) {
+        return Answer::Refused(1);
+    }
+    Answer::Refused(if p == 0.0 { 4 } else { 21 })
 }
 
 /// What a function with four places answers; nothing where a refusal touched one of them, or the road is none.

@@ -33,7 +33,8 @@ linked! {
     "lib-rc-rf" RF = gatewren_rf(f64, f64, f64, *mut f64, *mut u32, *mut u32, *mut u32) -> u32;
     "lib-rd-rg" RD = gatewren_rd(f64, f64, f64, *mut f64, *mut u32, *mut u32, *mut u32) -> u32;
     "lib-rd-rg" RG = gatewren_rg(f64, f64, f64, *mut f64, *mut u32, *mut u32, *mut u32) -> u32;
-    "lib-rj" RJ = gatewren_rj(f64, f64, f64, f64, *mut f64, *mut u32, *mut u32, *mut u32) -> u32;
+    "lib-rj" RJ_POSITIVE = gatewren_rj_positive(f64, f64, f64, f64, *mut f64, *mut u32, *mut u32, *mut u32) -> u32;
+    "lib-rj" RJ_NEGATIVE = gatewren_rj_negative(f64, f64, f64, f64, *mut f64, *mut u32, *mut u32, *mut u32) -> u32;
 }
 
 // Request 2026-01: likewise; a log's readings go as a pointer and a length.

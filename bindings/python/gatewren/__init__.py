@@ -1,4 +1,4 @@
-"""Gatewren for Python: Carlson's elliptic integrals rc, rf, rd, rg, rj, the leaves they stand on, the knee bench's swing time and
+"""Gatewren for Python: Carlson's elliptic integrals rc, rf, rd, rg, rj_positive, rj_negative, the leaves they stand on, the knee bench's swing time and
 step log, and the packed work lists of its controller.
 
 What is called is the proved library as a shared object, which `./gatewren shared` builds and `pip install` takes along;
@@ -25,10 +25,10 @@ import pathlib
 from collections.abc import Callable, Iterable
 from typing import NamedTuple, NoReturn, SupportsFloat, SupportsIndex
 
-__all__ = ["Refusal", "Road", "Answer", "Value", "Total", "Refused", "rc", "rf", "rd", "rg", "rj"]
+__all__ = ["Refusal", "Road", "Answer", "Value", "Total", "Refused", "rc", "rf", "rd", "rg", "rj_positive", "rj_negative"]
 __all__ += ["Job", "ReadList", "read_list", "write_list", "swing", "steps", "sqrt", "mul_add", "pow_neg_3_2", "atan", "ln", "ln_1p"]
 
-__version__ = "0.3.0"
+__version__ = "0.4.0"
 
 
 class Refusal(enum.Enum):
@@ -51,6 +51,7 @@ class Refusal(enum.Enum):
     NUMBER_BAD = 15  # a work list has a number over 64 bits or not in its shortest form
     UNKNOWN_FUNCTION = 16  # a job's function is none of those that work lists know
     NO_ROOM = 17  # a job is longer than what is left of the buffer
+    WRONG_SIGN = 21  # RJ's p has the wrong sign for this entry
 
 
 class Road(enum.Enum):
@@ -196,7 +197,8 @@ _RC = _entry("rc", [_DOUBLE] * 2)
 _RF = _entry("rf", [_DOUBLE] * 3)
 _RD = _entry("rd", [_DOUBLE] * 3)
 _RG = _entry("rg", [_DOUBLE] * 3)
-_RJ = _entry("rj", [_DOUBLE] * 4)
+_RJ_POSITIVE = _entry("rj_positive", [_DOUBLE] * 4)
+_RJ_NEGATIVE = _entry("rj_negative", [_DOUBLE] * 4)
 _SWING = _entry("swing", [ctypes.c_uint64] * 3)
 _STEPS = _symbol("steps", [ctypes.POINTER(ctypes.c_uint64), ctypes.POINTER(ctypes.c_uint16), ctypes.c_size_t], ctypes.c_uint32)
 _JOB = ctypes.c_uint64 * 5
@@ -266,15 +268,24 @@ def rg(x: SupportsFloat, y: SupportsFloat, z: SupportsFloat) -> Value | Refused:
     return _RG(_DOUBLE(x), _DOUBLE(y), _DOUBLE(z))
 
 
-def rj(x: SupportsFloat, y: SupportsFloat, z: SupportsFloat, p: SupportsFloat) -> Value | Refused:
-    """RJ(x, y, z, p); for p below zero its Cauchy principal value.
+def rj_positive(x: SupportsFloat, y: SupportsFloat, z: SupportsFloat, p: SupportsFloat) -> Value | Refused:
+    """RJ(x, y, z, p) for p above zero.
 
-    >>> rj(4, 4, 4, 4)
+    >>> rj_positive(4, 4, 4, 4)
     Value(value=0.125, rounds=0, road=Road.CLOSED, rescalings=0)
-    >>> rj(3, 2, 2, -1)
+    >>> rj_positive(3, 2, 2, -1)
+    Refused(Refusal.WRONG_SIGN)
+    """
+    return _RJ_POSITIVE(_DOUBLE(x), _DOUBLE(y), _DOUBLE(z), _DOUBLE(p))
+
+
+def rj_negative(x: SupportsFloat, y: SupportsFloat, z: SupportsFloat, p: SupportsFloat) -> Value | Refused:
+    """RJ(x, y, z, p) for p below zero: its Cauchy principal value.
+
+    >>> rj_negative(3, 2, 2, -1)
     Value(value=0.0, rounds=0, road=Road.TAYLOR, rescalings=0)
     """
-    return _RJ(_DOUBLE(x), _DOUBLE(y), _DOUBLE(z), _DOUBLE(p))
+    return _RJ_NEGATIVE(_DOUBLE(x), _DOUBLE(y), _DOUBLE(z), _DOUBLE(p))
 
 
 # The knee bench.

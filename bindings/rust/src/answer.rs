@@ -114,6 +114,7 @@ refusals! {
     NumberBad = 15, "a number over 64 bits or not in its shortest form";
     UnknownFunction = 16, "a job's function is none of those that work lists know";
     NoRoom = 17, "the job is longer than what is left";
+    WrongSign = 21, "p has the wrong sign for this entry";
 }
 
 impl Refusal {

@@ -1,4 +1,4 @@
-//! The five entries. Every argument is answered, whatever its bits.
+//! The entries. Every argument is answered, whatever its bits.
 
 use crate::answer::{Answer, Places};
 use crate::symbols;
@@ -40,6 +40,10 @@ entry! {
     rg = gatewren_rg(x: f64, y: f64, z: f64)
 }
 entry! {
-    /// RJ(x, y, z, p); for p below zero its Cauchy principal value.
-    rj = gatewren_rj(x: f64, y: f64, z: f64, p: f64)
+    /// RJ(x, y, z, p) for p above zero; p below zero is refused with [`Refusal::WrongSign`](crate::Refusal::WrongSign).
+    rj_positive = gatewren_rj_positive(x: f64, y: f64, z: f64, p: f64)
+}
+entry! {
+    /// RJ(x, y, z, p) for p below zero: its Cauchy principal value. p above zero is refused.
+    rj_negative = gatewren_rj_negative(x: f64, y: f64, z: f64, p: f64)
 }

@@ -1,6 +1,6 @@
 //! Document 01's settled and printed examples, and the leaves at a few points, through the binding.
 
-use gatewren::{bench, leaf, rc, rd, rf, rg, rj, Answer, Job, Refusal, Road, WorkList};
+use gatewren::{bench, leaf, rc, rd, rf, rg, rj_negative, rj_positive, Answer, Job, Refusal, Road, WorkList};
 
 const INF: f64 = f64::INFINITY;
 const NAN: f64 = f64::NAN;
@@ -36,11 +36,11 @@ fn the_sixteen_settled_examples() {
     same(rd(0.0, 0.0, -1.0), no(3));
     same(rg(0.0, 0.0, 4.0), value(0x3FF0_0000_0000_0000));
     same(rg(INF, 0.0, 0.0), no(8));
-    same(rj(4.0, 4.0, 4.0, 4.0), value(0x3FC0_0000_0000_0000));
-    same(rj(3.0, 2.0, 2.0, -1.0), by(Road::Taylor, 0, 0, 0));
-    same(rj(1.0, 1.0, 1.0, -INF), by(Road::Infinite, 0, 0, 0));
-    same(rj(-1.0, 1.0, 1.0, -INF), no(2));
-    same(rj(1.0, 1.0, 1.0, -f64::MAX), no(6));
+    same(rj_positive(4.0, 4.0, 4.0, 4.0), value(0x3FC0_0000_0000_0000));
+    same(rj_negative(3.0, 2.0, 2.0, -1.0), by(Road::Taylor, 0, 0, 0));
+    same(rj_negative(1.0, 1.0, 1.0, -INF), by(Road::Infinite, 0, 0, 0));
+    same(rj_negative(-1.0, 1.0, 1.0, -INF), no(2));
+    same(rj_negative(1.0, 1.0, 1.0, -f64::MAX), no(6));
 }
 
 #[test]
@@ -53,7 +53,7 @@ fn the_printed_examples() {
     near(rf(1.0, 0.5, 0.25), 1.370171633266872);
     near(rd(1.0, 0.5, 0.25), 4.022594757168912);
     near(rg(1.0, 0.5, 0.25), 0.7526721491833781);
-    near(rj(1.0, 0.5, 0.25, 0.125), 5.680557292035963);
+    near(rj_positive(1.0, 0.5, 0.25, 0.125), 5.680557292035963);
     near(rg(0.0, 25.0, 9.0), 25.526998863398124 / 8.0);
     same(rd(1e-308, 1e-308, 1e-308), Answer::Refused(Refusal::NoResult));
 }
@@ -76,11 +76,11 @@ fn roads_and_rescalings() {
     assert_eq!(way(rf(0.0, 1.0, 2.0)), (Road::Agm, 0));
     assert_eq!(way(rd(0.0, 1.0, 2.0)), (Road::Agm, 0));
     assert_eq!(way(rg(1.0, 0.5, 0.25)), (Road::Joint, 0));
-    assert_eq!(way(rj(1.0, 2.0, 3.0, -4.0)), (Road::Reduction, 0));
+    assert_eq!(way(rj_negative(1.0, 2.0, 3.0, -4.0)), (Road::Reduction, 0));
     let thirteen = b(13);
-    assert_eq!(way(rj(0.0, thirteen, thirteen, b(0x37E0_0000_0000_0000))), (Road::Closed, 2));
+    assert_eq!(way(rj_positive(0.0, thirteen, thirteen, b(0x37E0_0000_0000_0000))), (Road::Closed, 2));
     let near = [0x7FE5_5555_5562_B9D6, 0x7FE5_5555_5555_5559, 0x7FEF_FFFF_FFFF_FFFF, 0xFFD5_5555_5555_5559].map(b);
-    assert_eq!(way(rj(near[0], near[1], near[2], near[3])), (Road::Taylor, 1));
+    assert_eq!(way(rj_negative(near[0], near[1], near[2], near[3])), (Road::Taylor, 1));
     assert_eq!(way(bench::swing(250_000, 50_000, 9_806_650)), (Road::Agm, 0));
     assert_eq!(Road::Duplication.to_string(), "duplication");
 }
@@ -88,17 +88,32 @@ fn roads_and_rescalings() {
 #[test]
 fn every_number_has_a_meaning() {
     let numbers: Vec<u32> = Refusal::ALL.iter().map(|refusal| refusal.number()).collect();
-    assert_eq!(numbers, (1..=17).collect::<Vec<u32>>());
+    assert_eq!(numbers, (1..=17).chain([21]).collect::<Vec<u32>>());
     assert!(Refusal::ALL.iter().all(|&refusal| Refusal::of(refusal.number()) == Some(refusal)));
     assert_eq!(Refusal::of(0), None);
     assert_eq!(Refusal::of(18), None);
+    assert_eq!(Refusal::of(22), None);
     assert_eq!(Refusal::TooDeep.to_string(), "refused 10: a fifth nested RJ call would be needed");
+}
+
+/// Request 2026-10: 1, 4, 21, 2, 3, and a zero or NaN p is refused alike by both.
+#[test]
+fn rj_in_two() {
+    let no = |number| Answer::Refused(Refusal::of(number).unwrap());
+    for (x, p, wanted) in [(NAN, -1.0, no(1)), (1.0, NAN, no(1)), (-1.0, -0.0, no(4)), (-1.0, -1.0, no(21)), (1.0, -INF, no(21))] {
+        same(rj_positive(x, 1.0, 1.0, p), wanted);
+    }
+    for (x, p, wanted) in [(NAN, 1.0, no(1)), (1.0, NAN, no(1)), (-1.0, 0.0, no(4)), (-1.0, 1.0, no(21)), (1.0, INF, no(21))] {
+        same(rj_negative(x, 1.0, 1.0, p), wanted);
+    }
+    same(rj_positive(1.0, 1.0, 1.0, INF), by(Road::Infinite, 0, 0, 0));
+    same(rj_negative(-1.0, 1.0, 1.0, -1.0), no(2));
 }
 
 #[test]
 fn no_10_is_told() {
     let tiny = f64::from_bits(1);
-    assert_eq!(rj(0.0, tiny, 0.25, -tiny), Answer::Refused(Refusal::TooDeep));
+    assert_eq!(rj_negative(0.0, tiny, 0.25, -tiny), Answer::Refused(Refusal::TooDeep));
 }
 
 #[test]

@@ -20,4 +20,5 @@ answerOf (Rc x y) = rc (number x) (number y)
 answerOf (Rf x y z) = rf (number x) (number y) (number z)
 answerOf (Rd x y z) = rd (number x) (number y) (number z)
 answerOf (Rg x y z) = rg (number x) (number y) (number z)
+-- the entry of p's sign (document 02, 2026-10), and so RJ
 answerOf (Rj x y z p) = rj (number x) (number y) (number z) (number p)

@@ -45,7 +45,8 @@ use Rattle.rj_negative.specs.NearZero.{nearZero}
 use Rattle.rj_negative.specs.Reduction.{reducedAnswer}
 use Rattle.elliprj.specs.declared.plan.Plan.{Plan}
 use Rattle.elliprj.specs.declared.plan.Plan.the-variants.{Done, Rescale, Reduce}
-use Rattle.elliprj.specs.Rj.{planUnscaled, planScaled, planNear, planOf, rjRun, rjUnchecked, rjSettled, rj}
+use Rattle.elliprj.specs.Rj.{planUnscaled, planScaled, planNear, planOf, rjRun, rjUnchecked, rjSettled, rjRest, rj}
+use Rattle.elliprj.specs.Rj.{wrong-sign, rjSigned, rjOfPositive, rjOfNegative}
 use Rattle.calls.specs.declared.Call.{Call}
 use Rattle.calls.specs.declared.Call.the-variants.{Rc, Rf, Rd, Rg, Rj}
 use Rattle.answers.specs.Answers.{number, answerOf}
@@ -227,17 +228,41 @@ run (suc left) (Rescale c) h = over-scale _ (c .scale) (run left (planOf (c .x) 
     (planned (c .x) (c .y) (c .z) (c .p)))
 run (suc left) (Reduce r) h = reduced r _ (run left (planOf (r .x) (r .y) (r .z) (r .p)) (planned (r .x) (r .y) (r .z) (r .p)))
 
-pub rj-only : (x y z p : Float) → Only Finite rjNumbers (rj x y z p)
-unfolding rj rjSettled rjUnchecked
-rj-only x y z p =
+rj-rest : (x y z p : Float) → Only Finite rjNumbers (rjRest x y z p)
+unfolding rjRest rjSettled rjUnchecked
+rj-rest x y z p =
     let Q = Only Finite rjNumbers in
-    chosen Q (anyNan4 x y z p) (refused tt)
-    (chosen Q (eq p +0) (refused tt)
-    (chosen Q (below3 x y z) (refused tt)
+    chosen Q (below3 x y z) (refused tt)
     (chosen Q (zerosOf3 x y z) (refused tt)
     (chosen Q (anyInfinite4 x y z p) (infinite-only rjNumbers)
     (told-only rjNumbers rjSettled (λ f. settled-only rjNumbers f no-result tt) (λ n. refl) tt (rjUnchecked x y z p)
-    (run 4 (planOf x y z p) (planned x y z p)))))))
+    (run 4 (planOf x y z p) (planned x y z p)))))
+
+pub rj-only : (x y z p : Float) → Only Finite rjNumbers (rj x y z p)
+unfolding rj rjSigned
+rj-only x y z p =
+    let Q = Only Finite rjNumbers in
+    chosen Q (anyNan4 x y z p) (refused tt) (chosen Q (eq p +0) (refused tt) (rj-rest x y z p))
+
+-- each of the two entries may say 21 too
+abbrev pub rjSignedNumbers : List ℕ
+rjSignedNumbers = wrong-sign ∷ rjNumbers
+
+signed-only : (wrong : Bool) (x y z p : Float) → Only Finite rjSignedNumbers (rjSigned wrong x y z p)
+unfolding rjSigned
+signed-only wrong x y z p =
+    let Q = Only Finite rjSignedNumbers in
+    chosen Q (anyNan4 x y z p) (refused tt)
+    (chosen Q (eq p +0) (refused tt)
+    (chosen Q wrong (refused tt) (longer rjNumbers rjSignedNumbers tt (rj-rest x y z p))))
+
+pub rj-positive-only : (x y z p : Float) → Only Finite rjSignedNumbers (rjOfPositive x y z p)
+unfolding rjOfPositive
+rj-positive-only x y z p = signed-only (lt p +0) x y z p
+
+pub rj-negative-only : (x y z p : Float) → Only Finite rjSignedNumbers (rjOfNegative x y z p)
+unfolding rjOfNegative
+rj-negative-only x y z p = signed-only (lt +0 p) x y z p
 
 -- ---- THE THEOREM, over a call
 abbrev pub numbersOf : Call → List ℕ

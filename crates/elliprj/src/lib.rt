@@ -1,4 +1,5 @@
-// RJ, the symmetric elliptic integral of the third kind (elliprj.rs; DLMF 19.16.2).
+// RJ, the symmetric elliptic integral of the third kind (elliprj.rs; DLMF 19.16.2), in two: an entry for p above zero, and one for
+// p below zero (document 02, 2026-10).
 mod plan;
 
 use crate::plan::Plan;
@@ -19,7 +20,19 @@ use carlson::constants::ZEROS;
 use elliprd::over_scale;
 use rj_negative::carried;
 ghost use mathlib.Core.Path.{_≡_};
-ghost use Rattle.elliprj.specs.Rj.{planOf, rjRun, rjUnchecked, rjSettled, rj};
+ghost use Rattle.elliprj.specs.Rj.{
+  planOf,
+  rjRun,
+  rjUnchecked,
+  rjSettled,
+  rjRest,
+  rjSigned,
+  rjOfPositive,
+  rjOfNegative,
+};
+
+// Document 02, 2026-10: p has the wrong sign for this entry.
+const WRONG_SIGN: u32 = 21;
 
 // Document 01, Rounds: at most four calls deep, the first included.
 const ALLOWANCE: u32 = 4;
@@ -55,15 +68,10 @@ fn settled(a: Answer) -> Answer
     }
 }
 
-pub fn elliprj(x: f64, y: f64, z: f64, p: f64) -> Answer
-    ensures { λ r. ⌜ r ≡ rj x y z p ⌝ }
+// From no. 2 on.
+fn rest(x: f64, y: f64, z: f64, p: f64) -> Answer
+    ensures { λ r. ⌜ r ≡ rjRest x y z p ⌝ }
 {
-    if any_nan4(x, y, z, p) {
-        return Answer::Refused(NAN_GIVEN);
-    }
-    if p == 0.0 {
-        return Answer::Refused(ZERO_GIVEN);
-    }
     if below3(x, y, z) {
         return Answer::Refused(BELOW_ZERO);
     }
@@ -74,4 +82,34 @@ pub fn elliprj(x: f64, y: f64, z: f64, p: f64) -> Answer
         return infinite();
     }
     settled(elliprj_unchecked(x, y, z, p))
+}
+
+// An entry that refuses one sign of p.
+fn signed(wrong: bool, x: f64, y: f64, z: f64, p: f64) -> Answer
+    ensures { λ r. ⌜ r ≡ rjSigned wrong x y z p ⌝ }
+{
+    if any_nan4(x, y, z, p) {
+        return Answer::Refused(NAN_GIVEN);
+    }
+    if p == 0.0 {
+        return Answer::Refused(ZERO_GIVEN);
+    }
+    if wrong {
+        return Answer::Refused(WRONG_SIGN);
+    }
+    rest(x, y, z, p)
+}
+
+// RJ for p above zero.
+pub fn elliprj_positive(x: f64, y: f64, z: f64, p: f64) -> Answer
+    ensures { λ r. ⌜ r ≡ rjOfPositive x y z p ⌝ }
+{
+    signed(p < 0.0, x, y, z, p)
+}
+
+// RJ for p below zero: its Cauchy principal value.
+pub fn elliprj_negative(x: f64, y: f64, z: f64, p: f64) -> Answer
+    ensures { λ r. ⌜ r ≡ rjOfNegative x y z p ⌝ }
+{
+    signed(p > 0.0, x, y, z, p)
 }

@@ -1,4 +1,4 @@
-// The five entries for C: 0 with the value, its rounds, its road and its rescalings written, or the number of the refusal with
+// The entries for C: 0 with the value, its rounds, its road and its rescalings written, or the number of the refusal with
 // none of them touched.
 use carlson::answer::Answer;
 use carlson::answer::road_number;
@@ -7,7 +7,7 @@ ghost use Rattle.elliprc.specs.Rc.{rc};
 ghost use Rattle.elliprf.specs.Rf.{rf};
 ghost use Rattle.elliprd.specs.Rd.{rd};
 ghost use Rattle.elliprg.specs.Rg.{rg};
-ghost use Rattle.elliprj.specs.Rj.{rj};
+ghost use Rattle.elliprj.specs.Rj.{rjOfPositive, rjOfNegative};
 ghost use Rattle.gatewren.specs.Told.{numberOf, valueAfter, roundsAfter, roadAfter, rescalingsAfter};
 
 pub fn told(
@@ -112,7 +112,7 @@ pub extern "C" fn gatewren_rg(
 }
 
 #[no_mangle]
-pub extern "C" fn gatewren_rj(
+pub extern "C" fn gatewren_rj_positive(
     x: f64,
     y: f64,
     z: f64,
@@ -122,14 +122,40 @@ pub extern "C" fn gatewren_rj(
     road: &mut u32,
     rescalings: &mut u32,
 ) -> u32
-    ensures { λ r. ⌜ r ≡ numberOf (rj x y z p) ⌝ }
-    ensures { λ r. ⌜ now (value .exit) ≡ valueAfter (rj x y z p) (now (value .entry)) ⌝ }
-    ensures { λ r. ⌜ now (rounds .exit) ≡ roundsAfter (rj x y z p) (now (rounds .entry)) ⌝ }
-    ensures { λ r. ⌜ now (road .exit) ≡ roadAfter (rj x y z p) (now (road .entry)) ⌝ }
-    ensures { λ r. ⌜ now (rescalings .exit) ≡ rescalingsAfter (rj x y z p) (now (rescalings .entry)) ⌝ }
+    ensures { λ r. ⌜ r ≡ numberOf (rjOfPositive x y z p) ⌝ }
+    ensures { λ r. ⌜ now (value .exit) ≡ valueAfter (rjOfPositive x y z p) (now (value .entry)) ⌝ }
+    ensures { λ r. ⌜ now (rounds .exit) ≡ roundsAfter (rjOfPositive x y z p) (now (rounds .entry)) ⌝ }
+    ensures { λ r. ⌜ now (road .exit) ≡ roadAfter (rjOfPositive x y z p) (now (road .entry)) ⌝ }
+    ensures { λ r. ⌜ now (rescalings .exit) ≡ rescalingsAfter (rjOfPositive x y z p) (now (rescalings .entry)) ⌝ }
 {
     told(
-        elliprj::elliprj(x, y, z, p),
+        elliprj::elliprj_positive(x, y, z, p),
+        value,
+        rounds,
+        road,
+        rescalings,
+    )
+}
+
+#[no_mangle]
+pub extern "C" fn gatewren_rj_negative(
+    x: f64,
+    y: f64,
+    z: f64,
+    p: f64,
+    value: &mut f64,
+    rounds: &mut u32,
+    road: &mut u32,
+    rescalings: &mut u32,
+) -> u32
+    ensures { λ r. ⌜ r ≡ numberOf (rjOfNegative x y z p) ⌝ }
+    ensures { λ r. ⌜ now (value .exit) ≡ valueAfter (rjOfNegative x y z p) (now (value .entry)) ⌝ }
+    ensures { λ r. ⌜ now (rounds .exit) ≡ roundsAfter (rjOfNegative x y z p) (now (rounds .entry)) ⌝ }
+    ensures { λ r. ⌜ now (road .exit) ≡ roadAfter (rjOfNegative x y z p) (now (road .entry)) ⌝ }
+    ensures { λ r. ⌜ now (rescalings .exit) ≡ rescalingsAfter (rjOfNegative x y z p) (now (rescalings .entry)) ⌝ }
+{
+    told(
+        elliprj::elliprj_negative(x, y, z, p),
         value,
         rounds,
         road,

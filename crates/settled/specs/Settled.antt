@@ -22,7 +22,7 @@ use Rattle.sorting.specs.Sorting.{fallXY, fallXZ, riseXY, riseYZ, rising, large
 use Rattle.elliprg.specs.Rg.{rg, rgUnchecked, rgSteps, rgSorted, rgLow, rgAlone, rgSettled}
 use Rattle.rj_positive.specs.Positive.{rjAll, rjPositive}
 use Rattle.rj_negative.specs.NearZero.{largestOf, distant, deltasOf, linearOf, errorOf, quadraticOf, cubicOf, taylorOf, nearZero}
-use Rattle.elliprj.specs.Rj.{rj, rjUnchecked, rjRun, rjSettled, planOf, planNear, planScaled, planUnscaled}
+use Rattle.elliprj.specs.Rj.{rj, rjSigned, rjRest, rjUnchecked, rjRun, rjSettled, planOf, planNear, planScaled, planUnscaled}
 
 -- ---- a row: an entry, its arguments, and the answer
 pub data Row : Type 0 where
@@ -90,7 +90,7 @@ unfolding rf rfUnchecked rfSteps rfEqual rfZero
     rc rcUnchecked rcFound rcSteps rcCases rcAtEqual
     rd rdUnchecked rdSteps rdOrdered rdEqual rdSettled
     rg rgUnchecked rgSteps rgSorted rgLow rgAlone rgSettled fallXY fallXZ riseYZ largestFirst
-    rj rjUnchecked rjRun rjSettled planOf planNear planScaled planUnscaled rjPositive rjAll rising riseXY
+    rj rjSigned rjRest rjUnchecked rjRun rjSettled planOf planNear planScaled planUnscaled rjPositive rjAll rising riseXY
     nearZero taylorOf cubicOf quadraticOf errorOf linearOf deltasOf distant largestOf
     rescaling2 rescaling3 closedAt taylorAt infiniteAt settled settledLate absolute maximum minimum root rounded value fused
     ofBits add sub mul div neg lt le eq isNan

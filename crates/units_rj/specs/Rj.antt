@@ -14,7 +14,9 @@ use Rattle.carlson.specs.Answer.{infiniteAt}
 use Rattle.carlson.specs.declared.answer.Answer.{Answer}
 use Rattle.carlson.specs.declared.answer.Answer.the-variants.{Refused}
 use Rattle.rj_positive.specs.Positive.{rjPositive}
-use Rattle.elliprj.specs.Rj.{planUnscaled, planScaled, planOf, rjRun, rjUnchecked, rjSettled, rj}
+use Rattle.elliprj.specs.Rj.{planUnscaled, planScaled, planOf, rjRun, rjUnchecked, rjSettled, rjRest, rjSigned, rj, rjOfPositive}
+use Rattle.elliprj.specs.Halves.{rj-positive-is}
+use Rattle.sorting.specs.Order.{lt-once}
 use Rattle.scaling.specs.Kind.{Kind}
 use Rattle.scaling.specs.Units.{Is, lt-units}
 use Rattle.scaling.specs.Two.{Two}
@@ -118,7 +120,7 @@ module _ {k : ℕ} {x x' y y' z z' p p' : Float} (X : Two binary64 k argumentK x
   whole x y z p n e i = cond n (Refused 1) (cond e (Refused 4) (rest x y z p i))
 
   pub rj-pair : Pair k rjK (rj x y z p) (rj x' y' z' p')
-  unfolding rj
+  unfolding rj rjSigned rjRest
   rj-pair =
       subst₂ (λ n n'. Pair k rjK (whole x y z p n (eq p zero) (anyInfinite4 x y z p))
       (whole x' y' z' p' n' (eq p' zero) (anyInfinite4 x' y' z' p'))) (sym no-nan) (sym no-nan')
@@ -181,3 +183,21 @@ rj-scales u d x y z p x' y' z' p' X Y Z P X' Y' Z' P' t q r s w =
     (alike-back (upward k u x' y' z' p' x y z p X' Y' Z' P' X Y Z P (scaled-above u d p p' P P' w t) (backward k u e q)
     (backward k u e r)
     (backward k u e s) (backward k u e w))))
+
+-- and of the entry for p above zero, which is RJ there (document 02, 2026-10: "demand 3 speaks of the first")
+not-less : (p : Float) → T (lt zero p) → lt p zero ≡ false
+not-less p t = lt-once zero p (T-is (lt zero p) t)
+  where
+    T-is : (b : Bool) → T b → b ≡ true
+    T-is true t = refl
+    T-is false t = absurd t
+
+pub rj-positive-scales : (u d : ℕ) (x y z p x' y' z' p' : Float) → InRange x → InRange y → InRange z → InRange p → InRange x'
+    → InRange y' → InRange z'
+    → InRange p' → T (lt zero p)
+    → TimesFour u d x x' → TimesFour u d y y' → TimesFour u d z z' → TimesFour u d p p'
+    → Alike (3 * d) (3 * u) (rjOfPositive x y z p) (rjOfPositive x' y' z' p')
+rj-positive-scales u d x y z p x' y' z' p' X Y Z P X' Y' Z' P' t q r s w =
+    subst₂ (Alike (3 * d) (3 * u)) (sym (rj-positive-is x y z p (not-less p t)))
+    (sym (rj-positive-is x' y' z' p' (not-less p' (scaled-above u d p p' P P' w t))))
+    (rj-scales u d x y z p x' y' z' p' X Y Z P X' Y' Z' P' t q r s w)
