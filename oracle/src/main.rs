@@ -29,11 +29,8 @@ mod units_list;
 use std::process::ExitCode;
 
 const USAGE: &str = "oracle examples | make-list | check-list | call | diff N [SEED] | leaf NAME N [SEED] | cases NAME N [SEED] |
-       answers NAME | compare N [SEED [THREADS]] | units N [SEED] | effect N [SEED] | swing N [SEED] |
+       answers NAME | compare N [SEED [THREADS]] | units N [SEED] | orders N [SEED] | effect N [SEED] | swing N [SEED] |
        fuzz SECONDS [SEED] | lists N [SEED] | round N [SEED] | make-units | make-blocks";
-
-       answers NAME | compare N [SEED [THREADS]] | units N [SEED] | orders N [SEED] | effect N [SEED] |
-       swing N [SEED] | fuzz SECONDS [SEED] | lists N [SEED] | make-units | make-blocks";
 
 fn main() -> ExitCode {
     let words: Vec<String> = std::env::args().skip(1).collect();
