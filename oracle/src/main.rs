@@ -16,6 +16,7 @@ mod lines;
 mod list;
 mod listing;
 mod lists;
+mod orders;
 mod random;
 mod rescale;
 mod shapes;
@@ -28,7 +29,7 @@ mod units_list;
 use std::process::ExitCode;
 
 const USAGE: &str = "oracle examples | make-list | check-list | call | diff N [SEED] | leaf NAME N [SEED] | cases NAME N [SEED] |
-       answers NAME | compare N [SEED [THREADS]] | units N [SEED] | effect N [SEED] | swing N [SEED] |
+       answers NAME | compare N [SEED [THREADS]] | units N [SEED] | orders N [SEED] | effect N [SEED] | swing N [SEED] |
        fuzz SECONDS [SEED] | lists N [SEED] | round N [SEED] | make-units | make-blocks";
 
 fn main() -> ExitCode {
@@ -48,6 +49,8 @@ fn main() -> ExitCode {
         ["effect", n, seed] => effect::run(number(n), number(seed)),
         ["units", n] => rescale::run(number(n), 1),
         ["units", n, seed] => rescale::run(number(n), number(seed)),
+        ["orders", n] => orders::run(number(n), 1),
+        ["orders", n, seed] => orders::run(number(n), number(seed)),
         ["make-units"] => units_list::make(),
         ["make-blocks"] => blocks::make(),
         ["fuzz", seconds] => fuzz::run(number(seconds), 1),

@@ -1,3 +1,4 @@
 pub mod Sorting
 pub mod Order
+pub mod Permuted
 pub mod SortingLaws

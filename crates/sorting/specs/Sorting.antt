@@ -1,6 +1,7 @@
--- Three values brought into order by exchanges, as elliprg.rs and elliprj.rs have them. Definitions only.
+-- Three values brought into order by exchanges, as elliprg.rs and elliprj.rs have them, and what it is to be the same three in
+-- another order. Definitions only.
 use mathlib.Core.Bool.{cond}
-use lib.Ieee.{lt}
+use lib.Ieee.{Float, lt}
 use Rattle.sorting.specs.declared.Triple.{Triple}
 
 -- two are exchanged where they stand wrong
@@ -23,3 +24,14 @@ rising t = riseXY (riseYZ (riseXY t))
 -- RG's own order: the largest first, then the smallest
 unfoldable pub largestFirst : Triple → Triple
 largestFirst t = riseYZ (fallXZ (fallXY t))
+
+-- ---- the same three in another order
+abbrev pub three : Float → Float → Float → Triple
+three x y z = record { x = x; y = y; z = z }
+
+-- exchanges of the first two and of the last two, one after the other
+pub data Permuted : Triple → Triple → Type 0 where
+  as-it-is : {t : Triple} → Permuted t t
+  first-two : {x y z : Float} → Permuted (three x y z) (three y x z)
+  last-two : {x y z : Float} → Permuted (three x y z) (three x z y)
+  and-then : {t u v : Triple} → Permuted t u → Permuted u v → Permuted t v

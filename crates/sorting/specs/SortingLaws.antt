@@ -1,21 +1,15 @@
 -- What the exchanges come to: none is below the one before it, and they are the same three. NaNs are in: a NaN is below nothing,
 -- and nothing is below it; where none is NaN, the three are in order. Assumes nothing.
-use mathlib.Core.Path.{_≡_, refl, _∙_}
-use mathlib.Core.Bool.{Bool, true, false, _||_, cond, true≢false}
+use mathlib.Core.Path.{_≡_, refl, ap}
+use mathlib.Core.Bool.{Bool, true, false, cond}
 use lib.Ieee.{Float, isNan, lt, le}
 use Rattle.sorting.specs.declared.Triple.{Triple}
 use Rattle.sorting.specs.Sorting.{riseXY, riseYZ, fallXY, fallXZ, rising, largestFirst}
+use Rattle.sorting.specs.Sorting.{three, Permuted, as-it-is, first-two, last-two, and-then}
+use Rattle.sorting.specs.Permuted.{undone, turned, ends, Each, each-permuted, Rises, Upward, ToldApart, upward-only}
 use Rattle.sorting.specs.Order.{lt-once, not-below-through, not-below-le}
 
 -- ---- none is below the one before it
-pub record Rises (a b c : Float) : Type 0 where
-  pub second : lt b a ≡ false
-  pub third : lt c b ≡ false
-
--- from the smallest to the largest
-abbrev pub Upward : Triple → Type 0
-Upward t = Rises (t .x) (t .y) (t .z)
-
 -- the smallest in y, the largest in x
 abbrev pub LargestFirst : Triple → Type 0
 LargestFirst t = Rises (t .y) (t .z) (t .x)
@@ -60,48 +54,38 @@ largest-first-rises t = start (lt (t .x) (t .y)) refl
     start true e = middle (t .y) (t .x) (t .z) (lt (t .y) (t .z)) refl (lt-once (t .x) (t .y) e)
     start false e = middle (t .x) (t .y) (t .z) (lt (t .x) (t .z)) refl e
 
--- ---- the same three: whatever does not hang on the order of three values is the same of them
-module _ {A : Type 0} (f : Float → Float → Float → A) (first : (x y z : Float) → f x y z ≡ f y x z)
-    (last : (x y z : Float) → f x y z ≡ f x z y) where
-  abbrev of : Triple → A
-  of t = f (t .x) (t .y) (t .z)
+-- ---- they are the same three
+either : (b : Bool) {t u : Triple} → Permuted t u → Permuted t (cond b u t)
+either true p = p
+either false p = as-it-is
 
-  ends : (x y z : Float) → f x y z ≡ f z y x
-  ends x y z = first x y z ∙ last y x z ∙ first y z x
+rise-xy : (t : Triple) → Permuted t (riseXY t)
+unfolding riseXY
+rise-xy t = either (lt (t .y) (t .x)) first-two
 
-  either : (b : Bool) (t u : Triple) → of u ≡ of t → of (cond b u t) ≡ of t
-  either true t u e = e
-  either false t u e = refl
+rise-yz : (t : Triple) → Permuted t (riseYZ t)
+unfolding riseYZ
+rise-yz t = either (lt (t .z) (t .y)) last-two
 
-  rise-xy : (t : Triple) → of (riseXY t) ≡ of t
-  unfolding riseXY
-  rise-xy t = either (lt (t .y) (t .x)) t (record { x = t .y; y = t .x; z = t .z }) (first (t .y) (t .x) (t .z))
+fall-xy : (t : Triple) → Permuted t (fallXY t)
+unfolding fallXY
+fall-xy t = either (lt (t .x) (t .y)) first-two
 
-  rise-yz : (t : Triple) → of (riseYZ t) ≡ of t
-  unfolding riseYZ
-  rise-yz t = either (lt (t .z) (t .y)) t (record { x = t .x; y = t .z; z = t .y }) (last (t .x) (t .z) (t .y))
+fall-xz : (t : Triple) → Permuted t (fallXZ t)
+unfolding fallXZ
+fall-xz t = either (lt (t .x) (t .z)) ends
 
-  fall-xy : (t : Triple) → of (fallXY t) ≡ of t
-  unfolding fallXY
-  fall-xy t = either (lt (t .x) (t .y)) t (record { x = t .y; y = t .x; z = t .z }) (first (t .y) (t .x) (t .z))
+pub rising-permuted : (t : Triple) → Permuted t (rising t)
+unfolding rising
+rising-permuted t = and-then (rise-xy t) (and-then (rise-yz (riseXY t)) (rise-xy (riseYZ (riseXY t))))
 
-  fall-xz : (t : Triple) → of (fallXZ t) ≡ of t
-  unfolding fallXZ
-  fall-xz t = either (lt (t .x) (t .z)) t (record { x = t .z; y = t .y; z = t .x }) (ends (t .z) (t .y) (t .x))
-
-  pub rising-same : (t : Triple) → of (rising t) ≡ of t
-  unfolding rising
-  rising-same t = rise-xy (riseYZ (riseXY t)) ∙ rise-yz (riseXY t) ∙ rise-xy t
-
-  pub largest-first-same : (t : Triple) → of (largestFirst t) ≡ of t
-  unfolding largestFirst
-  largest-first-same t = rise-yz (fallXZ (fallXY t)) ∙ fall-xz (fallXY t) ∙ fall-xy t
+pub largest-first-permuted : (t : Triple) → Permuted t (largestFirst t)
+unfolding largestFirst
+largest-first-permuted t = and-then (fall-xy t) (and-then (fall-xz (fallXY t)) (rise-yz (fallXZ (fallXY t))))
 
 -- ---- where none is NaN, they are in order
-pub record Numbers (a b c : Float) : Type 0 where
-  pub first : isNan a ≡ false
-  pub middle : isNan b ≡ false
-  pub last : isNan c ≡ false
+abbrev pub Number : Float → Type 0
+Number a = isNan a ≡ false
 
 -- a <= b <= c, and so a <= c
 pub record InOrder (a b c : Float) : Type 0 where
@@ -109,59 +93,24 @@ pub record InOrder (a b c : Float) : Type 0 where
   pub upper : le b c ≡ true
   pub ends : le a c ≡ true
 
-pub in-order : {a b c : Float} → Numbers a b c → Rises a b c → InOrder a b c
+in-order : {a b c : Float} → Each Number (three a b c) → Rises a b c → InOrder a b c
 in-order {a} {b} {c} n r = record {
-  lower = not-below-le a b (n .first) (n .middle) (r .second);
-  upper = not-below-le b c (n .middle) (n .last) (r .third);
-  ends = not-below-le a c (n .first) (n .last) (not-below-through a b c (n .middle) (r .second) (r .third));
+  lower = not-below-le a b (n .x) (n .y) (r .second);
+  upper = not-below-le b c (n .y) (n .z) (r .third);
+  ends = not-below-le a c (n .x) (n .z) (not-below-through a b c (n .y) (r .second) (r .third));
 }
 
--- whether one of three is NaN does not hang on their order, so that it is the same of the three in order
-someNan : Float → Float → Float → Bool
-someNan a b c = isNan a || (isNan b || isNan c)
+pub rising-in-order : (t : Triple) → Each Number t → let r = rising t in InOrder (r .x) (r .y) (r .z)
+rising-in-order t n = in-order (each-permuted (rising-permuted t) n) (rising-rises t)
 
-first-alike : (a b c : Float) → someNan a b c ≡ someNan b a c
-unfolding someNan
-first-alike a b c = go (isNan a) (isNan b) (isNan c)
-  where
-    go : (p q r : Bool) → (p || (q || r)) ≡ (q || (p || r))
-    go true true r = refl
-    go true false r = refl
-    go false q r = refl
+pub largest-first-in-order : (t : Triple) → Each Number t → let r = largestFirst t in InOrder (r .y) (r .z) (r .x)
+largest-first-in-order t n = in-order (each-permuted (and-then (largest-first-permuted t) turned) n) (largest-first-rises t)
 
-last-alike : (a b c : Float) → someNan a b c ≡ someNan a c b
-unfolding someNan
-last-alike a b c = go (isNan a) (isNan b) (isNan c)
-  where
-    go : (p q r : Bool) → (p || (q || r)) ≡ (p || (r || q))
-    go true q r = refl
-    go false true true = refl
-    go false true false = refl
-    go false false true = refl
-    go false false false = refl
-
-none-nan : (a b c : Float) → Numbers a b c → someNan a b c ≡ false
-unfolding someNan
-none-nan a b c n = rw (n .first, n .middle, n .last)
-
-all-numbers : (a b c : Float) → someNan a b c ≡ false → Numbers a b c
-unfolding someNan
-all-numbers a b c = go (isNan a) (isNan b) (isNan c) refl refl refl
-  where
-    go : (p q r : Bool) → isNan a ≡ p → isNan b ≡ q → isNan c ≡ r → (p || (q || r)) ≡ false → Numbers a b c
-    go true q r d e f h = absurd (true≢false h)
-    go false true r d e f h = absurd (true≢false h)
-    go false false true d e f h = absurd (true≢false h)
-    go false false false d e f h = record { first = d; middle = e; last = f }
-
-kept : (t r : Triple) → someNan (r .x) (r .y) (r .z) ≡ someNan (t .x) (t .y) (t .z) → Numbers (t .x) (t .y) (t .z)
-    → Numbers (r .x) (r .y) (r .z)
-kept t r e n = all-numbers (r .x) (r .y) (r .z) (e ∙ none-nan (t .x) (t .y) (t .z) n)
-
-pub rising-in-order : (t : Triple) → Numbers (t .x) (t .y) (t .z) → let r = rising t in InOrder (r .x) (r .y) (r .z)
-rising-in-order t n = in-order (kept t (rising t) (rising-same someNan first-alike last-alike t) n) (rising-rises t)
-
-pub largest-first-in-order : (t : Triple) → Numbers (t .x) (t .y) (t .z) → let r = largestFirst t in InOrder (r .y) (r .z) (r .x)
-largest-first-in-order t n =
-    let k = kept t (largestFirst t) (largest-first-same someNan first-alike last-alike t) n in
-    in-order (record { first = k .middle; middle = k .last; last = k .first }) (largest-first-rises t)
+-- ---- and the order in which they were given is lost, where `<` tells any two of them apart
+pub largest-first-only : {P : Float → Type 0} {t u : Triple} → ToldApart P → Permuted t u → Each P t
+    → largestFirst t ≡ largestFirst u
+largest-first-only {t = t} {u = u} told p e =
+    let a = and-then (largest-first-permuted t) turned in
+    let b = and-then (largest-first-permuted u) turned in
+    ap (λ (r : Triple). three (r .z) (r .x) (r .y))
+    (upward-only told (and-then (undone a) (and-then p b)) (each-permuted a e) (largest-first-rises t) (largest-first-rises u))
