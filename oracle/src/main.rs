@@ -21,6 +21,7 @@ mod random;
 mod rescale;
 mod shapes;
 mod swing;
+#[allow(dead_code)] // the work lists are timed in bench/ and not asked here
 mod symbols;
 mod tally;
 mod units;
