@@ -7,7 +7,7 @@ use listing_write::LONGEST;
 ghost use Prim.Native.Nat.{_≤_};
 ghost use lib.ListN.{length};
 
-// What a row led to, with the entry's place in the order RC, RF, RD, RG, RJ.
+// What a row led to, with the entry's place in the order RC, RF, RD, RG, RJ, CEL.
 pub enum Verdict {
     Agrees(usize),
     Differs(usize),
@@ -22,6 +22,7 @@ fn place(call: Call) -> usize {
         Call::Rd(_, _, _) => 2,
         Call::Rg(_, _, _) => 3,
         Call::Rj(_, _, _, _) => 4,
+        Call::Cel(_, _, _, _) => 5,
     }
 }
 
