@@ -6,7 +6,7 @@ use carlson::answer::not_a_number;
 use carlson::constants::PI_2;
 use root::sqrt;
 ghost use mathlib.Core.Path.{_≡_};
-ghost use Rattle.cel.specs.Cel.{
+ghost use Rattle.cel.specs.Passes.{
   celAbove,
   celReduced,
   celBelow,

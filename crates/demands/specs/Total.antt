@@ -47,7 +47,8 @@ use Rattle.elliprj.specs.declared.plan.Plan.{Plan}
 use Rattle.elliprj.specs.declared.plan.Plan.the-variants.{Done, Rescale, Reduce}
 use Rattle.elliprj.specs.Rj.{planUnscaled, planScaled, planNear, planOf, rjRun, rjUnchecked, rjSettled, rjRest, rj}
 use Rattle.elliprj.specs.Rj.{wrong-sign, rjSigned, rjOfPositive, rjOfNegative}
-use Rattle.cel.specs.Cel.{several-infinite, a-or-b-infinite, eitherUnbounded, severalUnbounded, celSteps, celUnsettled, celSettled, cel}
+use Rattle.cel.specs.Passes.{celSteps}
+use Rattle.cel.specs.Cel.{several-infinite, a-or-b-infinite, eitherUnbounded, severalUnbounded, celUnsettled, celSettled, cel}
 use Rattle.calls.specs.declared.Call.{Call}
 use Rattle.calls.specs.declared.Call.the-variants.{Rc, Rf, Rd, Rg, Rj, Cel}
 use Rattle.answers.specs.Answers.{number, answerOf}

@@ -1,6 +1,6 @@
 -- `above` meets its contract, step by step as its definition. Assumes nothing.
 use mathlib.Core.Path.{sym}
-use Rattle.cel.specs.Cel.{celAbove}
+use Rattle.cel.specs.Passes.{celAbove}
 use Rattle.cel.proofs.passes.above.Statement.{statement}
 use Rattle.cel.proofs.passes.above.Tie as tie
 

@@ -1,6 +1,6 @@
 -- `begin` meets its contract, branch by branch. Assumes nothing.
 use mathlib.Core.Path.{sym}
-use Rattle.cel.specs.Cel.{celBegin}
+use Rattle.cel.specs.Passes.{celBegin}
 use Rattle.cel.proofs.passes.begin.Statement.{statement}
 use Rattle.cel.proofs.passes.begin.Tie as tie
 

@@ -1,6 +1,6 @@
 -- `below` meets its contract, step by step as its definition. Assumes nothing.
 use mathlib.Core.Path.{sym}
-use Rattle.cel.specs.Cel.{celBelow}
+use Rattle.cel.specs.Passes.{celBelow}
 use Rattle.cel.proofs.passes.below.Statement.{statement}
 use Rattle.cel.proofs.passes.below.Tie as tie
 

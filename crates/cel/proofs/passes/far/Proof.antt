@@ -1,6 +1,6 @@
 -- `far` meets its contract, step by step as its definition. Assumes nothing.
 use mathlib.Core.Path.{sym}
-use Rattle.cel.specs.Cel.{celFar}
+use Rattle.cel.specs.Passes.{celFar}
 use Rattle.cel.proofs.passes.far.Statement.{statement}
 use Rattle.cel.proofs.passes.far.Tie as tie
 

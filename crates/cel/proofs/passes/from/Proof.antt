@@ -6,7 +6,7 @@ use native.Mathlib.Omega.{arith}
 use lib.Ieee.{Float}
 use Rattle.carlson.specs.Answer.{loopAt}
 use Rattle.carlson.specs.Loop.{Left, left-begins, left-on, left-spent, left-found}
-use Rattle.cel.specs.Cel.{celCap, celNext, celNear, celFound, celSpent, celFrom}
+use Rattle.cel.specs.Passes.{celCap, celNext, celNear, celFound, celSpent, celFrom}
 use Rattle.cel.proofs.passes.from.Statement.{statement}
 use Rattle.cel.proofs.passes.from.Tie as tie
 

@@ -1,6 +1,6 @@
 -- `next` meets its contract, step by step as its definition. Assumes nothing.
 use mathlib.Core.Path.{sym}
-use Rattle.cel.specs.Cel.{celNext}
+use Rattle.cel.specs.Passes.{celNext}
 use Rattle.cel.proofs.passes.next.Statement.{statement}
 use Rattle.cel.proofs.passes.next.Tie as tie
 

@@ -1,5 +1,5 @@
 -- `pass` meets its contract, step by step as its definition. Assumes nothing.
-use Rattle.cel.specs.Cel.{celPass}
+use Rattle.cel.specs.Passes.{celPass}
 use Rattle.cel.proofs.passes.pass.Statement.{statement}
 use Rattle.cel.proofs.passes.pass.Tie as tie
 

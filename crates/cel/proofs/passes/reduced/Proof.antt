@@ -1,6 +1,6 @@
 -- `reduced` meets its contract, step by step as its definition. Assumes nothing.
 use mathlib.Core.Path.{refl}
-use Rattle.cel.specs.Cel.{celReduced}
+use Rattle.cel.specs.Passes.{celReduced}
 use Rattle.cel.proofs.passes.reduced.Statement.{statement}
 use Rattle.cel.proofs.passes.reduced.Tie as tie
 

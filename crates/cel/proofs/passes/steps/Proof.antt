@@ -1,6 +1,6 @@
 -- `steps` meets its contract, step by step as its definition. Assumes nothing.
 use mathlib.Core.Path.{sym}
-use Rattle.cel.specs.Cel.{celSteps}
+use Rattle.cel.specs.Passes.{celSteps}
 use Rattle.cel.proofs.passes.steps.Statement.{statement}
 use Rattle.cel.proofs.passes.steps.Tie as tie
 

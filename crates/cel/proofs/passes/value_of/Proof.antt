@@ -1,6 +1,6 @@
 -- `value_of` meets its contract, step by step as its definition. Assumes nothing.
 use mathlib.Core.Path.{refl}
-use Rattle.cel.specs.Cel.{celValue}
+use Rattle.cel.specs.Passes.{celValue}
 use Rattle.cel.proofs.passes.value_of.Statement.{statement}
 use Rattle.cel.proofs.passes.value_of.Tie as tie
 

@@ -1,6 +1,6 @@
 -- `with_kc` meets its contract, step by step as its definition. Assumes nothing.
 use mathlib.Core.Path.{refl}
-use Rattle.cel.specs.Cel.{celWith}
+use Rattle.cel.specs.Passes.{celWith}
 use Rattle.cel.proofs.passes.with_kc.Statement.{statement}
 use Rattle.cel.proofs.passes.with_kc.Tie as tie
 
