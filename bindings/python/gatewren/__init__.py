@@ -296,7 +296,7 @@ def cel(kc: SupportsFloat, p: SupportsFloat, a: SupportsFloat, b: SupportsFloat)
     """Bulirsch's cel(kc, p, a, b); for p below zero its Cauchy principal value.
 
     >>> cel(0.5, 1, 1, 1)
-    Value(value=2.1565156474996434, rounds=4, road=Road.LOOP, rescalings=0)
+    Value(value=2.1565156474996434, rounds=5, road=Road.LOOP, rescalings=0)
     >>> cel(0, 1, 1, 1)
     Refused(Refusal.ZERO_GIVEN)
     """
