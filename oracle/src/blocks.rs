@@ -19,17 +19,17 @@ fn input(program: Program) -> Vec<u8> {
     let mut text = if program == Program::Steps { numbers::total(&mut random) } else { Vec::new() };
     for border in (BLOCK..LENGTH).step_by(BLOCK) {
         fill(program, &mut random, &mut text, border);
-        let mut across = good(program, &Entry::CARLSON, &mut random);
+        let mut across = good(program, &Entry::ALL, &mut random);
         if border / BLOCK % 2 == 0 {
             across.resize(across.len() + 150, b'7');
         }
         while text.len() + across.len() <= border {
-            across = good(program, &Entry::CARLSON, &mut random);
+            across = good(program, &Entry::ALL, &mut random);
         }
         push(&mut text, across);
     }
     fill(program, &mut random, &mut text, LENGTH);
-    text.extend(good(program, &Entry::CARLSON, &mut random));
+    text.extend(good(program, &Entry::ALL, &mut random));
     text
 }
 
@@ -46,7 +46,7 @@ fn lead(program: Program) -> usize {
 fn fill(program: Program, random: &mut Random, text: &mut Vec<u8>, border: usize) {
     let end = border - lead(program);
     while text.len() + 80 < end {
-        let line = piece(program, &Entry::CARLSON, random).1;
+        let line = piece(program, &Entry::ALL, random).1;
         if line.len() < 80 && !line.contains(&b'\n') && !line.contains(&0) {
             push(text, line);
         }

@@ -247,10 +247,9 @@ pub fn round(n: u64, seed: u64) -> bool {
 
 /// The inputs of `examples/cuts` for the two programs, with what each prints on standard output and then on standard error: a
 /// list and a text of several blocks that end in a refused job and in a bad line, and good ones after it, which must not be read.
-/// The calls are document 01's.
 pub fn examples() -> [(&'static str, Vec<u8>, Vec<u8>); 2] {
-    let names = &NAMES[..Entry::CARLSON.len()];
-    let line = |random: &mut Random| good(Program::Listing, &Entry::CARLSON, random);
+    let names = &NAMES;
+    let line = |random: &mut Random| good(Program::Listing, &Entry::ALL, random);
     let mut random = Random::new(20_261_115);
     let mut list = Vec::new();
     while list.len() < 6 * 512 - 100 {
