@@ -21,8 +21,13 @@ put-argument-requires : tie.Need-put-argument-requires
 put-argument-requires c κs =
     let p = c .before .before .before in
     let s = p .before .before .before in
-    omega (arith, s .pre, p .put-name .ensures .place, put-length (p .put-name .ensures),
-      name-most (s .args .job .function))
+    omega (
+      arith,
+      s .pre,
+      p .put-name .ensures .place,
+      put-length (p .put-name .ensures),
+      name-most (s .args .job .function),
+    )
 
 put-argument-requires-2 : tie.Need-put-argument-requires-2
 put-argument-requires-2 c κs =
