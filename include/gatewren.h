@@ -1,6 +1,6 @@
 /*
- * Gatewren: Carlson's elliptic integrals RC, RF, RD, RG and RJ on doubles, proved to the last bit, the leaves they stand on, and the
- * swing time of the knee bench, and the work lists of its controller.
+ * Gatewren: Carlson's elliptic integrals RC, RF, RD, RG and RJ and Bulirsch's cel on doubles, proved to the last bit, the leaves they
+ * stand on, the swing time of the knee bench, and the work lists of its controller.
  *
  * Link libgatewren.a (rt staticlib gatewren) or libgatewren.so (./gatewren shared). Neither wants the C maths library.
  * The code counts on what IEEE 754 and C start with: rounding to nearest, and subnormal numbers kept.
@@ -26,9 +26,9 @@ enum gatewren_outcome {
     GATEWREN_NAN_GIVEN = 1,     /* an argument is NaN */
     GATEWREN_BELOW_ZERO = 2,    /* an argument is below zero that must not be */
     GATEWREN_ZEROS = 3,         /* too many zeros: two of RF's or RJ's x, y, z, or both of RD's x, y */
-    GATEWREN_ZERO_GIVEN = 4,    /* RC's y or RJ's p is zero */
+    GATEWREN_ZERO_GIVEN = 4,    /* RC's y, RJ's p, or cel's kc or p is zero */
     GATEWREN_Z_NOT_ABOVE = 5,   /* RD's z is zero or less */
-    GATEWREN_NO_RESULT = 6,     /* RF, RD or RJ ends without a finite result */
+    GATEWREN_NO_RESULT = 6,     /* RF, RD, RJ or cel ends without a finite result */
     GATEWREN_RC_NO_RESULT = 7,  /* RC ends so */
     GATEWREN_RG_NO_RESULT = 8,  /* RG ends so */
     GATEWREN_AGM_SPENT = 9,     /* the cap of 40 on RD's or RG's mean is spent */
@@ -40,6 +40,8 @@ enum gatewren_outcome {
     GATEWREN_NUMBER_BAD = 15,   /* a work list has a number over 64 bits or not in its shortest form */
     GATEWREN_UNKNOWN_FUNCTION = 16, /* a job's function is none of those that work lists know */
     GATEWREN_NO_ROOM = 17,      /* a job is longer than what is left of the buffer */
+    GATEWREN_SEVERAL_INFINITE = 19, /* more than one of cel's arguments is infinite */
+    GATEWREN_A_OR_B_INFINITE = 20, /* cel's a or b is infinite */
     GATEWREN_WRONG_SIGN = 21    /* RJ's p has the wrong sign for this entry */
 };
 
@@ -51,7 +53,8 @@ enum gatewren_road {
     GATEWREN_DUPLICATION = 4,   /* duplication */
     GATEWREN_JOINT = 5,         /* RG's duplication of RF and RD in one loop */
     GATEWREN_TAYLOR = 6,        /* the expansion near RJ's zero */
-    GATEWREN_REDUCTION = 7      /* the reduction of RJ with p below zero */
+    GATEWREN_REDUCTION = 7,     /* the reduction of RJ with p below zero */
+    GATEWREN_LOOP = 8           /* cel's loop */
 };
 
 /*
@@ -86,6 +89,10 @@ uint32_t gatewren_rj_positive(double x, double y, double z, double p,
 /* RJ(x, y, z, p) for p below zero, its Cauchy principal value. The same numbers; 21 where p is above zero. */
 uint32_t gatewren_rj_negative(double x, double y, double z, double p,
                               double *value, uint32_t *rounds, uint32_t *road, uint32_t *rescalings);
+
+/* Bulirsch's cel(kc, p, a, b); for p below zero its Cauchy principal value. Returns 0, 1, 4, 6, 19 or 20. */
+uint32_t gatewren_cel(double kc, double p, double a, double b,
+                      double *value, uint32_t *rounds, uint32_t *road, uint32_t *rescalings);
 
 /*
  * The knee bench: whole micrometres, and micrometres per second squared.
@@ -141,6 +148,11 @@ static inline uint32_t gatewren_rj_negative_answer(double x, double y, double z,
     return gatewren_rj_negative(x, y, z, p, &answer->value, &answer->rounds, &answer->road, &answer->rescalings);
 }
 
+static inline uint32_t gatewren_cel_answer(double kc, double p, double a, double b, gatewren_answer *answer)
+{
+    return gatewren_cel(kc, p, a, b, &answer->value, &answer->rounds, &answer->road, &answer->rescalings);
+}
+
 static inline uint32_t gatewren_swing_answer(uint64_t length, uint64_t height, uint64_t gravity, gatewren_answer *answer)
 {
     return gatewren_swing(length, height, gravity, &answer->value, &answer->rounds, &answer->road, &answer->rescalings);
@@ -148,7 +160,7 @@ static inline uint32_t gatewren_swing_answer(uint64_t length, uint64_t height, u
 #endif
 
 /*
- * Work lists in packed form: jobs one after another, each its function's number (RF 1, RC 2, RD 3, RG 4, RJ 5) and the 64 bits of
+ * Work lists in packed form: jobs one after another, each its function's number (RF 1, RC 2, RD 3, RG 4, RJ 5, cel 6) and the 64 bits of
  * each of its arguments, all as numbers in groups of seven bits, low group first, top bit set while more follow, shortest form only.
  */
 

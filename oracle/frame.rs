@@ -1,4 +1,5 @@
-// The part of the crate's own lib.rs and carlson/mod.rs that the five files need, for both builds.
+// The part of the crate's own lib.rs, carlson/mod.rs and bulirsch/mod.rs that the files need, for both builds. Each build has its
+// own `limits`.
 
 num_lazy::declare_nums! {@constant T}
 num_lazy::declare_nums! {@special T}
@@ -33,4 +34,28 @@ pub mod carlson {
     pub use elliprf::{elliprf, elliprf_unchecked};
     pub use elliprg::elliprg;
     pub use elliprj::elliprj;
+}
+
+#[allow(unexpected_cfgs, clippy::all)]
+pub mod bulirsch {
+    mod cel {
+        include!(concat!(env!("OUT_DIR"), "/cel.rs"));
+    }
+    // The text lacks these two. They never answer, so that p = 1 takes the general loop.
+    mod cel1 {
+        pub fn cel1_with_const<T, C>(_kc: T) -> Result<T, crate::StrErr> {
+            Err("cel1: Not in the text.")
+        }
+    }
+    mod cel2 {
+        pub fn cel2_with_const<T, C>(_kc: T, _a: T, _b: T) -> Result<T, crate::StrErr> {
+            Err("cel2: Not in the text.")
+        }
+    }
+    mod constants {
+        include!(concat!(env!("OUT_DIR"), "/constants.rs"));
+    }
+    pub(crate) use crate::limits::MAX_ITERATION;
+    pub use cel::{cel, cel_with_const};
+    pub use constants::BulirschConst;
 }

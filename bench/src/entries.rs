@@ -1,8 +1,9 @@
 //! The entries: beside the untouched crate's on plain f64. Unless said otherwise arguments are moderate.
 
 use crate::clock::Row;
-use crate::inputs::{many, moderate};
+use crate::inputs::{between, many, moderate};
 use crate::symbols;
+use untouched::bulirsch;
 use untouched::carlson::{elliprc, elliprd, elliprf, elliprg, elliprj};
 
 pub fn rows() -> Vec<Row> {
@@ -14,6 +15,7 @@ pub fn rows() -> Vec<Row> {
     let ours = symbols::RG.map(|f| move |[x, y, z]: [f64; 3]| value(|v, n, r, s| unsafe { f(x, y, z, v, n, r, s) }));
     rows.extend(of_three("RG", ours, |[x, y, z]| elliprg(x, y, z).unwrap_or(0.0)));
     rows.extend(rj());
+    rows.extend(cel());
     rows
 }
 
@@ -66,5 +68,18 @@ fn rj() -> Vec<Row> {
         row("RJ p < 0", many(|r| [moderate(r), moderate(r), moderate(r), -moderate(r)])),
         row("RJ equal", many(|r| [moderate(r); 4])),
         row("RJ x = 0", many(|r| [0.0, moderate(r), moderate(r), moderate(r)])),
+    ]
+}
+
+/// The crate's cel without cel1 and cel2, which the text lacks, with its own tolerance and cap: as many passes on these inputs, or
+/// seldom one more.
+fn cel() -> Vec<Row> {
+    let ours = symbols::CEL.map(|f| move |[kc, p, a, b]: [f64; 4]| value(|v, n, r, s| unsafe { f(kc, p, a, b, v, n, r, s) }));
+    let row = |name, inputs| Row::new(name, inputs, ours, |[kc, p, a, b]| bulirsch::cel(kc, p, a, b).unwrap_or(0.0));
+    vec![
+        row("CEL", many(|r| [moderate(r), moderate(r), moderate(r), moderate(r)])),
+        row("CEL p < 0", many(|r| [moderate(r), -moderate(r), moderate(r), moderate(r)])),
+        row("CEL p = a = b = 1", many(|r| [moderate(r), 1.0, 1.0, 1.0])),
+        row("CEL kc near 1", many(|r| [between(r, 0.9, 1.1), moderate(r), moderate(r), moderate(r)])),
     ]
 }

@@ -29,7 +29,7 @@ pub fn rows() -> Vec<Row> {
         .collect()
 }
 
-/// Jobs of all five functions in turn.
+/// Jobs of Carlson's five functions in turn.
 fn rows_of(what: &str, mut argument: impl FnMut(&mut Random) -> u64) -> Option<[Row; 2]> {
     let (read, write) = (symbols::READ_JOB?, symbols::WRITE_JOB?);
     let mut random = Random::new(7);

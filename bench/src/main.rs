@@ -43,7 +43,7 @@ fn main() {
         functions(&rows);
     }
     if !lists.is_empty() {
-        println!("\npacked work lists, jobs of all five functions in turn, least of {REPEATS} repeats");
+        println!("\npacked work lists, jobs of Carlson's five functions in turn, least of {REPEATS} repeats");
         println!("{:<32}{:>9}{:>17}{:>17}", "jobs", "ns a job", "million a second", "bytes a job");
         lists.iter().for_each(jobs::Row::print);
     }

@@ -13,7 +13,7 @@ import sys
 import unittest
 
 import gatewren
-from gatewren import Refusal, Refused, Road, Value, rc, rd, rf, rg, rj_negative, rj_positive
+from gatewren import Refusal, Refused, Road, Value, cel, rc, rd, rf, rg, rj_negative, rj_positive
 
 INF, NAN = math.inf, math.nan
 
@@ -88,6 +88,23 @@ class Examples(unittest.TestCase):
             self.assertEqual(rj_positive(x, 1, 1, p), Refused(number))
         for x, p, number in [(NAN, 1, 1), (1, NAN, 1), (-1, 0.0, 4), (-1, 1, 21), (1, INF, 21), (-1, -1, 2)]:
             self.assertEqual(rj_negative(x, 1, 1, p), Refused(number))
+
+    def test_cel_in_its_order(self):
+        told = [
+            (cel(0, NAN, 1, 1), 4),
+            (cel(1, -0.0, 1, 1), 4),
+            (cel(NAN, 1, INF, INF), 1),
+            (cel(INF, 1, INF, 1), 19),
+            (cel(0.5, 1, INF, -INF), 19),
+            (cel(0.5, 1, -INF, 1), 20),
+            (cel(0.5, 1, 1, INF), 20),
+            (cel(2.0**509, 1, 1, 1), 6),
+        ]
+        for answer, number in told:
+            self.assertEqual(answer, Refused(number))
+        for answer in (cel(-INF, 1, 1, 1), cel(0.5, -INF, 1, 1)):
+            self.assertEqual(answer, Value(0.0, 0, Road.INFINITE, 0))
+        self.assertEqual(cel(0.5, INF, -1, 1).value.hex(), (-0.0).hex())
 
     def test_no_10(self):
         tiny = of_bits(1)
@@ -223,7 +240,7 @@ class Answers(unittest.TestCase):
             rf(-1, 1, 1).value = 1.0
 
     def test_every_number_has_a_meaning(self):
-        self.assertEqual([refusal.value for refusal in Refusal], [*range(1, 18), 21])
+        self.assertEqual([refusal.value for refusal in Refusal], [*range(1, 18), 19, 20, 21])
         for number in (0, 18):
             with self.assertRaises(ValueError):
                 Refused(number)

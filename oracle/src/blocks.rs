@@ -1,6 +1,7 @@
 //! `make-blocks`: an input of several blocks for each program that reads its input in parts, and what it must print, for
 //! examples/cuts.
 
+use crate::call::Entry;
 use crate::fuzz::{good, numbers, piece};
 use crate::lines::{root, Program};
 use crate::lists::runs::examples;
@@ -11,24 +12,24 @@ use std::path::PathBuf;
 const BLOCK: usize = 1024;
 const LENGTH: usize = 6 * BLOCK - 100;
 
-/// Good lines, bad lines and long ones. At each border of a block a line lies across it, a good one and a long one in turn; the
-/// last line lacks its newline.
+/// Good lines, bad lines and long ones; the calls are document 01's. At each border of a block a line lies across it, a good one
+/// and a long one in turn; the last line lacks its newline.
 fn input(program: Program) -> Vec<u8> {
     let mut random = Random::new(20_261_115);
     let mut text = if program == Program::Steps { numbers::total(&mut random) } else { Vec::new() };
     for border in (BLOCK..LENGTH).step_by(BLOCK) {
         fill(program, &mut random, &mut text, border);
-        let mut across = good(program, &mut random);
+        let mut across = good(program, &Entry::ALL, &mut random);
         if border / BLOCK % 2 == 0 {
             across.resize(across.len() + 150, b'7');
         }
         while text.len() + across.len() <= border {
-            across = good(program, &mut random);
+            across = good(program, &Entry::ALL, &mut random);
         }
         push(&mut text, across);
     }
     fill(program, &mut random, &mut text, LENGTH);
-    text.extend(good(program, &mut random));
+    text.extend(good(program, &Entry::ALL, &mut random));
     text
 }
 
@@ -45,7 +46,7 @@ fn lead(program: Program) -> usize {
 fn fill(program: Program, random: &mut Random, text: &mut Vec<u8>, border: usize) {
     let end = border - lead(program);
     while text.len() + 80 < end {
-        let line = piece(program, random).1;
+        let line = piece(program, &Entry::ALL, random).1;
         if line.len() < 80 && !line.contains(&b'\n') && !line.contains(&0) {
             push(text, line);
         }

@@ -2,25 +2,30 @@
 
 use doc01::{Answer, Judged};
 use std::fmt;
+use untouched::bulirsch::cel;
 use untouched::carlson::{elliprc, elliprd, elliprf, elliprg, elliprj};
 
 #[derive(Clone, Copy, Debug, PartialEq, Eq)]
+#[allow(clippy::upper_case_acronyms)] // as the listing has them
 pub enum Entry {
     RC,
     RF,
     RD,
     RG,
     RJ,
+    CEL,
 }
 
 impl Entry {
-    pub const ALL: [Entry; 5] = [Entry::RC, Entry::RF, Entry::RD, Entry::RG, Entry::RJ];
+    pub const ALL: [Entry; 6] = [Entry::RC, Entry::RF, Entry::RD, Entry::RG, Entry::RJ, Entry::CEL];
+    /// Document 01's five.
+    pub const CARLSON: [Entry; 5] = [Entry::RC, Entry::RF, Entry::RD, Entry::RG, Entry::RJ];
 
     pub fn arity(self) -> usize {
         match self {
             Entry::RC => 2,
             Entry::RF | Entry::RD | Entry::RG => 3,
-            Entry::RJ => 4,
+            Entry::RJ | Entry::CEL => 4,
         }
     }
 }
@@ -58,7 +63,7 @@ impl Call {
         (args.len() == entry.arity()).then(|| Call::new(entry, &args))
     }
 
-    /// What document 01 says.
+    /// What the documents say.
     pub fn judged(&self) -> Judged {
         let [x, y, z, p] = self.args;
         match self.entry {
@@ -67,10 +72,12 @@ impl Call {
             Entry::RD => doc01::rd(x, y, z),
             Entry::RG => doc01::rg(x, y, z),
             Entry::RJ => doc01::rj(x, y, z, p),
+            Entry::CEL => doc01::cel(x, y, z, p),
         }
     }
 
-    /// What the untouched crate says: a value, or a number for no. Not to be asked where document 01 says 9 or 10.
+    /// What the untouched crate says: a value, or a number for no. Not to be asked where document 01 says 9 or 10. Its cel has
+    /// neither `cel1` nor `cel2`, as the text does not.
     ///
     /// Elsewhere it ends. Its loops are capped but for the AGM of RD and RG, and RJ calls itself; whether these go on
     /// is decided by sums, products, quotients, roots, fused multiply-adds, absolute values and comparisons only, and
@@ -84,6 +91,7 @@ impl Call {
             Entry::RD => elliprd(x, y, z),
             Entry::RG => elliprg(x, y, z),
             Entry::RJ => elliprj(x, y, z, p),
+            Entry::CEL => cel(x, y, z, p),
         };
         said.map_err(doc01::refusal)
     }

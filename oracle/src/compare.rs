@@ -24,12 +24,13 @@ struct Row {
     share: u64,
 }
 
-/// A leaf has one part of all calls, RC, RF, RD and RG two each, RJ three for either sign of p.
+/// A leaf has one part of all calls, RC, RF, RD and RG two each, RJ three for either sign of p, cel two.
 fn rows() -> Vec<Row> {
     let leaves = leaf::ALL.into_iter().map(|leaf| Row { function: Function::Leaf(leaf), share: 1 });
     let four = [Entry::RC, Entry::RF, Entry::RD, Entry::RG].map(|entry| Row { function: Function::Entry(entry), share: 2 });
     let rj = [false, true].map(|below_zero| Row { function: Function::Rj(below_zero), share: 3 });
-    leaves.chain(four).chain(rj).collect()
+    let cel = Row { function: Function::Entry(Entry::CEL), share: 2 };
+    leaves.chain(four).chain(rj).chain([cel]).collect()
 }
 
 /// So many calls of a row.
@@ -141,8 +142,9 @@ impl Row {
 
 const NOTES: &str = "differ: answers of libgatewren.a that are not the oracle's, in value, count, road, rescalings or number.
 untouched: how many values of the untouched crate (for a leaf, of the standard library, which it calls) are other bits, and how
-many units apart they are at most, in the unit of document 01's value. Near RJ's zero parts of about equal size are taken from
-one another, so that the unit is small and the error is not: those calls are left out of the column and stand below.
+many units apart they are at most, in the unit of document 01's value. Near a zero of RJ or cel parts of about equal size are
+taken from one another, so that the unit is small and the error is not: those calls are left out of the column and stand below.
+Cel is asked of the crate with its own tolerance, 1e-8, and its own cap, 10 passes; its other bits are not claimed.
 kinds: one of the two is finite and the other infinite, NaN or refused, or the numbers differ. For ln_1p these are the
 arguments outside of document 01's range, where the leaf is NaN.";
 
@@ -214,7 +216,7 @@ mod tests {
     #[test]
     fn all_calls_are_given_out() {
         let rows = rows();
-        for n in [0, 1, 19, 20, 1_000_003] {
+        for n in [0, 1, 21, 22, 1_000_003] {
             let pieces = pieces(&rows, n, 3);
             assert_eq!(pieces.iter().map(|piece| piece.calls).sum::<u64>(), n);
         }

@@ -26,8 +26,8 @@ fn print(tally: &Tally, entry: Entry) {
     let part = 100.0 * it.differ as f64 / tally.values.max(1) as f64;
     println!("  untouched: {} values differ ({part:.2} %), over {LEVELS:?} units: {:?}", it.differ, it.over);
     println!("  largest {}", largest(&it.largest, entry));
-    if entry == Entry::RJ {
-        println!("  largest near RJ's zero {}", largest(&it.largest_near_zero, entry));
+    if matches!(entry, Entry::RJ | Entry::CEL) {
+        println!("  largest near {entry:?}'s zeros {}", largest(&it.largest_near_zero, entry));
     }
     let first = it.first_kind.map_or(String::new(), |args| {
         let call = call_of(args, entry);

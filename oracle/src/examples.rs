@@ -11,7 +11,7 @@ pub enum Stated {
     Near(f64),
 }
 
-use Entry::{RC, RD, RF, RG, RJ};
+use Entry::{CEL, RC, RD, RF, RG, RJ};
 use Stated::{Bits, Near, Refused};
 
 const INF: f64 = f64::INFINITY;
@@ -37,7 +37,7 @@ pub const SETTLED: [(Entry, &[f64], Stated); 16] = [
 ];
 
 /// The crate's comments (the perimeter of an ellipse is 8 RG), and the case that document 01 has run.
-pub const PRINTED: [(Entry, &[f64], Stated); 7] = [
+pub const PRINTED: [(Entry, &[f64], Stated); 8] = [
     (RC, &[1.0, 0.5], Near(1.2464504802804608)),
     (RF, &[1.0, 0.5, 0.25], Near(1.370171633266872)),
     (RD, &[1.0, 0.5, 0.25], Near(4.022594757168912)),
@@ -45,6 +45,7 @@ pub const PRINTED: [(Entry, &[f64], Stated); 7] = [
     (RJ, &[1.0, 0.5, 0.25, 0.125], Near(5.680557292035963)),
     (RG, &[0.0, 25.0, 9.0], Near(25.526998863398124 / 8.0)),
     (RD, &[1e-308, 1e-308, 1e-308], Refused(6)),
+    (CEL, &[0.5, 1.0, 1.0, 1.0], Near(2.1565156474996434)),
 ];
 
 pub fn run() -> bool {

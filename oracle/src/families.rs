@@ -1,6 +1,7 @@
 //! The calls of the fixed list, family by family. All is decided by the fixed seeds, so that the list is the same
 //! wherever it is made.
 
+mod cel;
 mod own;
 mod rj;
 
@@ -18,7 +19,10 @@ pub fn all() -> Vec<Call> {
         calls.extend(corners(&mut random, entry));
         calls.extend(every_exponent(&mut random, entry));
         calls.extend(equal(&mut random, entry));
-        calls.extend(borders(&mut random, entry));
+        // cel does not rescale
+        if entry != Entry::CEL {
+            calls.extend(borders(&mut random, entry));
+        }
         calls.extend(ratios(&mut random, entry));
         calls.extend(by_chance(&mut random, entry));
         calls.extend(match entry {
@@ -26,6 +30,7 @@ pub fn all() -> Vec<Call> {
             Entry::RF | Entry::RG => own::one_zero(&mut random, entry),
             Entry::RD => own::rd(&mut random),
             Entry::RJ => rj::calls(&mut random),
+            Entry::CEL => cel::calls(&mut random),
         });
     }
     calls
@@ -47,6 +52,22 @@ fn stated() -> Vec<Call> {
         // Closed with two rescalings, those of its RC; and the expansion after one.
         "RJ 0000000000000000 000000000000000D 000000000000000D 37E0000000000000",
         "RJ 7FE555555562B9D6 7FE5555555555559 7FEFFFFFFFFFFFFF FFD5555555555559",
+        // Cel: an infinite p whose zero the steps give, with the sign of a; one below zero and an infinite kc, where the rule does.
+        "CEL 3FE0000000000000 7FF0000000000000 BFF0000000000000 3FF0000000000000",
+        "CEL 3FE0000000000000 7FF0000000000000 3FF0000000000000 3FF0000000000000",
+        "CEL 3FE0000000000000 FFF0000000000000 3FF0000000000000 3FF0000000000000",
+        "CEL 7FF0000000000000 3FF0000000000000 3FF0000000000000 3FF0000000000000",
+        "CEL FFF0000000000000 3FF0000000000000 BFF0000000000000 3FF0000000000000",
+        // Large kc: the last value, which is a zero; no. 6, which the Rust says too; no. 6, where the Rust says 0.
+        "CEL 5FB0000000000000 3FF0000000000000 3FF0000000000000 3FF0000000000000",
+        "CEL 5FC0000000000000 3FF0000000000000 3FF0000000000000 3FF0000000000000",
+        "CEL 5FD0000000000000 3FF0000000000000 3FF0000000000000 3FF0000000000000",
+        // An infinite a or b, where the Rust hands out an infinity; two infinite; a NaN before them; a zero before a NaN.
+        "CEL 3FE0000000000000 3FF0000000000000 FFF0000000000000 3FF0000000000000",
+        "CEL 3FE0000000000000 3FF0000000000000 3FF0000000000000 7FF0000000000000",
+        "CEL 3FE0000000000000 3FF0000000000000 7FF0000000000000 7FF0000000000000",
+        "CEL 3FE0000000000000 7FF8000000000000 7FF0000000000000 7FF0000000000000",
+        "CEL 8000000000000000 7FF8000000000000 7FF0000000000000 7FF0000000000000",
     ];
     calls.extend(found.iter().map(|line| Call::parse(line).expect("a call")));
     calls

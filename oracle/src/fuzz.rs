@@ -5,6 +5,7 @@ mod calls;
 mod mutate;
 pub mod numbers;
 
+use crate::call::Entry;
 use crate::lines::Program;
 use crate::lists;
 use crate::random::Random;
@@ -20,15 +21,18 @@ fn kinds(program: Program) -> Vec<&'static str> {
     [&["a good line"], &mutate::KINDS[..], own].concat()
 }
 
-/// One piece of text without its newline (some have newlines within), and its kind.
-pub fn piece(program: Program, random: &mut Random) -> (usize, Vec<u8>) {
+/// One piece of text without its newline (some have newlines within), and its kind; a call is one of these entries'.
+pub fn piece(program: Program, entries: &[Entry], random: &mut Random) -> (usize, Vec<u8>) {
     // Every other piece is a good line, so that what follows a bad line is asked for.
     let kind = if random.coin() { 0 } else { random.below(kinds(program).len() as u64) as usize };
-    let line = good(program, random);
+    let line = good(program, entries, random);
     let own = 1 + mutate::KINDS.len();
     let made = match (kind, program) {
         (0, _) => line,
-        (kind, _) if kind < own => mutate::made(random, kind - 1, line, program),
+        (kind, _) if kind < own => {
+            let another = |random: &mut Random| good(program, entries, random);
+            mutate::made(random, kind - 1, line, another)
+        }
         (kind, Program::Listing) => calls::made(random, kind - own, line),
         (kind, _) => numbers::made(random, kind - own, line, program),
     };
@@ -36,9 +40,9 @@ pub fn piece(program: Program, random: &mut Random) -> (usize, Vec<u8>) {
 }
 
 /// A line as it should be.
-pub fn good(program: Program, random: &mut Random) -> Vec<u8> {
+pub fn good(program: Program, entries: &[Entry], random: &mut Random) -> Vec<u8> {
     match program {
-        Program::Listing => calls::good(random),
+        Program::Listing => calls::good(entries, random),
         _ => numbers::good(random, program),
     }
 }
@@ -114,7 +118,7 @@ fn stream(program: Program, random: &mut Random, counts: &mut Counts) -> Vec<u8>
     // Most step logs begin with a total, half of them one that the readings may take past 2^64 - 1.
     let mut input = if program == Program::Steps && random.below(4) > 0 { numbers::total(random) } else { Vec::new() };
     for i in 0..lines {
-        let (kind, piece) = piece(program, random);
+        let (kind, piece) = piece(program, &Entry::ALL, random);
         counts.kinds[kind].0 += 1;
         counts.kinds[kind].1 += u64::from(program.takes(&piece));
         input.extend(piece);

@@ -19,6 +19,10 @@ pub fn answer(call: &Call) -> Option<Answer> {
             let wrong = told(|v, n, r, s| unsafe { other(x, y, z, p, v, n, r, s) })?;
             (wrong == of_the_wrong_sign(x, y, z, p)).then_some(answer)
         }
+        (Entry::CEL, &[kc, p, a, b]) => {
+            let cel = symbols::CEL?;
+            told(|v, n, r, s| unsafe { cel(kc, p, a, b, v, n, r, s) })
+        }
         (entry, &[x, y, z]) => {
             let three = match entry {
                 Entry::RF => symbols::RF?,
@@ -53,5 +57,5 @@ pub fn told(ask: impl FnOnce(*mut f64, *mut u32, *mut u32, *mut u32) -> u32) -> 
 /// The header's numbers.
 fn numbered(road: u32) -> Option<Road> {
     use Road::*;
-    [Closed, Infinite, Agm, Duplication, Joint, Taylor, Reduction].get((road as usize).checked_sub(1)?).copied()
+    [Closed, Infinite, Agm, Duplication, Joint, Taylor, Reduction, Loop].get((road as usize).checked_sub(1)?).copied()
 }

@@ -175,6 +175,14 @@ mod tests {
     }
 
     #[test]
+    fn three_letters() {
+        let one = "3FF0000000000000";
+        let listed =
+            said(Program::Listing, format!("CEL {one} {one} {one} {one}\nCEL {one} {one} {one}\nCE {one} {one}").as_bytes());
+        assert_eq!(listed, "carlson 2\nCEL 3FF921FB54442D18 1 loop 0\nbad line\nbad line\n");
+    }
+
+    #[test]
     fn what_a_number_is() {
         assert_eq!(numbers(b"1 20 18446744073709551615"), Some(vec![1, 20, u64::MAX]));
         for bad in ["", "00", "01", "+1", "-1", "1 ", " 1", "1  2", "1\t2", "1\r", "18446744073709551616", "1.0", "1e3", "0x1"] {

@@ -7,7 +7,7 @@ use doc01::{Answer, Judged, Road};
 use std::collections::{BTreeMap, HashSet};
 use std::path::PathBuf;
 
-const HEADER: &str = "gatewren calls 2";
+const HEADER: &str = "gatewren calls 3";
 
 fn path() -> PathBuf {
     PathBuf::from(env!("CARGO_MANIFEST_DIR")).join("../crates/replay/stdin")

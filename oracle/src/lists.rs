@@ -9,7 +9,8 @@ use crate::lines::lines;
 /// A job: its function's number and its arguments.
 type Job = (u64, Vec<u64>);
 
-const NAMES: [(u64, Entry); 5] = [(1, Entry::RF), (2, Entry::RC), (3, Entry::RD), (4, Entry::RG), (5, Entry::RJ)];
+const NAMES: [(u64, Entry); 6] =
+    [(1, Entry::RF), (2, Entry::RC), (3, Entry::RD), (4, Entry::RG), (5, Entry::RJ), (6, Entry::CEL)];
 
 fn entry_of(function: u64) -> Option<Entry> {
     NAMES.into_iter().find(|&(number, _)| number == function).map(|(_, entry)| entry)

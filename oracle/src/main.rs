@@ -3,6 +3,7 @@
 mod aims;
 mod blocks;
 mod call;
+mod cel;
 mod compare;
 mod diff;
 mod effect;
@@ -31,7 +32,7 @@ use std::process::ExitCode;
 
 const USAGE: &str = "oracle examples | make-list | check-list | call | diff N [SEED] | leaf NAME N [SEED] | cases NAME N [SEED] |
        answers NAME | compare N [SEED [THREADS]] | units N [SEED] | orders N [SEED] | effect N [SEED] | swing N [SEED] |
-       fuzz SECONDS [SEED] | lists N [SEED] | round N [SEED] | make-units | make-blocks";
+       fuzz SECONDS [SEED] | lists N [SEED] | round N [SEED] | cel N [SEED] | make-units | make-blocks";
 
 fn main() -> ExitCode {
     let words: Vec<String> = std::env::args().skip(1).collect();
@@ -65,6 +66,8 @@ fn main() -> ExitCode {
         ["lists", n, seed] => lists::runs::run(number(n), number(seed)),
         ["round", n] => lists::runs::round(number(n), 1),
         ["round", n, seed] => lists::runs::round(number(n), number(seed)),
+        ["cel", n] => cel::run(number(n), 1),
+        ["cel", n, seed] => cel::run(number(n), number(seed)),
         ["swing", n] => swing::run(number(n), 1),
         ["swing", n, seed] => swing::run(number(n), number(seed)),
         _ => {

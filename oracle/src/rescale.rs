@@ -16,6 +16,7 @@ fn weight(entry: Entry) -> i64 {
         Entry::RC | Entry::RF => -1,
         Entry::RD | Entry::RJ => -3,
         Entry::RG => 1,
+        Entry::CEL => unreachable!("demand 3 does not speak of cel"),
     }
 }
 
@@ -95,11 +96,11 @@ impl Tally {
 pub fn run(n: u64, seed: u64) -> bool {
     let start = Instant::now();
     let mut tallies = Vec::new();
-    for (i, entry) in Entry::ALL.into_iter().enumerate() {
+    for (i, entry) in Entry::CARLSON.into_iter().enumerate() {
         let mut random = Random::new(seed.wrapping_mul(1_000_003).wrapping_add(i as u64));
         let mut tally = Tally::default();
-        let rest = if i + 1 == Entry::ALL.len() { n % Entry::ALL.len() as u64 } else { 0 };
-        for _ in 0..n / Entry::ALL.len() as u64 + rest {
+        let rest = if i + 1 == Entry::CARLSON.len() { n % Entry::CARLSON.len() as u64 } else { 0 };
+        for _ in 0..n / Entry::CARLSON.len() as u64 + rest {
             let (call, k) = pair(&mut random, entry);
             if !tally.take(&call, k) {
                 println!("{entry:?} is NOT linked: `rt staticlib gatewren` first");
@@ -164,7 +165,7 @@ mod tests {
     #[test]
     fn pairs_stay_in_range() {
         let mut random = Random::new(5);
-        for entry in Entry::ALL {
+        for entry in Entry::CARLSON {
             for _ in 0..20_000 {
                 let (call, k) = pair(&mut random, entry);
                 assert!(asked(&call) && asked(&scaled(&call, k)), "{call} {k}");

@@ -1,6 +1,7 @@
 //! Arguments by chance, in the shapes that the entries' branches ask for.
 
 use crate::call::{Call, Entry};
+use crate::cel;
 use crate::random::Random;
 
 pub const LARGEST: u64 = 0x7FEF_FFFF_FFFF_FFFF;
@@ -73,8 +74,12 @@ pub fn near_zero_of_rj(random: &mut Random, q: f64) -> [f64; 4] {
     [xyz[0], xyz[1], xyz[2], -q]
 }
 
-/// A call in one of many shapes; RC's y and RJ's p are below zero in half of them.
+/// A call in one of many shapes; RC's y and RJ's p are below zero in half of them. Cel, whose arguments are of three kinds, has its
+/// own shapes besides.
 pub fn draw(random: &mut Random, entry: Entry) -> Call {
+    if entry == Entry::CEL {
+        return cel::draws::draw(random);
+    }
     let shape = random.below(16);
     if entry == Entry::RJ && shape == 15 {
         let q = if random.coin() { moderate(random) } else { wide(random) };
@@ -89,7 +94,7 @@ pub fn draw(random: &mut Random, entry: Entry) -> Call {
     Call::new(entry, &args)
 }
 
-fn fill(random: &mut Random, shape: u64, args: &mut [f64]) {
+pub fn fill(random: &mut Random, shape: u64, args: &mut [f64]) {
     let base = if random.coin() { moderate(random) } else { wide(random) };
     for arg in args.iter_mut() {
         *arg = match shape {

@@ -35,6 +35,7 @@ linked! {
     "lib-rd-rg" RG = gatewren_rg(f64, f64, f64, *mut f64, *mut u32, *mut u32, *mut u32) -> u32;
     "lib-rj" RJ_POSITIVE = gatewren_rj_positive(f64, f64, f64, f64, *mut f64, *mut u32, *mut u32, *mut u32) -> u32;
     "lib-rj" RJ_NEGATIVE = gatewren_rj_negative(f64, f64, f64, f64, *mut f64, *mut u32, *mut u32, *mut u32) -> u32;
+    "lib-cel" CEL = gatewren_cel(f64, f64, f64, f64, *mut f64, *mut u32, *mut u32, *mut u32) -> u32;
 }
 
 // Request 2026-01: likewise; a log's readings go as a pointer and a length.

@@ -1,7 +1,8 @@
 //! What is counted over many calls of one function, a leaf or an entry. Two tallies can be put together, in any order.
 
 use crate::aims;
-use crate::call::Call;
+use crate::call::{Call, Entry};
+use crate::cel;
 use crate::gatewren;
 use crate::leaf::{Args, Leaf};
 use crate::units::distance;
@@ -39,7 +40,7 @@ pub struct Library {
 pub struct Units {
     pub differ: u64,
     pub over: [u64; LEVELS.len()],
-    /// Without calls near RJ's zero, where the unit is small and the error is not.
+    /// Without calls near RJ's or cel's zeros, where the unit is small and the error is not.
     pub largest: Largest,
     pub largest_near_zero: Largest,
     /// One is a finite number and the other not; or there are two numbers for no.
@@ -85,8 +86,9 @@ impl Tally {
             }
             Answer::Refused(number) => *self.refusals.entry(number).or_default() += 1,
         }
-        // There the untouched crate need not end; and demand 2 leaves p = -infinity out (document 02, 2026-07).
-        if !matches!(judged.answer, Answer::Refused(9 | 10)) && call.bits()[3] != f64::NEG_INFINITY.to_bits() {
+        // There the untouched crate need not end; and demand 2 leaves RJ's p = -infinity out (document 02, 2026-07).
+        let left_out = call.entry == Entry::RJ && call.bits()[3] == f64::NEG_INFINITY.to_bits();
+        if !matches!(judged.answer, Answer::Refused(9 | 10)) && !left_out {
             self.untouched.entry(call, judged.answer);
         }
         if let Some(said) = gatewren::answer(call) {
@@ -148,7 +150,10 @@ impl Units {
             (Answer::Value(bits, _), Ok(other)) => {
                 let value = f64::from_bits(bits);
                 if value.to_bits() != other.to_bits() {
-                    let near_zero = aims::cancels(call, value);
+                    let near_zero = match call.entry {
+                        Entry::CEL => cel::draws::cancels(call, value),
+                        _ => aims::cancels(call, value),
+                    };
                     self.apart(call.bits(), distance(value, other), near_zero);
                 }
             }

@@ -12,7 +12,7 @@ const DRAWN: usize = 600;
 /// Each place and all of them at zero, at an end and below zero; then calls by chance. Each once, and only if some k fits.
 fn listed() -> Vec<Call> {
     let mut calls = Vec::new();
-    for (i, entry) in Entry::ALL.into_iter().enumerate() {
+    for (i, entry) in Entry::CARLSON.into_iter().enumerate() {
         let mut random = Random::new(2000 + i as u64);
         for special in [0.0, -0.0, power_of_two(-END), power_of_two(END), -1.0] {
             calls.push(Call::new(entry, &vec![special; entry.arity()]));
@@ -39,7 +39,7 @@ fn text() -> String {
 
 pub fn make() -> bool {
     std::fs::write(path(), text()).expect("the list can be written");
-    for entry in Entry::ALL {
+    for entry in Entry::CARLSON {
         let calls: Vec<Call> = listed().into_iter().filter(|call| call.entry == entry).collect();
         let pairs: i64 = calls.iter().map(fitting).map(|(low, high)| high - low).sum();
         println!("{entry:?}: {} calls, {pairs} times that a k other than 0 fits", calls.len());

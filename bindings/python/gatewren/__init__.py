@@ -1,5 +1,5 @@
-"""Gatewren for Python: Carlson's elliptic integrals rc, rf, rd, rg, rj_positive, rj_negative, the leaves they stand on, the knee bench's swing time and
-step log, and the packed work lists of its controller.
+"""Gatewren for Python: Carlson's elliptic integrals rc, rf, rd, rg, rj_positive, rj_negative, Bulirsch's cel, the leaves they
+stand on, the knee bench's swing time and step log, and the packed work lists of its controller.
 
 What is called is the proved library as a shared object, which `./gatewren shared` builds and `pip install` takes along;
 GATEWREN_SO may name another place.
@@ -25,7 +25,7 @@ import pathlib
 from collections.abc import Callable, Iterable
 from typing import NamedTuple, NoReturn, SupportsFloat, SupportsIndex
 
-__all__ = ["Refusal", "Road", "Answer", "Value", "Total", "Refused", "rc", "rf", "rd", "rg", "rj_positive", "rj_negative"]
+__all__ = ["Refusal", "Road", "Answer", "Value", "Total", "Refused", "rc", "rf", "rd", "rg", "rj_positive", "rj_negative", "cel"]
 __all__ += ["Job", "ReadList", "read_list", "write_list", "swing", "steps", "sqrt", "mul_add", "pow_neg_3_2", "atan", "ln", "ln_1p"]
 
 __version__ = "0.4.0"
@@ -37,9 +37,9 @@ class Refusal(enum.Enum):
     NAN_GIVEN = 1  # an argument is NaN
     BELOW_ZERO = 2  # an argument is below zero that must not be
     ZEROS = 3  # too many zeros
-    ZERO_GIVEN = 4  # RC's y or RJ's p is zero
+    ZERO_GIVEN = 4  # RC's y, RJ's p, or cel's kc or p is zero
     Z_NOT_ABOVE = 5  # RD's z is zero or less
-    NO_RESULT = 6  # RF, RD or RJ ends without a finite result
+    NO_RESULT = 6  # RF, RD, RJ or cel ends without a finite result
     RC_NO_RESULT = 7  # RC ends so
     RG_NO_RESULT = 8  # RG ends so
     AGM_SPENT = 9  # the cap on RD's or RG's mean is spent
@@ -51,6 +51,8 @@ class Refusal(enum.Enum):
     NUMBER_BAD = 15  # a work list has a number over 64 bits or not in its shortest form
     UNKNOWN_FUNCTION = 16  # a job's function is none of those that work lists know
     NO_ROOM = 17  # a job is longer than what is left of the buffer
+    SEVERAL_INFINITE = 19  # more than one of cel's arguments is infinite
+    A_OR_B_INFINITE = 20  # cel's a or b is infinite
     WRONG_SIGN = 21  # RJ's p has the wrong sign for this entry
 
 
@@ -64,6 +66,7 @@ class Road(enum.Enum):
     JOINT = 5  # RG's duplication of RF and RD in one loop
     TAYLOR = 6  # the expansion near RJ's zero
     REDUCTION = 7  # the reduction of RJ with p below zero
+    LOOP = 8  # cel's loop
 
     def __repr__(self) -> str:
         return f"Road.{self.name}"
@@ -199,6 +202,7 @@ _RD = _entry("rd", [_DOUBLE] * 3)
 _RG = _entry("rg", [_DOUBLE] * 3)
 _RJ_POSITIVE = _entry("rj_positive", [_DOUBLE] * 4)
 _RJ_NEGATIVE = _entry("rj_negative", [_DOUBLE] * 4)
+_CEL = _entry("cel", [_DOUBLE] * 4)
 _SWING = _entry("swing", [ctypes.c_uint64] * 3)
 _STEPS = _symbol("steps", [ctypes.POINTER(ctypes.c_uint64), ctypes.POINTER(ctypes.c_uint16), ctypes.c_size_t], ctypes.c_uint32)
 _JOB = ctypes.c_uint64 * 5
@@ -288,6 +292,17 @@ def rj_negative(x: SupportsFloat, y: SupportsFloat, z: SupportsFloat, p: Support
     return _RJ_NEGATIVE(_DOUBLE(x), _DOUBLE(y), _DOUBLE(z), _DOUBLE(p))
 
 
+def cel(kc: SupportsFloat, p: SupportsFloat, a: SupportsFloat, b: SupportsFloat) -> Value | Refused:
+    """Bulirsch's cel(kc, p, a, b); for p below zero its Cauchy principal value.
+
+    >>> cel(0.5, 1, 1, 1)
+    Value(value=2.1565156474996434, rounds=5, road=Road.LOOP, rescalings=0)
+    >>> cel(0, 1, 1, 1)
+    Refused(Refusal.ZERO_GIVEN)
+    """
+    return _CEL(_DOUBLE(kc), _DOUBLE(p), _DOUBLE(a), _DOUBLE(b))
+
+
 # The knee bench.
 
 
@@ -320,7 +335,7 @@ def steps(total: SupportsIndex, readings: Iterable[SupportsIndex]) -> Total | Re
 
 
 class Job(NamedTuple):
-    """A job: its function's number (RF 1, RC 2, RD 3, RG 4, RJ 5) and the bits of its arguments, the unused ones 0."""
+    """A job: its function's number (RF 1, RC 2, RD 3, RG 4, RJ 5, cel 6) and the bits of its arguments, the unused ones 0."""
 
     function: int
     arguments: tuple[int, int, int, int]
@@ -354,7 +369,7 @@ def write_list(jobs: Iterable[Job]) -> bytes | Refused:
 
     >>> write_list([Job(2, (0, 300, 0, 0))]).hex()
     '0200ac02'
-    >>> write_list([Job(6, (0, 0, 0, 0))])
+    >>> write_list([Job(7, (0, 0, 0, 0))])
     Refused(Refusal.UNKNOWN_FUNCTION)
     """
     held = []

@@ -27,11 +27,21 @@ pub enum Road {
     Taylor,
     /// The reduction of RJ with p below zero.
     Reduction,
+    /// cel's loop.
+    Loop,
 }
 
 impl Road {
-    const ALL: [Road; 7] =
-        [Road::Closed, Road::Infinite, Road::Agm, Road::Duplication, Road::Joint, Road::Taylor, Road::Reduction];
+    const ALL: [Road; 8] = [
+        Road::Closed,
+        Road::Infinite,
+        Road::Agm,
+        Road::Duplication,
+        Road::Joint,
+        Road::Taylor,
+        Road::Reduction,
+        Road::Loop,
+    ];
 
     fn of(number: u32) -> Option<Road> {
         Road::ALL.into_iter().find(|road| *road as u32 == number)
@@ -100,9 +110,9 @@ refusals! {
     NanGiven = 1, "an argument is NaN";
     BelowZero = 2, "an argument is below zero that must not be";
     Zeros = 3, "too many zeros";
-    ZeroGiven = 4, "RC's y or RJ's p is zero";
+    ZeroGiven = 4, "RC's y, RJ's p, or cel's kc or p is zero";
     ZNotAbove = 5, "RD's z is zero or less";
-    NoResult = 6, "RF, RD or RJ ends without a finite result";
+    NoResult = 6, "RF, RD, RJ or cel ends without a finite result";
     RcNoResult = 7, "RC ends without a finite result";
     RgNoResult = 8, "RG ends without a finite result";
     AgmSpent = 9, "the cap on RD's or RG's mean is spent";
@@ -114,6 +124,8 @@ refusals! {
     NumberBad = 15, "a number over 64 bits or not in its shortest form";
     UnknownFunction = 16, "a job's function is none of those that work lists know";
     NoRoom = 17, "the job is longer than what is left";
+    SeveralInfinite = 19, "more than one of cel's arguments is infinite";
+    AOrBInfinite = 20, "cel's a or b is infinite";
     WrongSign = 21, "p has the wrong sign for this entry";
 }
 

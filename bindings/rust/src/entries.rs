@@ -47,3 +47,7 @@ entry! {
     /// RJ(x, y, z, p) for p below zero: its Cauchy principal value. p above zero is refused.
     rj_negative = gatewren_rj_negative(x: f64, y: f64, z: f64, p: f64)
 }
+entry! {
+    /// Bulirsch's cel(kc, p, a, b); for p below zero its Cauchy principal value.
+    cel = gatewren_cel(kc: f64, p: f64, a: f64, b: f64)
+}

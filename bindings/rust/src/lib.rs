@@ -1,6 +1,6 @@
 //! Gatewren for Rust: Carlson's elliptic integrals [`rc`], [`rf`], [`rd`], [`rg`] and RJ as [`rj_positive`] and
-//! [`rj_negative`], the [`leaf`] functions they stand on, the knee [`bench`]'s swing time and step log, and the packed [`WorkList`] of its controller. What is called is the
-//! proved library, libgatewren.a; here is only its dress.
+//! [`rj_negative`], Bulirsch's [`cel`], the [`leaf`] functions they stand on, the knee [`bench`]'s swing time and step log, and
+//! the packed [`WorkList`] of its controller. What is called is the proved library, libgatewren.a; here is only its dress.
 //!
 //! ```
 //! use gatewren::{rf, Answer, Refusal, Road};
@@ -17,7 +17,7 @@ mod symbols;
 mod work_list;
 
 pub use answer::{Answer, Refusal, Road};
-pub use entries::{rc, rd, rf, rg, rj_negative, rj_positive};
+pub use entries::{cel, rc, rd, rf, rg, rj_negative, rj_positive};
 pub use work_list::{Job, WorkList};
 
 /// The version of this crate, and of the header and the Python package beside it.

@@ -3,7 +3,7 @@
 use crate::answer::Refusal;
 use crate::symbols;
 
-/// A job: its function's number (RF 1, RC 2, RD 3, RG 4, RJ 5) and the bits of its arguments, the unused ones 0.
+/// A job: its function's number (RF 1, RC 2, RD 3, RG 4, RJ 5, cel 6) and the bits of its arguments, the unused ones 0.
 #[derive(Clone, Copy, Debug, Default, PartialEq, Eq, Hash)]
 #[repr(C)]
 pub struct Job {

@@ -1,6 +1,6 @@
 //! Document 01's settled and printed examples, and the leaves at a few points, through the binding.
 
-use gatewren::{bench, leaf, rc, rd, rf, rg, rj_negative, rj_positive, Answer, Job, Refusal, Road, WorkList};
+use gatewren::{bench, cel, leaf, rc, rd, rf, rg, rj_negative, rj_positive, Answer, Job, Refusal, Road, WorkList};
 
 const INF: f64 = f64::INFINITY;
 const NAN: f64 = f64::NAN;
@@ -88,12 +88,31 @@ fn roads_and_rescalings() {
 #[test]
 fn every_number_has_a_meaning() {
     let numbers: Vec<u32> = Refusal::ALL.iter().map(|refusal| refusal.number()).collect();
-    assert_eq!(numbers, (1..=17).chain([21]).collect::<Vec<u32>>());
+    assert_eq!(numbers, (1..=17).chain([19, 20, 21]).collect::<Vec<u32>>());
     assert!(Refusal::ALL.iter().all(|&refusal| Refusal::of(refusal.number()) == Some(refusal)));
     assert_eq!(Refusal::of(0), None);
     assert_eq!(Refusal::of(18), None);
     assert_eq!(Refusal::of(22), None);
     assert_eq!(Refusal::TooDeep.to_string(), "refused 10: a fifth nested RJ call would be needed");
+}
+
+/// Request 2026-09: 4, the steps, 1, 19, the zero, 20, 6, and document 02's own examples.
+#[test]
+fn cel_in_its_order() {
+    let no = |number| Answer::Refused(Refusal::of(number).unwrap());
+    let near = cel(0.5, 1.0, 1.0, 1.0).value().unwrap();
+    assert!((near - 2.1565156474996434).abs() <= 1e-15 * near);
+    same(cel(0.0, NAN, 1.0, 1.0), no(4));
+    same(cel(1.0, -0.0, 1.0, 1.0), no(4));
+    same(cel(NAN, 1.0, INF, INF), no(1));
+    same(cel(INF, 1.0, INF, 1.0), no(19));
+    same(cel(0.5, 1.0, INF, -INF), no(19));
+    same(cel(-INF, 1.0, 1.0, 1.0), by(Road::Infinite, 0, 0, 0));
+    same(cel(0.5, -INF, 1.0, 1.0), by(Road::Infinite, 0, 0, 0));
+    same(cel(0.5, 1.0, -INF, 1.0), no(20));
+    same(cel(0.5, 1.0, 1.0, INF), no(20));
+    same(cel(2f64.powi(509), 1.0, 1.0, 1.0), no(6));
+    assert_eq!(cel(0.5, INF, -1.0, 1.0).value().map(f64::to_bits), Ok((-0.0f64).to_bits()));
 }
 
 /// Request 2026-10: 1, 4, 21, 2, 3, and a zero or NaN p is refused alike by both.

@@ -7,8 +7,9 @@ use Rattle.elliprf.specs.Rf.{rf}
 use Rattle.elliprd.specs.Rd.{rd}
 use Rattle.elliprg.specs.Rg.{rg}
 use Rattle.elliprj.specs.Rj.{rj}
+use Rattle.cel.specs.Cel.{cel}
 use Rattle.calls.specs.declared.Call.{Call}
-use Rattle.calls.specs.declared.Call.the-variants.{Rc, Rf, Rd, Rg, Rj}
+use Rattle.calls.specs.declared.Call.the-variants.{Rc, Rf, Rd, Rg, Rj, Cel}
 
 -- the f64 of a pattern
 abbrev pub number : ℕ → Float
@@ -22,3 +23,4 @@ answerOf (Rd x y z) = rd (number x) (number y) (number z)
 answerOf (Rg x y z) = rg (number x) (number y) (number z)
 -- the entry of p's sign (document 02, 2026-10), and so RJ
 answerOf (Rj x y z p) = rj (number x) (number y) (number z) (number p)
+answerOf (Cel kc p a b) = cel (number kc) (number p) (number a) (number b)

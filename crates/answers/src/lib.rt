@@ -2,6 +2,7 @@
 use binary64::join;
 use calls::Call;
 use carlson::answer::Answer;
+use cel::cel;
 use elliprc::elliprc;
 use elliprd::elliprd;
 use elliprf::elliprf;
@@ -32,5 +33,6 @@ pub fn answer_of(call: Call) -> Answer
         Call::Rd(x, y, z) => elliprd(join(x), join(y), join(z)),
         Call::Rg(x, y, z) => elliprg(join(x), join(y), join(z)),
         Call::Rj(x, y, z, p) => rj_by_sign(join(x), join(y), join(z), join(p)),
+        Call::Cel(kc, p, a, b) => cel(join(kc), join(p), join(a), join(b)),
     }
 }

@@ -3,7 +3,7 @@ use Prim.Native.Nat.{ℕ}
 use mathlib.Core.List.{List, [], _∷_}
 use lib.ListN.{length}
 use Rattle.calls.specs.declared.Call.{Call}
-use Rattle.calls.specs.declared.Call.the-variants.{Rc, Rf, Rd, Rg, Rj}
+use Rattle.calls.specs.declared.Call.the-variants.{Rc, Rf, Rd, Rg, Rj, Cel}
 
 -- the bytes of the name that the listing has (document 01)
 unfoldable pub nameOf : Call → List ℕ
@@ -12,10 +12,12 @@ nameOf (Rf x y z) = 82 ∷ 70 ∷ []
 nameOf (Rd x y z) = 82 ∷ 68 ∷ []
 nameOf (Rg x y z) = 82 ∷ 71 ∷ []
 nameOf (Rj x y z p) = 82 ∷ 74 ∷ []
+-- "the listing calls it CEL" (document 02, 2026-09)
+nameOf (Cel kc p a b) = 67 ∷ 69 ∷ 76 ∷ []
 
 -- no name is longer
 abbrev pub longestName : ℕ
-longestName = 2
+longestName = 3
 
 -- the patterns of its arguments, in the order in which they are written
 unfoldable pub argumentsOf : Call → List ℕ
@@ -24,6 +26,7 @@ argumentsOf (Rf x y z) = x ∷ y ∷ z ∷ []
 argumentsOf (Rd x y z) = x ∷ y ∷ z ∷ []
 argumentsOf (Rg x y z) = x ∷ y ∷ z ∷ []
 argumentsOf (Rj x y z p) = x ∷ y ∷ z ∷ p ∷ []
+argumentsOf (Cel kc p a b) = kc ∷ p ∷ a ∷ b ∷ []
 
 abbrev pub arityOf : Call → ℕ
 arityOf c = length (argumentsOf c)
@@ -35,3 +38,5 @@ numberOf (Rf x y z) = 1
 numberOf (Rd x y z) = 3
 numberOf (Rg x y z) = 4
 numberOf (Rj x y z p) = 5
+-- document 02, 2026-09: "Work lists number it 6"
+numberOf (Cel kc p a b) = 6

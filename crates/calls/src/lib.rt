@@ -6,4 +6,5 @@ pub enum Call {
     Rd(u64, u64, u64),
     Rg(u64, u64, u64),
     Rj(u64, u64, u64, u64),
+    Cel(u64, u64, u64, u64),
 }

@@ -10,7 +10,7 @@ use Rattle.carlson.specs.declared.answer.Found.{Found}
 use Rattle.carlson.specs.declared.answer.Answer.{Answer}
 use Rattle.carlson.specs.declared.answer.Answer.the-variants.{Value, Refused}
 use Rattle.carlson.specs.declared.answer.Road.{Road}
-use Rattle.carlson.specs.declared.answer.Road.the-variants.{Closed, Infinite, Agm, Duplication, Joint, Taylor, Reduction}
+use Rattle.carlson.specs.declared.answer.Road.the-variants.{Closed, Infinite, Agm, Duplication, Joint, Taylor, Reduction, Loop}
 
 -- ---- the way to a value: "the round count is the number of duplication or joint passes begun, plus AGM passes that replaced
 -- the means"
@@ -34,6 +34,7 @@ roadNumber Duplication = 4
 roadNumber Joint = 5
 roadNumber Taylor = 6
 roadNumber Reduction = 7
+roadNumber Loop = 8
 
 -- ---- a value, by the road to it (document 02, 2026-04)
 -- a closed form counts no round
@@ -70,6 +71,10 @@ taylorAt v = record { value = v; road = Taylor; way = wayOf 0 }
 -- the reduction of a negative p counts what it called
 unfoldable pub reductionAt : Float → Way → Found
 reductionAt v w = record { value = v; road = Reduction; way = w }
+
+-- cel's loop counts the passes begun (document 02, 2026-09: "its road is loop or infinite, its rescalings 0")
+unfoldable pub loopAt : Float → ℕ → Found
+loopAt v n = record { value = v; road = Loop; way = wayOf n }
 
 -- what was found at rescaled arguments, with the value that this gives: "a call that rescales takes that one's road"
 unfoldable pub rescaledAt : Found → Float → Found

@@ -76,14 +76,18 @@ rescaled3 Q back steps each kept x y z =
     let s = scaleOf3 x y z in
     chosen Q (rescales3 x y z s) (kept (steps (x ⊘ s) (y ⊘ s) (z ⊘ s)) s (each (x ⊘ s) (y ⊘ s) (z ⊘ s))) (each x y z)
 
--- settled: a value that is handed out is finite
+-- settled: a value that is handed out is finite; else what stands in its place
+pub finite-or : {numbers : List ℕ} (f : Found) {a : Answer} → Only Finite numbers a
+    → Only Finite numbers (cond (finite (f .value)) (Value f) a)
+finite-or {numbers} f {a} h = go (finite (f .value)) refl
+  where
+    go : (b : Bool) → finite (f .value) ≡ b → Only Finite numbers (cond b (Value f) a)
+    go true e = value e
+    go false e = h
+
 pub settled-only : (numbers : List ℕ) (f : Found) (n : ℕ) → T (among n numbers) → Only Finite numbers (settled f n)
 unfolding settled
-settled-only numbers f n h = go (finite (f .value)) refl
-  where
-    go : (b : Bool) → finite (f .value) ≡ b → Only Finite numbers (cond b (Value f) (Refused n))
-    go true e = value e
-    go false e = refused h
+settled-only numbers f n h = finite-or f (refused h)
 
 pub infinite-only : (numbers : List ℕ) → Only Finite numbers infiniteAt
 unfolding infiniteAt ofBits
@@ -92,13 +96,9 @@ infinite-only numbers = value refl
 pub late-only : (numbers : List ℕ) (f : Found) (nan unbounded : Bool) (n : ℕ) → T (among nan-given numbers) → T (among n numbers)
     → Only Finite numbers (settledLate f nan unbounded n)
 unfolding settledLate
-late-only numbers f nan unbounded n g h = go (finite (f .value)) refl
-  where
-    go : (b : Bool) → finite (f .value) ≡ b
-        → Only Finite numbers (cond b (Value f) (cond nan (Refused nan-given) (cond unbounded infiniteAt (Refused n))))
-    go true e = value e
-    go false e = chosen (Only Finite numbers) nan (refused g)
-        (chosen (Only Finite numbers) unbounded (infinite-only numbers) (refused h))
+late-only numbers f nan unbounded n g h =
+    let Q = Only Finite numbers in
+    finite-or f (chosen Q nan (refused g) (chosen Q unbounded (infinite-only numbers) (refused h)))
 
 -- what the inner parts answered: a value is settled, their own numbers go through
 pub told-only : {ns : List ℕ} (ms : List ℕ) (settle : Answer → Answer) → ((f : Found) → Only Finite ms (settle (Value f)))

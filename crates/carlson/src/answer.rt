@@ -15,6 +15,7 @@ ghost use Rattle.carlson.specs.Answer.{
   jointAt,
   taylorAt,
   reductionAt,
+  loopAt,
   rescaledAt,
   handedAt,
   roadNumber,
@@ -22,7 +23,7 @@ ghost use Rattle.carlson.specs.Answer.{
   settledLate,
 };
 
-// Which formula answered (document 02, 2026-04).
+// Which formula answered (document 02, 2026-04; the loop is cel's alone, 2026-09).
 pub enum Road {
     Closed,
     Infinite,
@@ -31,6 +32,7 @@ pub enum Road {
     Joint,
     Taylor,
     Reduction,
+    Loop,
 }
 
 // Their numbers for other programs, in the order in which document 02 names them.
@@ -45,6 +47,7 @@ pub fn road_number(road: Road) -> u32
         Road::Joint => 5,
         Road::Taylor => 6,
         Road::Reduction => 7,
+        Road::Loop => 8,
     }
 }
 
@@ -190,6 +193,20 @@ pub fn reduction(value: f64, way: Way) -> Found
         value,
         road: Road::Reduction,
         way,
+    }
+}
+
+// cel's loop, after so many passes begun.
+pub fn looped(value: f64, rounds: u32) -> Found
+    ensures { λ r. ⌜ r ≡ loopAt value rounds ⌝ }
+{
+    Found {
+        value,
+        road: Road::Loop,
+        way: Way {
+            rounds,
+            rescalings: 0,
+        },
     }
 }
 

@@ -26,7 +26,7 @@ use Rattle.carlson.specs.Checks.{anyNan2, anyNan3, anyNan4, anyInfinite2, anyIn
 use Rattle.carlson.specs.Rescaling.{scaleOf4, rescales4}
 use Rattle.carlson.specs.Common.{meanCap}
 use Rattle.carlson.specs.Loop.{capped-holds}
-use Rattle.carlson.specs.Only.{among, Only, value, refused, Finite, Any, chosen, rescaled3, settled-only, infinite-only, late-only, told-only, longer}
+use Rattle.carlson.specs.Only.{among, Only, value, refused, Finite, Any, chosen, rescaled3, finite-or, settled-only, infinite-only, late-only, told-only, longer}
 use Rattle.carlson.specs.declared.answer.Answer.{Answer}
 use Rattle.carlson.specs.declared.answer.Answer.the-variants.{Value, Refused}
 use Rattle.sorting.specs.Sorting.{rising}
@@ -47,8 +47,10 @@ use Rattle.elliprj.specs.declared.plan.Plan.{Plan}
 use Rattle.elliprj.specs.declared.plan.Plan.the-variants.{Done, Rescale, Reduce}
 use Rattle.elliprj.specs.Rj.{planUnscaled, planScaled, planNear, planOf, rjRun, rjUnchecked, rjSettled, rjRest, rj}
 use Rattle.elliprj.specs.Rj.{wrong-sign, rjSigned, rjOfPositive, rjOfNegative}
+use Rattle.cel.specs.Passes.{celSteps}
+use Rattle.cel.specs.Cel.{several-infinite, a-or-b-infinite, eitherUnbounded, severalUnbounded, celUnsettled, celSettled, cel}
 use Rattle.calls.specs.declared.Call.{Call}
-use Rattle.calls.specs.declared.Call.the-variants.{Rc, Rf, Rd, Rg, Rj}
+use Rattle.calls.specs.declared.Call.the-variants.{Rc, Rf, Rd, Rg, Rj, Cel}
 use Rattle.answers.specs.Answers.{number, answerOf}
 
 -- ---- the numbers that each entry can give, as the header and docs/REFUSALS.md list them
@@ -66,6 +68,9 @@ rgNumbers = nan-given ∷ below-zero ∷ rg-no-result ∷ agm-spent ∷ []
 
 abbrev pub rjNumbers : List ℕ
 rjNumbers = nan-given ∷ below-zero ∷ zeros ∷ zero-given ∷ no-result ∷ agm-spent ∷ too-deep ∷ []
+
+abbrev pub celNumbers : List ℕ
+celNumbers = nan-given ∷ zero-given ∷ no-result ∷ several-infinite ∷ a-or-b-infinite ∷ []
 
 -- ---- RC and RF: the checks, then what is settled
 pub rc-only : (x y : Float) → Only Finite rcNumbers (rc x y)
@@ -264,6 +269,22 @@ pub rj-negative-only : (x y z p : Float) → Only Finite rjSignedNumbers (rjOfNe
 unfolding rjOfNegative
 rj-negative-only x y z p = signed-only (lt +0 p) x y z p
 
+-- ---- cel: a finite value of the steps, or what the arguments say
+cel-unsettled : (kc p a b : Float) → Only Finite celNumbers (celUnsettled kc p a b)
+unfolding celUnsettled
+cel-unsettled kc p a b =
+    let Q = Only Finite celNumbers in
+    chosen Q (anyNan4 kc p a b) (refused tt)
+    (chosen Q (severalUnbounded kc p a b) (refused tt)
+    (chosen Q (eitherUnbounded kc p) (infinite-only celNumbers)
+    (chosen Q (eitherUnbounded a b) (refused tt) (refused tt))))
+
+pub cel-only : (kc p a b : Float) → Only Finite celNumbers (cel kc p a b)
+unfolding cel celSettled
+cel-only kc p a b =
+    chosen (Only Finite celNumbers) (eq kc +0 || eq p +0) (refused tt)
+    (finite-or (celSteps kc p a b) (cel-unsettled kc p a b))
+
 -- ---- THE THEOREM, over a call
 abbrev pub numbersOf : Call → List ℕ
 numbersOf (Rc x y) = rcNumbers
@@ -271,6 +292,7 @@ numbersOf (Rf x y z) = rfNumbers
 numbersOf (Rd x y z) = rdNumbers
 numbersOf (Rg x y z) = rgNumbers
 numbersOf (Rj x y z p) = rjNumbers
+numbersOf (Cel kc p a b) = celNumbers
 
 pub total : (c : Call) → Only Finite (numbersOf c) (answerOf c)
 unfolding answerOf
@@ -279,6 +301,7 @@ total (Rf x y z) = rf-only (number x) (number y) (number z)
 total (Rd x y z) = rd-only (number x) (number y) (number z)
 total (Rg x y z) = rg-only (number x) (number y) (number z)
 total (Rj x y z p) = rj-only (number x) (number y) (number z) (number p)
+total (Cel kc p a b) = cel-only (number kc) (number p) (number a) (number b)
 
 -- and 0, which a C program takes for a value, is no refusal's number
 pub never-zero : (c : Call) → among 0 (numbersOf c) ≡ false
@@ -287,3 +310,4 @@ never-zero (Rf x y z) = refl
 never-zero (Rd x y z) = refl
 never-zero (Rg x y z) = refl
 never-zero (Rj x y z p) = refl
+never-zero (Cel kc p a b) = refl

@@ -10,7 +10,7 @@ use lib.Ieee.{lt}
 use Rattle.carlson.specs.Constants.{zero}
 use Rattle.carlson.specs.declared.answer.Answer.{Answer}
 use Rattle.calls.specs.declared.Call.{Call}
-use Rattle.calls.specs.declared.Call.the-variants.{Rc, Rf, Rd, Rg, Rj}
+use Rattle.calls.specs.declared.Call.the-variants.{Rc, Rf, Rd, Rg, Rj, Cel}
 use Rattle.answers.specs.Answers.{number, answerOf}
 use Rattle.units.specs.Statement.{InRange, TimesFour, Alike}
 use Rattle.units_rf.specs.Rc.{rc-scales}
@@ -36,13 +36,14 @@ pub data Scaled (u d : ℕ) : Call → Call → Type 0 where
       → T (lt zero (number p))
       → Scaled u d (Rj x y z p) (Rj x' y' z' p')
 
--- by which power of two the value is multiplied, 2 ^ up / 2 ^ down
+-- by which power of two the value is multiplied, 2 ^ up / 2 ^ down (cel has none: "Demand 1 covers it; demand 3 doesn't")
 abbrev pub up : Call → ℕ → ℕ → ℕ
 up (Rc x y) u d = d
 up (Rf x y z) u d = d
 up (Rd x y z) u d = 3 * d
 up (Rg x y z) u d = u
 up (Rj x y z p) u d = 3 * d
+up (Cel kc p a b) u d = 0
 
 abbrev pub down : Call → ℕ → ℕ → ℕ
 down (Rc x y) u d = u
@@ -50,6 +51,7 @@ down (Rf x y z) u d = u
 down (Rd x y z) u d = 3 * u
 down (Rg x y z) u d = d
 down (Rj x y z p) u d = 3 * u
+down (Cel kc p a b) u d = 0
 
 -- ---- THE THEOREM
 pub units-drop-out : (u d : ℕ) (c c' : Call) → Scaled u d c c' → Alike (up c u d) (down c u d) (answerOf c) (answerOf c')

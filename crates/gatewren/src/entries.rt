@@ -8,6 +8,7 @@ ghost use Rattle.elliprf.specs.Rf.{rf};
 ghost use Rattle.elliprd.specs.Rd.{rd};
 ghost use Rattle.elliprg.specs.Rg.{rg};
 ghost use Rattle.elliprj.specs.Rj.{rjOfPositive, rjOfNegative};
+ghost use Rattle.cel.specs.Cel.{cel};
 ghost use Rattle.gatewren.specs.Told.{numberOf, valueAfter, roundsAfter, roadAfter, rescalingsAfter};
 
 pub fn told(
@@ -161,4 +162,24 @@ pub extern "C" fn gatewren_rj_negative(
         road,
         rescalings,
     )
+}
+
+#[no_mangle]
+pub extern "C" fn gatewren_cel(
+    kc: f64,
+    p: f64,
+    a: f64,
+    b: f64,
+    value: &mut f64,
+    rounds: &mut u32,
+    road: &mut u32,
+    rescalings: &mut u32,
+) -> u32
+    ensures { λ r. ⌜ r ≡ numberOf (cel kc p a b) ⌝ }
+    ensures { λ r. ⌜ now (value .exit) ≡ valueAfter (cel kc p a b) (now (value .entry)) ⌝ }
+    ensures { λ r. ⌜ now (rounds .exit) ≡ roundsAfter (cel kc p a b) (now (rounds .entry)) ⌝ }
+    ensures { λ r. ⌜ now (road .exit) ≡ roadAfter (cel kc p a b) (now (road .entry)) ⌝ }
+    ensures { λ r. ⌜ now (rescalings .exit) ≡ rescalingsAfter (cel kc p a b) (now (rescalings .entry)) ⌝ }
+{
+    told(cel::cel(kc, p, a, b), value, rounds, road, rescalings)
 }

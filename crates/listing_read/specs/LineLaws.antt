@@ -16,7 +16,7 @@ use Rattle.digits.specs.declared.Word.{Word}
 use Rattle.digits.specs.declared.Word.the-variants.{Is, Not}
 use Rattle.calls.specs.Calls.{nameOf, argumentsOf, arityOf}
 use Rattle.calls.specs.declared.Call.{Call}
-use Rattle.calls.specs.declared.Call.the-variants.{Rc, Rf, Rd, Rg, Rj}
+use Rattle.calls.specs.declared.Call.the-variants.{Rc, Rf, Rd, Rg, Rj, Cel}
 use Rattle.listing_read.specs.Lines.{
   lineLength,
   longestLine,
@@ -148,7 +148,8 @@ named-good name (all (x ∷ [])) c e = bad c e
 named-good name (all (x ∷ y ∷ [])) c e = tried name (Rc x y) c _ Bad refl (bad c) e
 named-good name (all (x ∷ y ∷ z ∷ [])) c e =
     tried name (Rf x y z) c _ _ refl (tried name (Rd x y z) c _ _ refl (tried name (Rg x y z) c _ Bad refl (bad c))) e
-named-good name (all (x ∷ y ∷ z ∷ p ∷ [])) c e = tried name (Rj x y z p) c _ Bad refl (bad c) e
+named-good name (all (x ∷ y ∷ z ∷ p ∷ [])) c e =
+    tried name (Rj x y z p) c _ _ refl (tried name (Cel x y z p) c _ Bad refl (bad c)) e
 named-good name (all (x ∷ y ∷ z ∷ p ∷ q ∷ ws)) c e = bad c e
 
 line-is : (n k : ℕ) (l : List ℕ) (c : Call) → lineLength n k ≡ length l → readAs n k l ≡ Good c → lineOf c ≡ l
@@ -165,19 +166,22 @@ read-back (Rf x y z) h = rw (line-length (Rf x y z), words-back (x ∷ y ∷ z �
 read-back (Rd x y z) h = rw (line-length (Rd x y z), words-back (x ∷ y ∷ z ∷ []) (82 ∷ 68 ∷ []) h)
 read-back (Rg x y z) h = rw (line-length (Rg x y z), words-back (x ∷ y ∷ z ∷ []) (82 ∷ 71 ∷ []) h)
 read-back (Rj x y z p) h = rw (line-length (Rj x y z p), words-back (x ∷ y ∷ z ∷ p ∷ []) (82 ∷ 74 ∷ []) h)
+read-back (Cel kc p a b) h = rw (line-length (Cel kc p a b), words-back (kc ∷ p ∷ a ∷ b ∷ []) (67 ∷ 69 ∷ 76 ∷ []) h)
 
 -- what is read, and that the line is as long as was asked
 pub write-back : (l : List ℕ) (c : Call) → callOf l ≡ Good c → lineOf c ≡ l
 unfolding callOf
-write-back l c e = go (eqb (length l) 36) (eqb (length l) 53) (eqb (length l) 70) refl refl refl e
+write-back l c e = go (eqb (length l) 36) (eqb (length l) 53) (eqb (length l) 70) (eqb (length l) 71) refl refl refl refl e
   where
     go :
-        (t u v : Bool) → eqb (length l) 36 ≡ t → eqb (length l) 53 ≡ u → eqb (length l) 70 ≡ v
-        → cond t (readAs 2 2 l) (cond u (readAs 2 3 l) (cond v (readAs 2 4 l) Bad)) ≡ Good c → lineOf c ≡ l
-    go true u v p q r e = line-is 2 2 l c (sym (eqb-true (length l) 36 p)) e
-    go false true v p q r e = line-is 2 3 l c (sym (eqb-true (length l) 53 q)) e
-    go false false true p q r e = line-is 2 4 l c (sym (eqb-true (length l) 70 r)) e
-    go false false false p q r e = bad c e
+        (t u v w : Bool) → eqb (length l) 36 ≡ t → eqb (length l) 53 ≡ u → eqb (length l) 70 ≡ v → eqb (length l) 71 ≡ w
+        → cond t (readAs 2 2 l) (cond u (readAs 2 3 l) (cond v (readAs 2 4 l) (cond w (readAs 3 4 l) Bad))) ≡ Good c
+        → lineOf c ≡ l
+    go true u v w p q r s e = line-is 2 2 l c (sym (eqb-true (length l) 36 p)) e
+    go false true v w p q r s e = line-is 2 3 l c (sym (eqb-true (length l) 53 q)) e
+    go false false true w p q r s e = line-is 2 4 l c (sym (eqb-true (length l) 70 r)) e
+    go false false false true p q r s e = line-is 3 4 l c (sym (eqb-true (length l) 71 s)) e
+    go false false false false p q r s e = bad c e
 
 -- a line that is longer than every good one
 pub too-long : (l : List ℕ) → longestLine < length l → callOf l ≡ Bad
@@ -186,6 +190,7 @@ too-long l h = rw (
   ne-eqb (length l) 36 (λ e. omega arith),
   ne-eqb (length l) 53 (λ e. omega arith),
   ne-eqb (length l) 70 (λ e. omega arith),
+  ne-eqb (length l) 71 (λ e. omega arith),
 )
 
 -- of a line it is enough to hold one byte more than the longest good one has

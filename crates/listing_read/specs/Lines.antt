@@ -9,7 +9,7 @@ use Rattle.digits.specs.declared.Word.{Word}
 use Rattle.digits.specs.declared.Word.the-variants.{Is, Not}
 use Rattle.calls.specs.Calls.{nameOf, argumentsOf}
 use Rattle.calls.specs.declared.Call.{Call}
-use Rattle.calls.specs.declared.Call.the-variants.{Rc, Rf, Rd, Rg, Rj}
+use Rattle.calls.specs.declared.Call.the-variants.{Rc, Rf, Rd, Rg, Rj, Cel}
 use Rattle.listing_read.specs.declared.Line.{Line}
 use Rattle.listing_read.specs.declared.Line.the-variants.{Good, Bad}
 
@@ -22,7 +22,7 @@ lineLength name arguments = name + arguments * argumentLength
 
 -- no good line is longer
 abbrev pub longestLine : ℕ
-longestLine = lineLength 2 4
+longestLine = lineLength 3 4
 
 -- ---- writing
 unfoldable pub wordTexts : List ℕ → List ℕ
@@ -66,7 +66,7 @@ calledBy name c other = cond (same name (nameOf c)) (Good c) other
 unfoldable pub named : List ℕ → Words → Line
 named name (all (x ∷ y ∷ [])) = calledBy name (Rc x y) Bad
 named name (all (x ∷ y ∷ z ∷ [])) = calledBy name (Rf x y z) (calledBy name (Rd x y z) (calledBy name (Rg x y z) Bad))
-named name (all (x ∷ y ∷ z ∷ p ∷ [])) = calledBy name (Rj x y z p) Bad
+named name (all (x ∷ y ∷ z ∷ p ∷ [])) = calledBy name (Rj x y z p) (calledBy name (Cel x y z p) Bad)
 named name (all []) = Bad
 named name (all (x ∷ [])) = Bad
 named name (all (x ∷ y ∷ z ∷ p ∷ q ∷ ws)) = Bad
@@ -79,4 +79,5 @@ readAs n k l = named (take n l) (wordsAt k l n)
 unfoldable pub callOf : List ℕ → Line
 callOf l =
     cond (eqb (length l) (lineLength 2 2)) (readAs 2 2 l)
-    (cond (eqb (length l) (lineLength 2 3)) (readAs 2 3 l) (cond (eqb (length l) (lineLength 2 4)) (readAs 2 4 l) Bad))
+    (cond (eqb (length l) (lineLength 2 3)) (readAs 2 3 l)
+    (cond (eqb (length l) (lineLength 2 4)) (readAs 2 4 l) (cond (eqb (length l) (lineLength 3 4)) (readAs 3 4 l) Bad)))

@@ -22,8 +22,11 @@ const THREE: usize = 2 + 3 * ARGUMENT;
 
 const FOUR: usize = 2 + 4 * ARGUMENT;
 
+// With cel's longer name.
+const LONG_FOUR: usize = 3 + 4 * ARGUMENT;
+
 // No good line is longer.
-pub const LONGEST: usize = FOUR;
+pub const LONGEST: usize = LONG_FOUR;
 
 // The argument whose blank stands at `at`.
 fn argument(line: &[u8], at: usize) -> Word
@@ -82,6 +85,9 @@ fn of_four(name: &[u8], x: u64, y: u64, z: u64, p: u64) -> Line
     if is_name(name, b"RJ") {
         return Line::Good(Call::Rj(x, y, z, p));
     }
+    if is_name(name, b"CEL") {
+        return Line::Good(Call::Cel(x, y, z, p));
+    }
     Line::Bad
 }
 
@@ -114,23 +120,26 @@ fn three(line: &[u8]) -> Line
     of_three(&line[..2], x, y, z)
 }
 
-fn four(line: &[u8]) -> Line
-    requires { ⌜ length (now line) ≡ lineLength 2 4 ⌝ }
-    ensures { λ r. ⌜ r ≡ readAs 2 4 (now (line .entry)) ⌝ }
+// Of a name of so many bytes.
+fn four(line: &[u8], name: usize) -> Line
+    requires { ⌜ (name ≤ 3) × (length (now line) ≡ lineLength name 4) ⌝ }
+    ensures { λ r. ⌜ r ≡ readAs name 4 (now (line .entry)) ⌝ }
 {
-    let Word::Is(x) = argument(line, 2) else {
+    let second = name + ARGUMENT;
+    let third = second + ARGUMENT;
+    let Word::Is(x) = argument(line, name) else {
         return Line::Bad;
     };
-    let Word::Is(y) = argument(line, 19) else {
+    let Word::Is(y) = argument(line, second) else {
         return Line::Bad;
     };
-    let Word::Is(z) = argument(line, 36) else {
+    let Word::Is(z) = argument(line, third) else {
         return Line::Bad;
     };
-    let Word::Is(p) = argument(line, 53) else {
+    let Word::Is(p) = argument(line, third + ARGUMENT) else {
         return Line::Bad;
     };
-    of_four(&line[..2], x, y, z, p)
+    of_four(&line[..name], x, y, z, p)
 }
 
 // What a line asks, given without its newline. Every other form is bad: another length, a blank too many, a lower-case digit.
@@ -145,7 +154,10 @@ pub fn call_of(line: &[u8]) -> Line
         return three(line);
     }
     if n == FOUR {
-        return four(line);
+        return four(line, 2);
+    }
+    if n == LONG_FOUR {
+        return four(line, 3);
     }
     Line::Bad
 }

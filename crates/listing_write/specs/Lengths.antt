@@ -11,7 +11,7 @@ use Rattle.calls.specs.CallLaws.{name-length}
 use Rattle.calls.specs.declared.Call.{Call}
 use Rattle.carlson.specs.declared.answer.Found.{Found}
 use Rattle.carlson.specs.declared.answer.Road.{Road}
-use Rattle.carlson.specs.declared.answer.Road.the-variants.{Closed, Infinite, Agm, Duplication, Joint, Taylor, Reduction}
+use Rattle.carlson.specs.declared.answer.Road.the-variants.{Closed, Infinite, Agm, Duplication, Joint, Taylor, Reduction, Loop}
 use Rattle.listing_write.specs.Text.{countText, roadText, wayText, valueText, refusalText, afterName, textOf}
 use Rattle.listing_write.specs.Text.{longestCount, longestRoad, longestWay, longestValue, longestReply}
 
@@ -28,6 +28,7 @@ road-length Duplication = omega arith
 road-length Joint = omega arith
 road-length Taylor = omega arith
 road-length Reduction = omega arith
+road-length Loop = omega arith
 
 way-length : (f : Found) → length (wayText f) ≤ longestWay
 unfolding wayText

@@ -9,12 +9,13 @@ use writing::put_decimal;
 use writing::put_text;
 use writing::put_word;
 ghost use mathlib.Core.Path.{_≡_};
+ghost use mathlib.Core.Bool.{false};
 ghost use mathlib.Core.List.{[], _∷_};
 ghost use Prim.Native.Nat.{_+_, _≤_};
 ghost use lib.ListN.{length};
 ghost use Rattle.io.specs.Counts.{Counts};
 ghost use Rattle.calls.specs.Calls.{nameOf, longestName};
-ghost use Rattle.listing_write.specs.Text.{countText, roadText, wayText, valueText, refusalText, textOf};
+ghost use Rattle.listing_write.specs.Text.{isCel, countText, roadText, wayText, valueText, refusalText, textOf};
 ghost use Rattle.listing_write.specs.Text.{
   longestCount,
   longestRoad,
@@ -26,11 +27,24 @@ ghost use Rattle.listing_write.specs.Text.{
 ghost use Rattle.writing.specs.Written.{Put, Tried};
 
 // No reply is longer, its end counted.
-pub const LONGEST: usize = 54;
+pub const LONGEST: usize = 55;
 
-// The letter after the R.
+fn is_cel(call: Call) -> bool
+    ensures { λ r. ⌜ r ≡ isCel call ⌝ }
+{
+    match call {
+        Call::Rc(_, _) => false,
+        Call::Rf(_, _, _) => false,
+        Call::Rd(_, _, _) => false,
+        Call::Rg(_, _, _) => false,
+        Call::Rj(_, _, _, _) => false,
+        Call::Cel(_, _, _, _) => true,
+    }
+}
+
+// The letter after the R; cel's name is another.
 fn letter(call: Call) -> u8
-    ensures { λ r. ⌜ nameOf call ≡ 82 ∷ r ∷ [] ⌝ }
+    ensures { λ r. ⌜ (isCel call ≡ false → nameOf call ≡ 82 ∷ r ∷ []) ⌝ }
 {
     match call {
         Call::Rc(_, _) => b'C',
@@ -38,6 +52,7 @@ fn letter(call: Call) -> u8
         Call::Rd(_, _, _) => b'D',
         Call::Rg(_, _, _) => b'G',
         Call::Rj(_, _, _, _) => b'J',
+        Call::Cel(_, _, _, _) => b'L',
     }
 }
 
@@ -45,6 +60,9 @@ fn put_name(call: Call, out: &mut [u8], at: usize) -> usize
     requires { ⌜ at + longestName ≤ length (now out) ⌝ }
     ensures { λ r. ⌜ Put (now (out .entry)) at (nameOf call) (now (out .exit)) r ⌝ }
 {
+    if is_cel(call) {
+        return put_text(b"CEL", out, at);
+    }
     out[at] = b'R';
     out[at + 1] = letter(call);
     at + 2
@@ -73,6 +91,7 @@ fn put_road(road: Road, out: &mut [u8], at: usize) -> usize
         Road::Joint => put_text(b"joint ", out, at),
         Road::Taylor => put_text(b"taylor ", out, at),
         Road::Reduction => put_text(b"reduction ", out, at),
+        Road::Loop => put_text(b"loop ", out, at),
     }
 }
 

@@ -32,6 +32,7 @@ pub fn job_of(call: Call) -> Job
         Call::Rd(x, y, z) => job(3, x, y, z, 0),
         Call::Rg(x, y, z) => job(4, x, y, z, 0),
         Call::Rj(x, y, z, p) => job(5, x, y, z, p),
+        Call::Cel(kc, p, a, b) => job(6, kc, p, a, b),
     }
 }
 

@@ -11,9 +11,12 @@ use Rattle.packed.specs.declared.jobs.Job.{Job}
 abbrev pub unknown-function : ℕ
 unknown-function = 16
 
--- how many arguments a function has, by its number: "RF 1, RC 2, RD 3, RG 4, RJ 5"; 0 for every other number
+-- how many arguments a function has, by its number: "RF 1, RC 2, RD 3, RG 4, RJ 5", and cel 6
+-- (2026-09); 0 for every other number
 unfoldable pub arityOf : ℕ → ℕ
-arityOf f = cond (eqb f 1) 3 (cond (eqb f 2) 2 (cond (eqb f 3) 3 (cond (eqb f 4) 3 (cond (eqb f 5) 4 0))))
+arityOf f =
+    cond (eqb f 1) 3
+    (cond (eqb f 2) 2 (cond (eqb f 3) 3 (cond (eqb f 4) 3 (cond (eqb f 5) 4 (cond (eqb f 6) 4 0)))))
 
 -- the argument at k, from 0 to 3
 unfoldable pub argumentOf : Job → ℕ → ℕ

@@ -57,21 +57,26 @@ job-length-sum j = simp length-append
 pub job-some : (j : Job) → 1 ≤ jobLength j
 job-some j = omega (arith, job-length-sum j, number-least (j .function))
 
--- a known function's number is one byte long, and it has two arguments at least
-known-is : (f : ℕ) → (arityOf f ≡ 0 → ⊥) → (f < 128) × (2 ≤ arityOf f)
-unfolding arityOf
-known-is f h = go (eqb f 1) (eqb f 2) (eqb f 3) (eqb f 4) (eqb f 5) refl refl refl refl refl h
+-- a known function's number is one byte long, and it has two arguments at least: a test after the other
+abbrev Short : ℕ → ℕ → Type 0
+Short f arity = (_≡_ {A = ℕ} arity 0 → ⊥) → (f < 128) × (2 ≤ arity)
+
+one-more : (f n k rest : ℕ) → n < 128 → 2 ≤ k → Short f rest → Short f (cond (eqb f n) k rest)
+one-more f n k rest small two more = go (eqb f n) refl
   where
-    go :
-        (p q r s t : Bool) → eqb f 1 ≡ p → eqb f 2 ≡ q → eqb f 3 ≡ r → eqb f 4 ≡ s → eqb f 5 ≡ t
-        → (_≡_ {A = ℕ} (cond p 3 (cond q 2 (cond r 3 (cond s 3 (cond t 4 0))))) 0 → ⊥)
-        → (f < 128) × (2 ≤ cond p 3 (cond q 2 (cond r 3 (cond s 3 (cond t 4 0)))))
-    go true q r s t i j k l m h = (omega (arith, eqb-true f 1 i), omega arith)
-    go false true r s t i j k l m h = (omega (arith, eqb-true f 2 j), omega arith)
-    go false false true s t i j k l m h = (omega (arith, eqb-true f 3 k), omega arith)
-    go false false false true t i j k l m h = (omega (arith, eqb-true f 4 l), omega arith)
-    go false false false false true i j k l m h = (omega (arith, eqb-true f 5 m), omega arith)
-    go false false false false false i j k l m h = absurd (h refl)
+    go : (t : Bool) → eqb f n ≡ t → Short f (cond t k rest)
+    go true e h = (omega (arith, eqb-true f n e), two)
+    go false e h = more h
+
+known-is : (f : ℕ) → Short f (arityOf f)
+unfolding arityOf
+known-is f =
+    let last : Short f 0 = λ h. absurd (h refl) in
+    let six = one-more f 6 4 _ (omega arith) (omega arith) last in
+    let five = one-more f 5 4 _ (omega arith) (omega arith) six in
+    let four = one-more f 4 3 _ (omega arith) (omega arith) five in
+    let three = one-more f 3 3 _ (omega arith) (omega arith) four in
+    one-more f 1 3 _ (omega arith) (omega arith) (one-more f 2 2 _ (omega arith) (omega arith) three)
 
 byte-number : (n : ℕ) → n < 128 → length (numberBytes n) ≡ 1
 unfolding numberBytes groupsOf

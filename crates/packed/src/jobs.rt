@@ -32,6 +32,9 @@ pub fn arity(function: u64) -> usize
     if function == 5 {
         return 4;
     }
+    if function == 6 {
+        return 4;
+    }
     0
 }
 

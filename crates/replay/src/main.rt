@@ -15,9 +15,9 @@ use rows::next;
 const SHOWN: u64 = 5;
 
 struct Tally {
-    // rows of each entry, in the order RC, RF, RD, RG, RJ, and of all; those that differ, likewise
-    rows: [u64; 6],
-    differ: [u64; 6],
+    // rows of each entry, in the order RC, RF, RD, RG, RJ, CEL, and of all; those that differ, likewise
+    rows: [u64; 7],
+    differ: [u64; 7],
     // rows in another form
     odd: u64,
     // whether the next row is the header
@@ -33,18 +33,18 @@ fn more(x: u64) -> u64 {
 
 fn count(tally: Tally, entry: usize) -> Tally {
     let mut t = tally;
-    if entry < 5 {
+    if entry < 6 {
         t.rows[entry] = more(t.rows[entry]);
-        t.rows[5] = more(t.rows[5]);
+        t.rows[6] = more(t.rows[6]);
     }
     t
 }
 
 fn count_differing(tally: Tally, entry: usize) -> Tally {
     let mut t = count(tally, entry);
-    if entry < 5 {
+    if entry < 6 {
         t.differ[entry] = more(t.differ[entry]);
-        t.differ[5] = more(t.differ[5]);
+        t.differ[6] = more(t.differ[6]);
     }
     t
 }
@@ -58,7 +58,7 @@ fn count_odd(tally: Tally) -> Tally {
 fn take_header(row: &[u8], tally: Tally) -> Tally {
     let mut t = tally;
     t.header = false;
-    if check::same(row, b"gatewren calls 2") {
+    if check::same(row, b"gatewren calls 3") {
         return t;
     }
     count_odd(t)
@@ -68,7 +68,7 @@ fn take_row(row: &[u8], tally: Tally) -> Tally {
     if tally.header {
         return take_header(row, tally);
     }
-    match judge(row, tally.differ[5] < SHOWN) {
+    match judge(row, tally.differ[6] < SHOWN) {
         Verdict::Agrees(entry) => count(tally, entry),
         Verdict::Differs(entry) => count_differing(tally, entry),
         Verdict::Odd => count_odd(tally),
@@ -111,15 +111,16 @@ fn report_all(t: Tally) {
     report(b"RD", t.rows[2], t.differ[2]);
     report(b"RG", t.rows[3], t.differ[3]);
     report(b"RJ", t.rows[4], t.differ[4]);
-    report(b"all", t.rows[5], t.differ[5]);
+    report(b"CEL", t.rows[5], t.differ[5]);
+    report(b"all", t.rows[6], t.differ[6]);
     io::print_decimal(STDOUT_FILENO, t.odd);
     io::write_all(STDOUT_FILENO, b" rows in another form\n");
 }
 
 fn main() {
     report_all(take_rows(Tally {
-        rows: [0; 6],
-        differ: [0; 6],
+        rows: [0; 7],
+        differ: [0; 7],
         odd: 0,
         header: true,
     }));

@@ -7,7 +7,7 @@ use listing_write::LONGEST;
 ghost use Prim.Native.Nat.{_≤_};
 ghost use lib.ListN.{length};
 
-// What a row led to, with the entry's place in the order RC, RF, RD, RG, RJ.
+// What a row led to, with the entry's place in the order RC, RF, RD, RG, RJ, CEL.
 pub enum Verdict {
     Agrees(usize),
     Differs(usize),
@@ -22,16 +22,17 @@ fn place(call: Call) -> usize {
         Call::Rd(_, _, _) => 2,
         Call::Rg(_, _, _) => 3,
         Call::Rj(_, _, _, _) => 4,
+        Call::Cel(_, _, _, _) => 5,
     }
 }
 
-// Where the first `=` stands, or the row's length.
-fn equals(row: &[u8]) -> usize
+// Where the first such byte stands, or the row's length.
+fn first(row: &[u8], byte: u8) -> usize
     ensures { λ r. ⌜ r ≤ length (now (row .entry)) ⌝ }
 {
     let mut i = 0;
     while i < row.len() {
-        if row[i] == b'=' {
+        if row[i] == byte {
             return i;
         }
         i += 1;
@@ -58,10 +59,14 @@ fn end(row: &[u8]) -> usize
 // Whether the answer's line says, after its name and up to its end, what the row says.
 fn says(line: &[u8], said: &[u8]) -> bool {
     let n = line.len();
-    if n < 3 {
+    let at = first(line, b' ');
+    if n < 1 {
         return false;
     }
-    check::same(&line[2..n - 1], said)
+    if n - 1 < at {
+        return false;
+    }
+    check::same(&line[at..n - 1], said)
 }
 
 fn show(row: &[u8], line: &[u8]) {
@@ -85,7 +90,7 @@ fn compare(call: Call, said: &[u8], row: &[u8], shown: bool) -> Verdict {
 
 // A row that differs is shown where that is asked for.
 pub(crate) fn judge(row: &[u8], shown: bool) -> Verdict {
-    let at = equals(row);
+    let at = first(row, b'=');
     let last = end(row);
     if at < 1 {
         return Verdict::Odd;

@@ -25,7 +25,7 @@ pub enum Verdict {
     Differ,
 }
 
-// The entry's place in the order RC, RF, RD, RG, RJ.
+// The entry's place in the order RC, RF, RD, RG, RJ. Demand 3 does not speak of cel (document 02, 2026-09), so that it is not asked.
 pub fn place(call: Call) -> usize {
     match call {
         Call::Rc(_, _) => 0,
@@ -33,6 +33,7 @@ pub fn place(call: Call) -> usize {
         Call::Rd(_, _, _) => 2,
         Call::Rg(_, _, _) => 3,
         Call::Rj(_, _, _, _) => 4,
+        Call::Cel(_, _, _, _) => 5,
     }
 }
 
@@ -99,6 +100,7 @@ pub fn asked(call: Call) -> bool {
         Call::Rd(x, y, z) => three_asked(x, y, z),
         Call::Rg(x, y, z) => three_asked(x, y, z),
         Call::Rj(x, y, z, p) => four_asked(x, y, z, p),
+        Call::Cel(_, _, _, _) => false,
     }
 }
 
@@ -125,6 +127,7 @@ pub fn scaled(call: Call, j: u64) -> Call
         Call::Rd(x, y, z) => Call::Rd(moved(x, j), moved(y, j), moved(z, j)),
         Call::Rg(x, y, z) => Call::Rg(moved(x, j), moved(y, j), moved(z, j)),
         Call::Rj(x, y, z, p) => Call::Rj(moved(x, j), moved(y, j), moved(z, j), moved(p, j)),
+        Call::Cel(kc, p, a, b) => Call::Cel(kc, p, a, b),
     }
 }
 
@@ -172,6 +175,7 @@ fn values_alike(call: Call, j: u64, first: Found, second: Found) -> bool
         Call::Rd(_, _, _) => times(192, 3 * j, x, y),
         Call::Rg(_, _, _) => times(j, 64, x, y),
         Call::Rj(_, _, _, _) => times(192, 3 * j, x, y),
+        Call::Cel(_, _, _, _) => false,
     }
 }
 

@@ -18,7 +18,7 @@ use Rattle.packed.specs.declared.read.Read.{Read}
 use Rattle.packed.specs.declared.read.Read.the-variants.{Found, Nothing, Refused}
 use Rattle.writing.specs.Fed.{quiet}
 use Rattle.writing.specs.FedLaws.{Short}
-use Rattle.unpack_stream.specs.Text.{argumentText, jobText, argumentRoom, lineRoom}
+use Rattle.unpack_stream.specs.Text.{letterOf, nameText, argumentText, jobText, argumentRoom, lineRoom}
 use Rattle.unpack_stream.specs.Unpack.{Held, holding, refused, triedAs, unpackByte, heldLength}
 
 pub argument-most : (j : Job) (k : ℕ) → length (argumentText j k) ≤ argumentRoom
@@ -29,9 +29,19 @@ argument-most j k = go (ltb k (arityOf (j .function)))
     go true = omega (arith, word-length (argumentOf j k))
     go false = omega arith
 
+pub name-most : (f : ℕ) → length (nameText f) ≤ 3
+unfolding nameText
+name-most f = go (eqb f 6)
+  where
+    go : (t : Bool) → length (cond t (67 ∷ 69 ∷ 76 ∷ []) (82 ∷ letterOf f ∷ [])) ≤ 3
+    go true = omega arith
+    go false = omega arith
+
 line-most : (j : Job) → length (jobText j) ≤ lineRoom
 unfolding jobText
-line-most j = simp length-append (omega (arith, argument-most j 0, argument-most j 1, argument-most j 2, argument-most j 3))
+line-most j =
+    simp length-append
+    (omega (arith, name-most (j .function), argument-most j 0, argument-most j 1, argument-most j 2, argument-most j 3))
 
 -- what one byte leads to is one line at most, and takes what is held at most
 try-short : (held : List ℕ) (r : Read) → Short lineRoom (length held) (triedAs held r)

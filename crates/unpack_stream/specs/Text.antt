@@ -11,6 +11,10 @@ use Rattle.packed.specs.declared.jobs.Job.{Job}
 unfoldable pub letterOf : ℕ → ℕ
 letterOf f = cond (eqb f 1) 70 (cond (eqb f 2) 67 (cond (eqb f 3) 68 (cond (eqb f 4) 71 74)))
 
+-- the name; cel's is 6 (2026-09)
+unfoldable pub nameText : ℕ → List ℕ
+nameText f = cond (eqb f 6) (67 ∷ 69 ∷ 76 ∷ []) (82 ∷ letterOf f ∷ [])
+
 -- an argument as the listing has it, if the function has it
 unfoldable pub argumentText : Job → ℕ → List ℕ
 argumentText j k = cond (ltb k (arityOf (j .function))) (wordText (argumentOf j k)) []
@@ -18,7 +22,7 @@ argumentText j k = cond (ltb k (arityOf (j .function))) (wordText (argumentOf j 
 -- the name, the arguments, the line's end
 unfoldable pub jobText : Job → List ℕ
 jobText j =
-    (82 ∷ letterOf (j .function) ∷ [])
+    nameText (j .function)
     ++ (argumentText j 0 ++ (argumentText j 1 ++ (argumentText j 2 ++ (argumentText j 3 ++ 10 ∷ []))))
 
 -- room for an argument, and for a line
@@ -26,4 +30,4 @@ abbrev pub argumentRoom : ℕ
 argumentRoom = 17
 
 abbrev pub lineRoom : ℕ
-lineRoom = 71
+lineRoom = 72

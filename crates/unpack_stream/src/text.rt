@@ -2,15 +2,15 @@
 use packed::Job;
 use packed::argument_of;
 use packed::arity;
+use writing::put_text;
 use writing::put_word;
 ghost use mathlib.Core.Path.{_≡_};
-ghost use mathlib.Core.List.{[], _∷_};
 ghost use Prim.Native.Nat.{_+_, _≤_};
 ghost use lib.ListN.{length};
 ghost use Rattle.writing.specs.Written.{Put};
-ghost use Rattle.unpack_stream.specs.Text.{letterOf, argumentText, jobText, argumentRoom, lineRoom};
+ghost use Rattle.unpack_stream.specs.Text.{letterOf, nameText, argumentText, jobText, argumentRoom, lineRoom};
 
-// The second letter of the function's name; all begin with R.
+// The second letter of the function's name; all but cel's begin with R.
 fn letter(function: u64) -> u8
     ensures { λ r. ⌜ r ≡ letterOf function ⌝ }
 {
@@ -42,9 +42,12 @@ fn put_argument(job: Job, k: usize, out: &mut [u8], at: usize) -> usize
 }
 
 fn put_name(function: u64, out: &mut [u8], at: usize) -> usize
-    requires { ⌜ at + 2 ≤ length (now out) ⌝ }
-    ensures { λ r. ⌜ Put (now (out .entry)) at (82 ∷ letterOf function ∷ []) (now (out .exit)) r ⌝ }
+    requires { ⌜ at + 3 ≤ length (now out) ⌝ }
+    ensures { λ r. ⌜ Put (now (out .entry)) at (nameText function) (now (out .exit)) r ⌝ }
 {
+    if function == 6 {
+        return put_text(b"CEL", out, at);
+    }
     out[at] = b'R';
     out[at + 1] = letter(function);
     at + 2

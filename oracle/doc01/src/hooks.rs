@@ -124,7 +124,7 @@ impl Drop for RjCall {
     }
 }
 
-/// Document 02, 2026-04: which formula answered.
+/// Document 02, 2026-04: which formula answered; 2026-09 adds the last.
 #[derive(Clone, Copy, Debug, PartialEq, Eq, PartialOrd, Ord)]
 pub enum Road {
     Closed,
@@ -134,6 +134,7 @@ pub enum Road {
     Joint,
     Taylor,
     Reduction,
+    Loop,
 }
 
 /// A part of an entry that is at work: the road it is on, and whether the next part that it asks will give its whole answer.
@@ -188,6 +189,10 @@ pub fn reduces() {
 
 pub fn expands() {
     takes(Road::Taylor);
+}
+
+pub fn stands() {
+    takes(Road::Loop);
 }
 
 fn leave(number: u32) -> ! {

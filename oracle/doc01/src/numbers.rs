@@ -1,6 +1,6 @@
-//! Document 01's number for each text that an entry of the Rust refuses with.
+//! The documents' number for each text that an entry of the Rust refuses with.
 
-const NUMBERS: [(&str, &[(&str, u32)]); 5] = [
+const NUMBERS: [(&str, &[(&str, u32)]); 6] = [
     (
         "elliprc: ",
         &[("x must be non-negative.", 2), ("y must be non-zero.", 4), ("Arguments cannot be NAN.", 1), ("Unexpected error.", 7)],
@@ -32,6 +32,16 @@ const NUMBERS: [(&str, &[(&str, u32)]); 5] = [
             ("p cannot be zero.", 4),
             ("x, y, and z must be non-negative.", 2),
             ("At most one argument can be zero.", 3),
+            ("Failed to converge.", 6),
+        ],
+    ),
+    (
+        "cel: ",
+        &[
+            ("kc cannot be zero.", 4),
+            ("p cannot be zero.", 4),
+            ("Arguments cannot be NAN.", 1),
+            ("More than one argument in kc, p, a, b cannot be infinite.", 19),
             ("Failed to converge.", 6),
         ],
     ),

@@ -77,8 +77,14 @@ impl Float for Ruled {
     fn is_finite(self) -> bool {
         self.0.is_finite()
     }
+    fn is_infinite(self) -> bool {
+        self.0.is_infinite()
+    }
     fn abs(self) -> Ruled {
         Ruled(self.0.abs())
+    }
+    fn signum(self) -> Ruled {
+        Ruled(self.0.signum())
     }
     /// A NaN is passed over if the other is a number; of equal zeros the first is taken (as in `min`).
     fn max(self, other: Ruled) -> Ruled {

@@ -1,7 +1,5 @@
 //! Any program's line with something wrong, and noise.
 
-use crate::fuzz::good;
-use crate::lines::Program;
 use crate::random::Random;
 
 pub const KINDS: [&str; 14] = [
@@ -21,7 +19,8 @@ pub const KINDS: [&str; 14] = [
     "nothing",
 ];
 
-pub fn made(random: &mut Random, kind: usize, mut line: Vec<u8>, program: Program) -> Vec<u8> {
+/// `another` makes a good line.
+pub fn made(random: &mut Random, kind: usize, mut line: Vec<u8>, another: impl Fn(&mut Random) -> Vec<u8>) -> Vec<u8> {
     let at = random.below(line.len() as u64) as usize;
     match kind {
         0 => line[at] = byte(random),
@@ -36,8 +35,8 @@ pub fn made(random: &mut Random, kind: usize, mut line: Vec<u8>, program: Progra
         6 => line.insert(if random.coin() { 0 } else { line.len() }, b' '),
         7 => line.push(b'\r'),
         8 => line.truncate(at),
-        9 => line.extend(good(program, random)),
-        10 => line.extend(much(random, program)),
+        9 => line.extend(another(random)),
+        10 => line.extend(much(random, another)),
         11 => line = (0..random.below(120)).map(|_| byte(random)).collect(),
         12 => line = (0..random.below(120)).map(|_| random.pick(b"RCFDGJ 0123456789ABCDEFabcdef")).collect(),
         _ => line.clear(),
@@ -61,11 +60,11 @@ fn blank(random: &mut Random, line: &[u8]) -> Option<usize> {
 }
 
 /// Up to some hundred thousand bytes without a newline, among them what would be a good line by itself.
-fn much(random: &mut Random, program: Program) -> Vec<u8> {
+fn much(random: &mut Random, another: impl Fn(&mut Random) -> Vec<u8>) -> Vec<u8> {
     let most = if random.below(16) == 0 { 1 << 17 } else { 1 << 9 };
     let length = random.below(most);
     let fill = random.pick(b" 0F\0R\xFF");
     let mut more = vec![fill; length as usize];
-    more.extend(good(program, random));
+    more.extend(another(random));
     more
 }

@@ -2,6 +2,7 @@
 //! and `unpack`, fed in pieces of all sizes, against the oracle's own reader and writer.
 
 use super::{number, packed, read, unpacked, written, Job, NAMES};
+use crate::call::Entry;
 use crate::fuzz::{good, piece};
 use crate::lines::{command, root, Program};
 use crate::random::Random;
@@ -57,8 +58,10 @@ pub fn word(random: &mut Random) -> u64 {
     }
 }
 
-fn one(random: &mut Random) -> Job {
-    let (function, entry) = random.pick(&NAMES);
+type Names = [(u64, Entry)];
+
+fn one(names: &Names, random: &mut Random) -> Job {
+    let (function, entry) = random.pick(names);
     (function, (0..entry.arity()).map(|_| word(random)).collect())
 }
 
@@ -67,7 +70,7 @@ const KINDS: [&str; 6] =
 
 /// A list of that kind, of so many jobs at most.
 fn list(random: &mut Random, kind: usize, most: u64) -> Vec<u8> {
-    let jobs: Vec<Job> = (0..random.below(most)).map(|_| one(random)).collect();
+    let jobs: Vec<Job> = (0..random.below(most)).map(|_| one(&NAMES, random)).collect();
     let mut bytes = written(&jobs);
     let at = random.below(bytes.len() as u64 + 1) as usize;
     match kind {
@@ -96,14 +99,18 @@ fn long_job(random: &mut Random) -> Vec<u8> {
 /// Any byte; more often one that means something.
 fn noise(random: &mut Random) -> u8 {
     let any = random.word() as u8;
-    random.pick(&[any, any, 0, 1, 2, 5, 128, 255])
+    random.pick(&[any, any, 0, 1, 2, 5, 6, 128, 255])
 }
 
 /// Lines, one in thirty of them of any kind; the last may lack its newline.
 fn text(random: &mut Random) -> Vec<u8> {
     let mut text = Vec::new();
     for _ in 0..random.below(40) {
-        text.extend(if random.below(30) == 0 { piece(Program::Listing, random).1 } else { good(Program::Listing, random) });
+        let any = random.below(30) == 0;
+        text.extend(match any {
+            true => piece(Program::Listing, &Entry::ALL, random).1,
+            false => good(Program::Listing, &Entry::ALL, random),
+        });
         text.push(b'\n');
     }
     if random.coin() {
@@ -165,7 +172,7 @@ pub fn run(n: u64, seed: u64) -> bool {
         counts.same("pack", &text, &packed(&text), &mut random);
     }
     println!("{:<28}{n:>10}", "texts through pack");
-    let bytes = written(&fixed());
+    let bytes = written(&fixed(&NAMES));
     for cut in 0..=bytes.len() {
         counts.same("unpack", &bytes[..cut], &unpacked(&bytes[..cut]), &mut random);
     }
@@ -175,11 +182,11 @@ pub fn run(n: u64, seed: u64) -> bool {
 }
 
 /// Jobs of every function, with numbers of one to ten groups.
-fn fixed() -> Vec<Job> {
+fn fixed(names: &Names) -> Vec<Job> {
     let word = |groups: u32| if groups == 10 { u64::MAX } else { (1 << (7 * groups)) - 1 };
-    NAMES
-        .into_iter()
-        .flat_map(|(function, entry)| [1, 4, 7].map(|k| (function, (0..entry.arity() as u32).map(|i| word(k + i)).collect())))
+    names
+        .iter()
+        .flat_map(|&(function, entry)| [1, 4, 7].map(|k| (function, (0..entry.arity() as u32).map(|i| word(k + i)).collect())))
         .collect()
 }
 
@@ -220,7 +227,7 @@ pub fn round(n: u64, seed: u64) -> bool {
         return false;
     }
     let mut random = Random::new(seed);
-    let bytes = written(&(0..n).map(|_| one(&mut random)).collect::<Vec<Job>>());
+    let bytes = written(&(0..n).map(|_| one(&NAMES, &mut random)).collect::<Vec<Job>>());
     let (lines, said) = unpacked(&bytes);
     let begun = Instant::now();
     let there = printed("pack", &lines, &mut random) == (bytes.clone(), said.clone());
@@ -241,17 +248,19 @@ pub fn round(n: u64, seed: u64) -> bool {
 /// The inputs of `examples/cuts` for the two programs, with what each prints on standard output and then on standard error: a
 /// list and a text of several blocks that end in a refused job and in a bad line, and good ones after it, which must not be read.
 pub fn examples() -> [(&'static str, Vec<u8>, Vec<u8>); 2] {
+    let names = &NAMES;
+    let line = |random: &mut Random| good(Program::Listing, &Entry::ALL, random);
     let mut random = Random::new(20_261_115);
     let mut list = Vec::new();
     while list.len() < 6 * 512 - 100 {
-        list.extend(written(&[one(&mut random)]));
+        list.extend(written(&[one(names, &mut random)]));
     }
-    list.extend([long_job(&mut random), written(&fixed())].concat());
+    list.extend([long_job(&mut random), written(&fixed(names))].concat());
     let mut text = Vec::new();
     while text.len() < 6 * 1024 - 300 {
-        text.extend([good(Program::Listing, &mut random), b"\n".to_vec()].concat());
+        text.extend([line(&mut random), b"\n".to_vec()].concat());
     }
-    let bad = [vec![b'R'; 150], b"\n".to_vec(), good(Program::Listing, &mut random)].concat();
+    let bad = [vec![b'R'; 150], b"\n".to_vec(), line(&mut random)].concat();
     text.extend(bad);
     let all = |(output, error): Printed| [output, error].concat();
     [("pack.txt", text.clone(), all(packed(&text))), ("unpack.list", list.clone(), all(unpacked(&list)))]

@@ -1,22 +1,36 @@
 //! Brings the crate's text, which is not in this repository, to a build: called by the build scripts of `untouched`
-//! and `doc01`. The files are taken as they are given, but for the last line of each Carlson file: an attribute that
-//! stood before the tests, which are not in the text given, so that it has nothing left to stand on.
+//! and `doc01`. The files are taken as they are given, but for the last line of most: an attribute that stood before the
+//! tests, which are not in the text given, so that it has nothing left to stand on. Of `bulirsch/mod.rs`, which names files
+//! that are not in the text either, the limits at its end are taken.
 
 use std::{env, fs, path::Path, path::PathBuf};
 
-const CARLSON: [&str; 5] = ["elliprc", "elliprf", "elliprd", "elliprg", "elliprj"];
+const WITH_TESTS: [(&str, &str); 7] = [
+    ("carlson", "elliprc"),
+    ("carlson", "elliprf"),
+    ("carlson", "elliprd"),
+    ("carlson", "elliprg"),
+    ("carlson", "elliprj"),
+    ("bulirsch", "cel"),
+    ("bulirsch", "constants"),
+];
 const DANGLING: &str = "#[cfg(not(feature = \"test_force_fail\"))]";
+/// The line of `bulirsch/mod.rs` at which its limits begin.
+const LIMITS: &str = "/// Maximum number of iterations for [cel]";
 
-/// Writes the seven files to OUT_DIR.
+/// Writes the files to OUT_DIR.
 pub fn prepare() {
     let source = folder();
     let out = PathBuf::from(env::var("OUT_DIR").expect("cargo gives OUT_DIR"));
     println!("cargo:rerun-if-env-changed=ELLIP_SRC");
-    for name in CARLSON {
-        let text = read(&source.join("carlson").join(format!("{name}.rs")));
-        let kept = text.trim_end().strip_suffix(DANGLING).expect("a Carlson file ends with the dangling attribute");
+    for (folder, name) in WITH_TESTS {
+        let text = read(&source.join(folder).join(format!("{name}.rs")));
+        let kept = text.trim_end().strip_suffix(DANGLING).expect("such a file ends with the dangling attribute");
         write(&out.join(format!("{name}.rs")), kept);
     }
+    let text = read(&source.join("bulirsch/mod.rs"));
+    let limits = text.find(LIMITS).expect("the limits stand in bulirsch/mod.rs");
+    write(&out.join("limits.rs"), &text[limits..]);
     for name in ["crate_util", "polyeval"] {
         write(&out.join(format!("{name}.rs")), &read(&source.join(format!("{name}.rs"))));
     }

@@ -21,4 +21,17 @@ call-of-spec =
       eq-eqb _ _ (c .before .if3 .taken),
     )
     (c .four .ensures))
-    (λ c. rw (ne-eqb _ _ (c .before .before .if1 .left), ne-eqb _ _ (c .before .if2 .left), ne-eqb _ _ (c .if3 .left))))
+    (λ c κs. search needs)
+    (λ c. rw (
+      ne-eqb _ _ (c .before .before .before .before .if1 .left),
+      ne-eqb _ _ (c .before .before .before .if2 .left),
+      ne-eqb _ _ (c .before .before .if3 .left),
+      eq-eqb _ _ (c .before .if4 .taken),
+    )
+    (c .four2 .ensures))
+    (λ c. rw (
+      ne-eqb _ _ (c .before .before .before .if1 .left),
+      ne-eqb _ _ (c .before .before .if2 .left),
+      ne-eqb _ _ (c .before .if3 .left),
+      ne-eqb _ _ (c .if4 .left),
+    )))

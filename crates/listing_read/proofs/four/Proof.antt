@@ -1,5 +1,5 @@
 -- `four` meets its contract: its tests are those of the definition, in its order. Assumes nothing.
-use Prim.Native.Nat.{ℕ}
+use Prim.Native.Nat.{ℕ, _+_}
 use mathlib.Core.Path.{_≡_, sym, _∙_}
 use mathlib.Core.List.{List}
 use native.Mathlib.Omega.{arith}
@@ -24,16 +24,29 @@ line₃ k = line₂ (k .before .before .before .before)
 abbrev line₄ : tie.After-known-told4 → List ℕ
 line₄ k = line₃ (k .before .before .before .before)
 
-first : (k : tie.After-known-told) → wordAt (line₁ k) 2 ≡ Is (k .before .x .given .0 .0)
+-- how long the name is
+abbrev name₁ : tie.After-known-told → ℕ
+name₁ k = k .before .before .before .before .before .args .name
+
+abbrev name₂ : tie.After-known-told2 → ℕ
+name₂ k = name₁ (k .before .before .before .before)
+
+abbrev name₃ : tie.After-known-told3 → ℕ
+name₃ k = name₂ (k .before .before .before .before)
+
+abbrev name₄ : tie.After-known-told4 → ℕ
+name₄ k = name₃ (k .before .before .before .before)
+
+first : (k : tie.After-known-told) → wordAt (line₁ k) (name₁ k) ≡ Is (k .before .x .given .0 .0)
 first k = sym (k .before .before .before .argument .ensures) ∙ k .before .x .given .1
 
-second : (k : tie.After-known-told2) → wordAt (line₂ k) 19 ≡ Is (k .before .y .given .0 .0)
+second : (k : tie.After-known-told2) → wordAt (line₂ k) (name₂ k + 17) ≡ Is (k .before .y .given .0 .0)
 second k = sym (k .before .before .before .argument2 .ensures) ∙ k .before .y .given .1
 
-third : (k : tie.After-known-told3) → wordAt (line₃ k) 36 ≡ Is (k .before .z .given .0 .0)
+third : (k : tie.After-known-told3) → wordAt (line₃ k) (name₃ k + 17 + 17) ≡ Is (k .before .z .given .0 .0)
 third k = sym (k .before .before .before .argument3 .ensures) ∙ k .before .z .given .1
 
-fourth : (k : tie.After-known-told4) → wordAt (line₄ k) 53 ≡ Is (k .before .p .given .0 .0)
+fourth : (k : tie.After-known-told4) → wordAt (line₄ k) (name₄ k + 17 + 17 + 17) ≡ Is (k .before .p .given .0 .0)
 fourth k = sym (k .before .before .before .argument4 .ensures) ∙ k .before .p .given .1
 
 returns : tie.Need-returns
@@ -58,16 +71,30 @@ returns-3 c = let k = c .before .before .before in rw (
 
 returns-4 : tie.Need-returns-4
 unfolding readAs andThen wordsAt named
-returns-4 c = let k = c .before .before .before in rw (first (k .before .before .before .before .before .before .before .before), second (k .before .before .before .before), third k, sym (c .before .before .argument4 .ensures) ∙ c .enum-told4 .given .1)
+returns-4 c =
+    let k = c .before .before .before in
+    let j = k .before .before .before .before in
+    rw (
+      first (j .before .before .before .before),
+      second j,
+      third k,
+      sym (c .before .before .argument4 .ensures) ∙ c .enum-told4 .given .1,
+    )
 
 returns-5 : tie.Need-returns-5
 unfolding readAs andThen wordsAt
-returns-5 c = let k = c .before .before in rw (first (k .before .before .before .before .before .before .before .before .before .before .before .before), second (k .before .before .before .before .before .before .before .before), third (k .before .before .before .before), fourth k) (c .of-four .ensures)
+returns-5 c =
+    let k = c .before .before in
+    let j = k .before .before .before .before in
+    let i = j .before .before .before .before in
+    rw (first (i .before .before .before .before), second i, third j, fourth k) (c .of-four .ensures)
 
 pub four-spec : {M : Type 1} → statement M
 four-spec =
     tie.close
     (tie.spec
+    (λ c. search needs)
+    (λ c. search needs)
     (λ c κs. search needs)
     (λ c. search needs)
     (λ c. search needs)
@@ -80,10 +107,11 @@ four-spec =
     (λ c. search needs)
     (λ c. search needs)
     returns-3
+    (λ c. search needs)
     (λ c κs. search needs)
     (λ c. search needs)
     (λ c. search needs)
     returns-4
-    (λ c. sym (length-take-le 2 (line₄ (c .before)) (omega arith)))
+    (λ c. sym (length-take-le _ (line₄ (c .before)) (omega arith)))
     (λ c κs. tt)
     returns-5)

@@ -1,4 +1,4 @@
--- `of_four` meets its contract: its test is that of the definition. Assumes nothing.
+-- `of_four` meets its contract: its tests are those of the definition, in its order. Assumes nothing.
 use mathlib.Core.Path.{sym, _∙_}
 use borrow.Author.Needs.{needs}
 use Rattle.calls.specs.Calls.{nameOf}
@@ -14,4 +14,9 @@ of-four-spec =
     (λ c. search needs)
     (λ c κs. tt)
     (λ c. rw (sym (c .before .is-name .ensures) ∙ c .if1 .taken))
-    (λ c. rw (sym (c .before .is-name .ensures) ∙ c .if1 .left)))
+    (λ c. search needs)
+    (λ c κs. tt)
+    (λ c. let n = c .before .before .before in
+    rw (sym (n .before .is-name .ensures) ∙ n .if1 .left, sym (c .before .is-name2 .ensures) ∙ c .if2 .taken))
+    (λ c. let n = c .before .before .before in
+    rw (sym (n .before .is-name .ensures) ∙ n .if1 .left, sym (c .before .is-name2 .ensures) ∙ c .if2 .left)))

@@ -41,10 +41,18 @@ unfolding roadText
 returns-7 c = rw (c .before .before .before .before .before .enum-told7 .given .1)
     (tried-put (omega arith) (c .before .before .put-text7 .ensures))
 
+returns-8 : tie.Need-returns-8
+unfolding roadText
+returns-8 c = rw (c .before .before .before .before .before .enum-told8 .given .1)
+    (tried-put (omega arith) (c .before .before .put-text8 .ensures))
+
 pub put-road-spec : {M : Type 1} → statement M
 put-road-spec =
     tie.close
     (tie.spec
+    (λ c. search needs)
+    (λ c. search needs)
+    (λ c κs. search needs)
     (λ c. search needs)
     (λ c. search needs)
     (λ c κs. search needs)
@@ -79,4 +87,6 @@ put-road-spec =
     (λ c. put-length (returns-6 c))
     returns-6
     (λ c. put-length (returns-7 c))
-    returns-7)
+    returns-7
+    (λ c. put-length (returns-8 c))
+    returns-8)

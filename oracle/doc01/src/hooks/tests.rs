@@ -44,6 +44,33 @@ fn agm(n: u32) {
     }
 }
 
+/// Each pass that is begun counts, and the last statement but one says that the loop's result stands.
+#[numeric_literals::replace_float_literals(twice(literal))]
+fn cel_with_const(n: u32) -> Result<u32, u32> {
+    let mut ans = 0;
+    for i in 0..9 {
+        if i + 1 < n {
+            continue;
+        }
+        ans = i + 1;
+        break;
+    }
+    if ans % 2 == 0 {
+        return Ok(ans);
+    }
+    Err(ans)
+}
+
+#[test]
+fn passes_and_road_of_cel() {
+    for n in 1..9 {
+        start();
+        assert_eq!(cel_with_const(n).is_ok(), n % 2 == 0);
+        assert_eq!(count(), n);
+        assert_eq!(road() == Road::Loop, n % 2 == 0);
+    }
+}
+
 #[test]
 fn each_kind_of_pass() {
     for n in 1..9 {

@@ -1,4 +1,4 @@
-//! Stands in for the crate `num_lazy`: the constants' macros that the five Carlson files use.
+//! Stands in for the crate `num_lazy`: the constants' macros that the crate's files use.
 //! `pi!` is 400921FB54442D18 and `pi_2!` is 3FF921FB54442D18, as document 01 says (tested in doc01/src/ruled.rs).
 
 #[macro_export]

@@ -1,4 +1,4 @@
-//! Stands in for the crate `num_traits`: the traits and methods that the five Carlson files use, no more,
+//! Stands in for the crate `num_traits`: the traits and methods that the crate's files use, no more,
 //! and their meaning on f64, which is the standard library's.
 
 use std::ops::{Add, Div, Mul, Neg, Sub};
@@ -35,7 +35,9 @@ pub trait Float: NumCast + Zero + One + Field + Copy + PartialOrd {
     fn min_positive_value() -> Self;
     fn is_nan(self) -> bool;
     fn is_finite(self) -> bool;
+    fn is_infinite(self) -> bool;
     fn abs(self) -> Self;
+    fn signum(self) -> Self;
     fn max(self, other: Self) -> Self;
     fn min(self, other: Self) -> Self;
     fn sqrt(self) -> Self;
@@ -116,7 +118,9 @@ impl Float for f64 {
     forward! {
         is_nan() -> bool;
         is_finite() -> bool;
+        is_infinite() -> bool;
         abs() -> f64;
+        signum() -> f64;
         max(other) -> f64;
         min(other) -> f64;
         sqrt() -> f64;

@@ -1,4 +1,4 @@
-//! Stands in for the crate `numeric_literals`: its one attribute that the five Carlson files use.
+//! Stands in for the crate `numeric_literals`: its one attribute that the crate's files use.
 
 mod literals;
 

@@ -1,9 +1,10 @@
-//! Hooks at calls, from which document 02, 2026-04, reads road and rescalings. Each has its own shape in the Rust:
+//! Hooks at calls, from which road and rescalings (document 02, 2026-04 and 2026-09) are read. Each has its own shape in the Rust:
 //!
 //! - a rescaling: a call of the function itself with arguments that are divided;
 //! - the reduction of a negative p: a call of itself with others;
 //! - the whole answer handed to another function: `return other_unchecked(..);` and nothing after it;
-//! - the expansion near RJ's zero: `return Some(..)` of the function that has it.
+//! - the expansion near RJ's zero: `return Some(..)` of the function that has it;
+//! - cel's loop, if what comes out of it is finite: `return Ok(ans)`. What stands after it is the Rust's own tests.
 //!
 //! A word that is called becomes a block that says so and is the word.
 
@@ -45,6 +46,9 @@ fn hook(own: &str, word: &str, trees: &[TokenTree], i: usize) -> Option<&'static
     }
     if word.ends_with("_unchecked") && returned && alone {
         return Some("hands_over");
+    }
+    if word == "Ok" && returned && own == "cel_with_const" && arguments.stream().to_string() == "ans" {
+        return Some("stands");
     }
     (word == "Some" && returned && own == "elliprj_pv_near_zero").then_some("expands")
 }

@@ -2,9 +2,9 @@
 //! `crate::hooks` into the bodies it is given, so that rounds and rescalings are counted, the road is known and the two
 //! added limits are kept by the Rust's own steps. The crate's text stays as it is; only the attribute, which is ours, sees the bodies.
 
+mod calls;
 #[path = "../../numeric_literals/src/literals.rs"]
 mod literals;
-mod calls;
 mod loops;
 
 use proc_macro::{Delimiter, TokenStream, TokenTree};
@@ -18,7 +18,11 @@ pub fn replace_float_literals(form: TokenStream, item: TokenStream) -> TokenStre
 fn hooked(item: TokenStream) -> TokenStream {
     let name = name_of(&item).unwrap_or_default();
     let guard = loops::code(guard(&name));
-    let road = if name == "elliprf_rd_unchecked" { "Joint" } else { "Duplication" };
+    let road = match name.as_str() {
+        "cel_with_const" => None,
+        "elliprf_rd_unchecked" => Some("Joint"),
+        _ => Some("Duplication"),
+    };
     item.into_iter()
         .map(|tree| match tree {
             TokenTree::Group(group) if group.delimiter() == Delimiter::Brace => {
@@ -34,7 +38,7 @@ fn hooked(item: TokenStream) -> TokenStream {
 fn guard(name: &str) -> &'static str {
     match name {
         "elliprj_unchecked" => "let _call = crate::hooks::RjCall::enter(); let _part = crate::hooks::Part::enter();",
-        "elliprc_unchecked" | "elliprf_unchecked" | "elliprd_unchecked" | "elliprg_unchecked" => {
+        "elliprc_unchecked" | "elliprf_unchecked" | "elliprd_unchecked" | "elliprg_unchecked" | "cel_with_const" => {
             "let _part = crate::hooks::Part::enter();"
         }
         _ => "",

@@ -1,11 +1,14 @@
-//! Hooks in loops. Document 01, "Rounds", counts three kinds of passes, and each has its own shape in the Rust:
+//! Hooks in loops. Document 01, "Rounds", counts three kinds of passes, document 02 a fourth, and each has its own shape in the
+//! Rust:
 //!
 //! - duplication and joint passes begun: a `for` without `continue`; a hook at the head of its body;
 //! - RF's AGM passes that replaced the means: a `for` whose `continue` follows the replacing; a hook before `continue`;
 //! - RD's and RG's AGM passes: a `while`, whose body always replaces the means; a hook at its head, which also keeps
-//!   the added cap and so has a counter of its own, declared before the `while`.
+//!   the added cap and so has a counter of its own, declared before the `while`;
+//! - cel's passes begun: a `for` with a `continue`, but with a hook at the head of its body.
 //!
-//! A loop that is begun is also the road that is taken: every `for` begins a pass, a `while` may not.
+//! A loop that is begun is also the road that is taken: every `for` begins a pass, a `while` may not. Not so in cel, whose road
+//! hangs on what comes out of the loop (`calls.rs`).
 
 use crate::literals::regrouped;
 use proc_macro::{Delimiter, Group, TokenStream, TokenTree};
@@ -16,8 +19,8 @@ enum Loop {
     While,
 }
 
-/// `road` is that of a `for` without `continue`.
-pub fn hooked(road: &str, stream: TokenStream) -> TokenStream {
+/// `road` is that of a `for` without `continue`; nothing in cel.
+pub fn hooked(road: Option<&str>, stream: TokenStream) -> TokenStream {
     let mut out = TokenStream::new();
     // The loop whose head has been read and whose body, the next brace, has not.
     let mut head = None;
@@ -41,14 +44,15 @@ pub fn hooked(road: &str, stream: TokenStream) -> TokenStream {
     out
 }
 
-fn hooked_group(road: &str, head: &mut Option<Loop>, group: &Group) -> TokenTree {
+fn hooked_group(road: Option<&str>, head: &mut Option<Loop>, group: &Group) -> TokenTree {
     let inner = hooked(road, group.stream());
     let kind = if group.delimiter() == Delimiter::Brace { head.take() } else { None };
-    let body = match kind {
-        None => inner,
-        Some(Loop::While) => headed("agm.pass();", inner),
-        Some(Loop::For) if continues(&inner) => headed(&took("Agm"), before_continue(inner)),
-        Some(Loop::For) => headed(&format!("crate::hooks::pass(); {}", took(road)), inner),
+    let body = match (kind, road) {
+        (None, _) => inner,
+        (Some(Loop::While), _) => headed("agm.pass();", inner),
+        (Some(Loop::For), None) => headed("crate::hooks::pass();", inner),
+        (Some(Loop::For), _) if continues(&inner) => headed(&took("Agm"), before_continue(inner)),
+        (Some(Loop::For), Some(road)) => headed(&format!("crate::hooks::pass(); {}", took(road)), inner),
     };
     regrouped(group, body)
 }

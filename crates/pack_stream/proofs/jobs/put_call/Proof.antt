@@ -8,7 +8,7 @@ use borrow.Author.Tests.{ne-eqb, le-ltb}
 use lib.ListN.{length}
 use Rattle.calls.specs.Calls.{numberOf}
 use Rattle.calls.specs.declared.Call.{Call}
-use Rattle.calls.specs.declared.Call.the-variants.{Rc, Rf, Rd, Rg, Rj}
+use Rattle.calls.specs.declared.Call.the-variants.{Rc, Rf, Rd, Rg, Rj, Cel}
 use Rattle.packed.specs.Jobs.{arityOf, jobBytes, jobLength}
 use Rattle.packed.specs.Writing.{leftAfter, writeAt, bytesAfter}
 use Rattle.packed.specs.LengthLaws.{job-length-bounds}
@@ -27,6 +27,7 @@ known (Rf x y z) e = omega arith
 known (Rd x y z) e = omega arith
 known (Rg x y z) e = omega arith
 known (Rj x y z p) e = omega arith
+known (Cel kc p a b) e = omega arith
 
 fits : (l at : ℕ) (c : Call) → at + jobRoom ≤ l → writeAt l at (jobOf c) ≡ Next (at + jobLength (jobOf c))
 unfolding writeAt leftAfter

@@ -14,15 +14,18 @@ arity-spec =
     (λ c. rw (c .if3 .taken))
     (λ c. rw (c .if4 .taken))
     (λ c. rw (c .if5 .taken))
+    (λ c. rw (c .if6 .taken))
     (λ c.
     let d = c .before in
     let e = d .before in
     let f = e .before in
     let g = f .before in
+    let h = g .before in
     rw (
-      ne-eqb _ 1 (g .if1 .left),
-      ne-eqb _ 2 (f .if2 .left),
-      ne-eqb _ 3 (e .if3 .left),
-      ne-eqb _ 4 (d .if4 .left),
-      ne-eqb _ 5 (c .if5 .left),
+      ne-eqb _ 1 (h .if1 .left),
+      ne-eqb _ 2 (g .if2 .left),
+      ne-eqb _ 3 (f .if3 .left),
+      ne-eqb _ 4 (e .if4 .left),
+      ne-eqb _ 5 (d .if5 .left),
+      ne-eqb _ 6 (c .if6 .left),
     )))

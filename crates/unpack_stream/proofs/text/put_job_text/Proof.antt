@@ -12,7 +12,7 @@ use Rattle.packed.specs.Jobs.{arityOf, argumentOf}
 use Rattle.packed.specs.declared.jobs.Job.{Job}
 use Rattle.writing.specs.Written.{put-more, put-length, put-byte}
 use Rattle.unpack_stream.specs.Text.{argumentText, jobText}
-use Rattle.unpack_stream.proofs.Lines.{argument-most}
+use Rattle.unpack_stream.proofs.Lines.{argument-most, name-most}
 use Rattle.unpack_stream.proofs.text.put_job_text.Statement.{statement}
 use Rattle.unpack_stream.proofs.text.put_job_text.Tie as tie
 
@@ -21,7 +21,13 @@ put-argument-requires : tie.Need-put-argument-requires
 put-argument-requires c κs =
     let p = c .before .before .before in
     let s = p .before .before .before in
-    omega (arith, s .pre, p .put-name .ensures .place, put-length (p .put-name .ensures))
+    omega (
+      arith,
+      s .pre,
+      p .put-name .ensures .place,
+      put-length (p .put-name .ensures),
+      name-most (s .args .job .function),
+    )
 
 put-argument-requires-2 : tie.Need-put-argument-requires-2
 put-argument-requires-2 c κs =
@@ -36,6 +42,7 @@ put-argument-requires-2 c κs =
       put-length (p .put-name .ensures),
       q .put-argument .ensures .place,
       put-length (q .put-argument .ensures),
+      name-most (j .function),
       argument-most j 0,
     )
 
@@ -55,6 +62,7 @@ put-argument-requires-3 c κs =
       put-length (q .put-argument .ensures),
       r .put-argument2 .ensures .place,
       put-length (r .put-argument2 .ensures),
+      name-most (j .function),
       argument-most j 0,
       argument-most j 1,
     )
@@ -78,6 +86,7 @@ put-argument-requires-4 c κs =
       put-length (r .put-argument2 .ensures),
       u .put-argument3 .ensures .place,
       put-length (u .put-argument3 .ensures),
+      name-most (j .function),
       argument-most j 0,
       argument-most j 1,
       argument-most j 2,
@@ -107,6 +116,7 @@ room c =
       put-length (u .put-argument3 .ensures),
       v .put-argument4 .ensures .place,
       put-length (v .put-argument4 .ensures),
+      name-most (j .function),
       argument-most j 0,
       argument-most j 1,
       argument-most j 2,
