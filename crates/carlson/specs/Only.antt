@@ -55,10 +55,13 @@ pub longer : {P : Found → Type 0} {a : Answer} (ns ms : List ℕ) → T (part 
 longer ns ms p (value v) = value v
 longer ns ms p (refused {n} h) = refused (among-part n ns ms p h)
 
--- whichever is chosen
+-- whichever is chosen, with what the test said
+pub asked : {A : Type 0} (Q : A → Type 0) (b : Bool) {u v : A} → (b ≡ true → Q u) → (b ≡ false → Q v) → Q (cond b u v)
+asked Q true p q = p refl
+asked Q false p q = q refl
+
 pub chosen : {A : Type 0} (Q : A → Type 0) (b : Bool) {u v : A} → Q u → Q v → Q (cond b u v)
-chosen Q true p q = p
-chosen Q false p q = q
+chosen Q b p q = asked Q b (λ e. p) (λ e. q)
 
 -- side by side, by one test
 pub chosen-both : {A B : Type 0} (R : A → B → Type 0) (b : Bool) {u v : A} {u' v' : B} → R u u' → R v v' → R (cond b u v) (cond b u' v')
