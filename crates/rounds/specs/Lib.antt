@@ -1,0 +1,5 @@
+pub mod Inside
+pub mod Sign
+pub mod Exact
+pub mod Runs
+pub mod Bounds
