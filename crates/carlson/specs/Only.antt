@@ -64,13 +64,14 @@ pub chosen : {A : Type 0} (Q : A → Type 0) (b : Bool) {u v : A} → Q u → Q 
 chosen Q b p q = asked Q b (λ e. p) (λ e. q)
 
 -- side by side, by one test
-pub chosen-both : {A B : Type 0} (R : A → B → Type 0) (b : Bool) {u v : A} {u' v' : B} → R u u' → R v v' → R (cond b u v) (cond b u' v')
+pub chosen-both : {A B : Type 0} (R : A → B → Type 0) (b : Bool) {u v : A} {u' v' : B} → R u u' → R v v'
+    → R (cond b u v) (cond b u' v')
 chosen-both R true p q = p
 chosen-both R false p q = q
 
 -- rescaled or not: P of what the steps give, Q of that and of what comes back
-pub rescaled2-to : {A : Type 0} (P Q : A → Type 0) (back : A → Float → A) (steps : Float → Float → A) → ((x y : Float) → P (steps x y))
-    → ((a : A) → P a → Q a) → ((a : A) (s : Float) → P a → Q (back a s)) → (x y : Float) → Q (rescaling2 back steps x y)
+pub rescaled2-to : {A : Type 0} (P Q : A → Type 0) (back : A → Float → A) (steps : Float → Float → A)
+    → ((x y : Float) → P (steps x y)) → ((a : A) → P a → Q a) → ((a : A) (s : Float) → P a → Q (back a s)) → (x y : Float) → Q (rescaling2 back steps x y)
 unfolding rescaling2
 rescaled2-to P Q back steps each plain kept x y =
     let s = scaleOf2 x y in

@@ -1,6 +1,6 @@
--- How many rounds and rescalings a way has (document 02, 2026-12), so that the sums of u32 in code are plain ones. Assumes nothing.
-use Prim.Native.Nat.{ℕ, zero, suc, _+_, _%_, _^_, _<_, _≤_}
-use mathlib.Core.Path.{_≡_, refl}
+-- How many rounds and rescalings a way has (document 02, 2026-12), so that the sums of u32 in code are plain. Assumes nothing.
+use Prim.Native.Nat.{ℕ, _+_, _%_, _^_, _<_, _≤_}
+use mathlib.Core.Path.{_≡_}
 use native.Mathlib.Omega.{arith}
 use lib.Ieee.{Float}
 use Rattle.carlson.specs.Answer.{wayOf, bothWays, wrappedWays, rescaledAt}

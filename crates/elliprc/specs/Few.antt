@@ -7,7 +7,6 @@ use Rattle.root.specs.Root.{root}
 use Rattle.carlson.specs.Answer.{bothWays, wrappedWays, closedAt}
 use Rattle.carlson.specs.Only.{rescaled2-to}
 use Rattle.carlson.specs.Ways.{Within, counted, wider, rescaled-within, within-ways}
-use Rattle.carlson.specs.declared.answer.Found.{Found}
 use Rattle.elliprc.specs.Rc.{rcFound, overRoot, rcUnchecked}
 
 pub rc-within : (x y : Float) → Within 0 1 (rcUnchecked x y .way)

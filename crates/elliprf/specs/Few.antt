@@ -1,5 +1,5 @@
--- RF begins at most its cap's rounds, and rescales at most once beside the RC that it calls (document 02, 2026-12). Assumes nothing.
-use Prim.Native.Nat.{ℕ}
+-- RF begins at most its cap's rounds, and rescales at most once beside the RC that it calls (document 02, 2026-12). Assumes
+-- nothing.
 use mathlib.Core.Bool.{false}
 use native.Mathlib.Omega.{arith}
 use lib.Ieee.{Float, eq}
@@ -23,8 +23,8 @@ Steps f = Within rfCap 1 (f .way)
 duplicated : (x y z : Float) → Steps (rfDuplication x y z)
 unfolding rfDuplication duplicationAt
 duplicated x y z =
-    capped-holds rfStep rfClose (rfFound x y (rfBegin x y z .an)) rfSpent Steps rfCap (λ s n h. counted n h) (λ s n h. counted n h)
-    rfCap false (rfBegin x y z) 0 (omega arith)
+    capped-holds rfStep rfClose (rfFound x y (rfBegin x y z .an)) rfSpent Steps rfCap (λ s n h. counted n h)
+    (λ s n h. counted n h) rfCap false (rfBegin x y z) 0 (omega arith)
 
 means : (x y : Float) → Steps (rfAgmOf x y)
 unfolding rfAgmOf agmAt

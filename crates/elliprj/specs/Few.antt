@@ -1,7 +1,7 @@
 -- RJ begins at most one loop of its own and an RF a reduction (document 02, 2026-12), so that the code's sums are plain. Assumes
 -- nothing.
 use Prim.Native.Nat.{ℕ, zero, suc, _+_, _*_, _≤_}
-use mathlib.Core.Path.{_≡_, refl}
+use mathlib.Core.Path.{_≡_}
 use native.Mathlib.Omega.{arith}
 use lib.Ieee.{Float}
 use Rattle.carlson.specs.Answer.{taylorAt}
@@ -63,4 +63,5 @@ run-few left x y z p = run left (planOf x y z p) (planned x y z p)
 pub run-plain : (left : ℕ) → left ≤ 4 → (r : Reduced) (x y z p : Float)
     → wrappedAnswer r (rjRun left (planOf x y z p)) ≡ reducedAnswer r (rjRun left (planOf x y z p))
 run-plain left h r x y z p =
-    carried-plain (runMost left) (runScaled left) (omega arith) (omega arith) r (rjRun left (planOf x y z p)) (run-few left x y z p)
+    carried-plain (runMost left) (runScaled left) (omega arith) (omega arith) r (rjRun left (planOf x y z p))
+    (run-few left x y z p)

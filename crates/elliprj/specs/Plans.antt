@@ -1,5 +1,4 @@
--- What holds of whatever a plan can be, and of whatever a run can give: for any property. Assumes nothing.
-use Prim.Native.Nat.{ℕ, zero, suc}
+-- What holds of whatever a plan can be, for any property. Assumes nothing.
 use mathlib.Core.Path.{_≡_, sym, _∙_}
 use mathlib.Core.Bool.{true, false, true≢false}
 use lib.Ieee.{Float, neg, le}
@@ -34,9 +33,9 @@ dividedOf x y z p = let s = scaleOf4 x y z p in record { x = x ⊘ s; y = y ⊘ 
 
 -- p at most zero: the expansion, a rescaling or the reduction. Else RJ for p above zero, or a rescaling.
 module _ (A : Answer → Type 0) (C : Rescaled → Type 0) (R : Reduced → Type 0) (p : Float)
-  (near : le p plus-zero ≡ true → (v : Float) → A (Value (taylorAt v)))
-  (scaled : (x y z : Float) → rescales4 x y z p (scaleOf4 x y z p) ≡ true → C (dividedOf x y z p))
-  (reduced : le p plus-zero ≡ true → (x y z : Float) → R (reduceOf x y z (neg p))) where
+    (near : le p plus-zero ≡ true → (v : Float) → A (Value (taylorAt v)))
+    (scaled : (x y z : Float) → rescales4 x y z p (scaleOf4 x y z p) ≡ true → C (dividedOf x y z p))
+    (reduced : le p plus-zero ≡ true → (x y z : Float) → R (reduceOf x y z (neg p))) where
   scaled-holds : (x y z : Float) → (le p plus-zero ≡ false → A (rjPositive x y z p)) → Plans A C R (planScaled x y z p)
   unfolding planScaled planUnscaled
   scaled-holds x y z positive =

@@ -38,7 +38,7 @@ const WRONG_SIGN: u32 = 21;
 // Document 01, Rounds: at most four calls deep, the first included.
 const ALLOWANCE: u32 = 4;
 
-// A call with so many left, itself included. The allowance falls with each call of itself; it is four at most, so that no count wraps.
+// A call with so many left, itself included. The allowance falls with each call of itself; at four at most no count wraps.
 fn call(x: f64, y: f64, z: f64, p: f64, left: u32) -> Answer
     requires { ⌜ left ≤ 4 ⌝ }
     ensures { λ r. ⌜ r ≡ rjRun left (planOf x y z p) ⌝ }

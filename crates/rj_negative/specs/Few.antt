@@ -1,12 +1,11 @@
--- A reduction adds the rounds of one RF and three rescalings at most (document 02, 2026-12), so that the code's sums are plain. Assumes
--- nothing.
+-- A reduction adds the rounds of one RF and three rescalings at most (document 02, 2026-12), so that the code's sums are plain.
+-- Assumes nothing.
 use Prim.Native.Nat.{ℕ, _+_, _^_, _<_}
 use mathlib.Core.Path.{_≡_, refl, ap, _∙_}
 use native.Mathlib.Omega.{arith}
 use Rattle.carlson.specs.Answer.{bothWays, wrappedWays, reductionAt}
 use Rattle.carlson.specs.Ways.{Within, Few, wider, both-within, within-ways}
 use Rattle.carlson.specs.declared.answer.Way.{Way}
-use Rattle.carlson.specs.declared.answer.Found.{Found}
 use Rattle.carlson.specs.declared.answer.Answer.{Answer}
 use Rattle.carlson.specs.declared.answer.Answer.the-variants.{Value, Refused}
 use Rattle.elliprc.specs.Few.{rc-within}

@@ -55,7 +55,7 @@ fn together(r: Reduced, rj: Found, rf: Found, rc: Found) -> Found
     reduction(value_of(r, rj.value, rf.value, rc.value), way)
 }
 
-// What the inner call answered, carried back. The contract is that of any inner answer, whose counts might wrap; a call's are few.
+// What the inner call answered, carried back. The contract is that of any inner answer, whose counts might wrap; RJ's are few.
 pub fn carried(r: Reduced, inner: Answer) -> Answer
     ensures { λ a. ⌜ a ≡ wrappedAnswer r inner ⌝ }
 {

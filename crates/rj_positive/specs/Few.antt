@@ -1,6 +1,7 @@
--- RJ for p above zero begins at most its cap's rounds, and so often at most RC is rescaled in them (document 02, 2026-12). Assumes
--- nothing.
-use Prim.Native.Nat.{ℕ, zero, suc, _+_, _≤_}
+-- RJ for p above zero begins at most its cap's rounds, and so often at most RC is rescaled in them (document 02, 2026-12).
+-- Assumes nothing.
+use Prim.Native.Nat.{ℕ, suc, _+_, _≤_}
+use mathlib.Core.Path.{_≡_}
 use mathlib.Core.Bool.{false}
 use native.Mathlib.Omega.{arith}
 use lib.Ieee.{Float, neg, lt, le, eq}
@@ -8,13 +9,12 @@ use Rattle.binary64.specs.Leaves.{absolute, maximum}
 use Rattle.root.specs.Root.{root}
 use Rattle.carlson.specs.Constants.{one, half}
 use Rattle.carlson.specs.Constants.{zero as +0}
-use Rattle.carlson.specs.Answer.{bothWays, closedAt, carriedAt, duplicationOver}
+use Rattle.carlson.specs.Answer.{closedAt, carriedAt, duplicationOver}
 use Rattle.carlson.specs.Loop.{capped-keeps}
 use Rattle.carlson.specs.Only.{chosen}
 use Rattle.carlson.specs.Ways.{Within, Few, counted, wider, few-wider, both-within}
 use Rattle.carlson.specs.declared.answer.Found.{Found}
 use Rattle.carlson.specs.declared.answer.Answer.{Answer}
-use Rattle.carlson.specs.declared.answer.Answer.the-variants.{Value}
 use Rattle.elliprc.specs.Few.{rc-within}
 use Rattle.elliprd.specs.Rd.{rdUnchecked}
 use Rattle.elliprd.specs.Few.{rd-few}
@@ -64,6 +64,12 @@ passed s n h =
     let r : Roots = record { x = root (s .xn); y = root (s .yn); z = root (s .zn); p = root (s .pn) } in
     let dn = rjDenominator r in
     omega (arith, term-few (s .pn) r dn (rjRatio s r dn) .scaled)
+
+-- and the modulus with which it is counted never acts
+pub passed-plain : (s : Round) (n : ℕ) → s .rescalings ≤ n → n ≤ rjCap → (pn : Float) (r : Roots) (dn en : Float)
+    → rjRescalings s (rjTerm pn r dn en) ≡ s .rescalings + rjTerm pn r dn en .way .rescalings
+unfolding rjRescalings
+passed-plain s n h g pn r dn en = omega (arith, term-few pn r dn en .scaled)
 
 pub rj-duplicated : (x y z p : Float) → Within rjCap 100 (rjDuplication x y z p .way)
 unfolding rjDuplication duplicationOver rjBegin

@@ -1,6 +1,6 @@
--- HOW MUCH WORK A CALL CAN BE (document 02, 2026-12): the rounds of every answer, and the passes begun inside also where a call ends in
--- a refusal, which carries no count. Assumes nothing.
-use Prim.Native.Nat.{ℕ, _+_, _-_, _≤_}
+-- HOW MUCH WORK A CALL CAN BE (document 02, 2026-12): the rounds of every answer, and the passes begun inside also where a call
+-- ends in a refusal, which carries no count. Assumes nothing.
+use Prim.Native.Nat.{ℕ, _-_, _≤_}
 use mathlib.Core.Path.{_≡_, refl, sym}
 use mathlib.Core.Bool.{Bool, true, false, _&&_, _||_, cond}
 use native.Mathlib.Omega.{arith}
@@ -150,7 +150,8 @@ rf-begun {m} h x y z =
     (chosen-both (Begun m) (zerosOf3 x y z) unbegun
     (chosen-both (Begun m) (anyInfinite3 x y z) unbegun-zero (plainly f h (of-found f (rf-within x y z .begun)) _))))
 
-rd-settled : {m k : ℕ} → k ≤ m → (a : Answer) (n : ℕ) (nan unbounded : Bool) → Exactly k a n → Begun m (rdSettled a nan unbounded) n
+rd-settled : {m k : ℕ} → k ≤ m → (a : Answer) (n : ℕ) (nan unbounded : Bool) → Exactly k a n
+    → Begun m (rdSettled a nan unbounded) n
 unfolding rdSettled
 rd-settled h (Value f) n nan unbounded i = late f h i nan unbounded _
 rd-settled h (Refused r) n nan unbounded i = record { most = omega (arith, i .most); counts = refused }
@@ -217,8 +218,8 @@ above-zero h wrong x y z p k =
 rj-begun : (x y z p : Float) → Begun (cond (lt p +0) below-most above-most) (rj x y z p) (rjBegun x y z p)
 unfolding rj rjBegun
 rj-begun x y z p =
-    asked (λ m. Begun m (rjSigned false x y z p) (rjSignedBegun false x y z p)) (lt p +0) (λ h. any-sign (omega arith) false x y z p)
-    (λ h. above-zero (omega arith) false x y z p (λ f. h))
+    asked (λ m. Begun m (rjSigned false x y z p) (rjSignedBegun false x y z p)) (lt p +0)
+    (λ h. any-sign (omega arith) false x y z p) (λ h. above-zero (omega arith) false x y z p (λ f. h))
 
 -- of each entry alone
 pub rj-positive-begun : (x y z p : Float) → Begun above-most (rjOfPositive x y z p) (rjSignedBegun (lt p +0) x y z p)

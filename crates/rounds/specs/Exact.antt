@@ -1,15 +1,14 @@
 -- The counts of Inside are those of the answers that they mirror: RD and RG. Assumes nothing.
 use Prim.Native.Nat.{ℕ, _≤_}
 use mathlib.Core.Path.{_≡_, refl}
-use mathlib.Core.Bool.{false}
 use native.Mathlib.Omega.{arith}
 use lib.Ieee.{Float, le, eq}
 use Rattle.binary64.specs.Operators.{_⊗_, bits}
 use Rattle.root.specs.Root.{root}
 use Rattle.carlson.specs.Constants.{zero as +0}
 use Rattle.carlson.specs.Common.{meanCap}
-use Rattle.carlson.specs.Answer.{closedAt, carriedAt, agmAt, jointAt, rescaledAt}
-use Rattle.carlson.specs.Loop.{capped-count, capped-both}
+use Rattle.carlson.specs.Answer.{closedAt, carriedAt, agmAt, rescaledAt}
+use Rattle.carlson.specs.Loop.{capped-both}
 use Rattle.carlson.specs.Only.{chosen, chosen-both, rescaled3-both}
 use Rattle.carlson.specs.Ways.{Within}
 use Rattle.carlson.specs.declared.answer.Found.{Found}
@@ -17,14 +16,13 @@ use Rattle.carlson.specs.declared.answer.Answer.{Answer}
 use Rattle.carlson.specs.declared.answer.Answer.the-variants.{Value, Refused}
 use Rattle.sorting.specs.Sorting.{largestFirst}
 use Rattle.elliprc.specs.Few.{rc-within}
-use Rattle.elliprf.specs.Duplicate.{meanOf}
 use Rattle.elliprd.specs.Means.{sumsOf, rdTogether, rdAgmFound, rdAgmSpent, rdAgmStart, rdAgmOf}
-use Rattle.elliprd.specs.Duplicate.{rdMean, rdCap, rdDuplication}
+use Rattle.elliprd.specs.Duplicate.{rdCap, rdDuplication}
 use Rattle.elliprd.specs.Rd.{rdEqual, rdZero, rdGeneral, rdOrdered, rdSteps, overScale, rdUnchecked}
 use Rattle.elliprd.specs.Few.{rd-duplicated}
 use Rattle.rg_means.specs.Means.{rgBegin, rgNext, rgTogether, rgAgmFound, rgAgmSpent, rgAgmOf}
-use Rattle.rg_joint.specs.declared.joint.RfRd.{RfRd}
-use Rattle.rg_joint.specs.Joint.{jointNext, jointBegun, allDone, rfRdOf, jointCap, jointOf, rgJoint}
+use Rattle.rg_joint.specs.Joint.{jointCap, rgJoint}
+use Rattle.rg_joint.specs.Few.{joint-within}
 use Rattle.elliprg.specs.Rg.{rgEqual, rgZero, rgTwo, rgAlone, rgTop, rgLow, rgSorted, rgSteps, timesRoot, rgUnchecked}
 use Rattle.rounds.specs.Inside.{
   roundsIn,
@@ -113,12 +111,6 @@ rg-means x z =
     capped-both rgNext rgTogether rgAgmFound rgAgmSpent made made (Exactly jointCap) meanCap
     (λ t n h. agm-found h (omega arith) _) (λ t n h. agm-refused h (omega arith) _) meanCap (rgTogether s) s 0 (omega arith)
 
-joint : (x y z : Float) → Exactly jointCap (Value (rgJoint x y z)) (roundsIn (rgJoint x y z))
-unfolding rgJoint jointAt jointOf rfRdOf
-joint x y z = found (rgJoint x y z)
-    (capped-count (jointNext x y (meanOf x y z) (rdMean x y z)) allDone rfRdOf rfRdOf (λ (r : RfRd). r .rounds) jointCap
-    (λ s n. refl) (λ s n. refl) false (jointBegun x y z))
-
 -- the closed forms begin none
 abbrev None : Answer → Type 0
 None a = Exactly jointCap a 0
@@ -141,7 +133,8 @@ unfolding rgSorted rgSortedInside
 rg-sorted x y z =
     let R = Exactly jointCap in
     chosen-both R (eq x z) (rg-top x y z)
-    (chosen-both R (eq y z) (rg-low x y) (chosen-both R (eq y +0) (rg-means x z) (joint x y z)))
+    (chosen-both R (eq y z) (rg-low x y)
+    (chosen-both R (eq y +0) (rg-means x z) (found (rgJoint x y z) (joint-within x y z .begun))))
 
 rg-steps : (x y z : Float) → Exactly jointCap (rgSteps x y z) (rgStepsInside x y z)
 unfolding rgSteps rgStepsInside

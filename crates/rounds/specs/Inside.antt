@@ -1,5 +1,5 @@
--- The passes that a call begins inside, whatever it then answers (document 02, 2026-12): the entries' roads with their counts alone.
--- Definitions only.
+-- The passes that a call begins inside, whatever it then answers (document 02, 2026-12): the entries' roads with their counts
+-- alone. Definitions only.
 use Prim.Native.Nat.{ℕ, zero, suc, _+_}
 use mathlib.Core.Bool.{Bool, false, _&&_, _||_, cond}
 use lib.Ieee.{Float, lt, le, eq}

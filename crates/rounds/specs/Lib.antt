@@ -3,3 +3,4 @@ pub mod Sign
 pub mod Exact
 pub mod Runs
 pub mod Bounds
+pub mod Rescalings

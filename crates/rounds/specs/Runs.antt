@@ -1,5 +1,5 @@
 -- The counts of Inside are those of the answers that they mirror: RJ. Assumes nothing.
-use Prim.Native.Nat.{ℕ, zero, suc, _+_, _≤_}
+use Prim.Native.Nat.{ℕ, zero, suc, _+_}
 use mathlib.Core.Path.{_≡_, refl, sym, _∙_}
 use mathlib.Core.Bool.{true, false, true≢false}
 use native.Mathlib.Omega.{arith}
@@ -14,7 +14,6 @@ use Rattle.carlson.specs.declared.answer.Answer.{Answer}
 use Rattle.carlson.specs.declared.answer.Answer.the-variants.{Value, Refused}
 use Rattle.elliprc.specs.Few.{rc-within}
 use Rattle.elliprf.specs.Duplicate.{rfCap}
-use Rattle.elliprf.specs.Rf.{rfUnchecked}
 use Rattle.elliprf.specs.Few.{rf-within}
 use Rattle.elliprd.specs.Rd.{overScale, rdUnchecked}
 use Rattle.rj_positive.specs.Duplicate.{rjCap, rjDuplication}
@@ -30,7 +29,6 @@ use Rattle.elliprj.specs.Rj.{planOf, rjRun}
 use Rattle.elliprj.specs.Plans.{Plans, plan-holds}
 use Rattle.elliprj.specs.Few.{runMost}
 use Rattle.rounds.specs.Inside.{
-  roundsIn,
   rdInside,
   rjLastInside,
   rjPairInside,
@@ -112,7 +110,8 @@ above x y z p k =
     (λ x y z r. still-above x y z p (scaleOf4 x y z p) k r) (λ h x y z. absurd (true≢false (sym h ∙ k))) x y z (own x y z p)
 
 -- ---- the runs: a reduction adds an RF
-reduced : (m : ℕ) (r : Reduced) (a : Answer) (n : ℕ) → Exactly m a n → Exactly (m + rfCap) (reducedAnswer r a) (reducedInside r a n)
+reduced : (m : ℕ) (r : Reduced) (a : Answer) (n : ℕ) → Exactly m a n
+    → Exactly (m + rfCap) (reducedAnswer r a) (reducedInside r a n)
 unfolding reducedAnswer reducedFound reductionAt bothWays reducedInside
 reduced m r (Value f) n i = record {
   most = omega (arith, i .most, rf-within (r .x) (r .y) (r .z) .begun);

@@ -1,12 +1,13 @@
 -- RJ with p above zero stays so when it is rescaled. Assumes nothing.
 use Prim.Native.Nat.{ℕ, zero, suc, _+_, _-_, _*_, _/_, _%_, _^_, compare}
-use mathlib.Core.Path.{_≡_, refl, sym, ap, _∙_}
+use mathlib.Core.Path.{_≡_, refl, sym, _∙_}
 use mathlib.Core.Bool.{Bool, true, false, _&&_, _||_, not, true≢false}
 use native.Mathlib.Omega.{arith}
 use borrow.Author.Tests.{le-ltb}
 use lib.Dec.{ltb, eqb}
 use lib.IntN.{ℤ, pos}
-use lib.Ieee.{Float, nan, inf, fin, binary64, ofBits, isNan, up, down, low, emax, prec, size, nearest, odd, units, round, div, lt, le, eq, ne}
+use lib.Ieee.{Float, nan, inf, fin, binary64, ofBits, isNan, up, down, low, emax, prec, size, nearest, odd, units, round, div}
+use lib.Ieee.{lt, le, eq, ne}
 use lib.Ieee.Scale.{finite}
 use Rattle.binary64.specs.Operators.{_⊘_}
 use Rattle.carlson.specs.Constants.{zero as +0}
