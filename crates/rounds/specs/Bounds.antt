@@ -28,24 +28,10 @@ use Rattle.elliprg.specs.Rg.{rgUnchecked, rgSettled, rg}
 use Rattle.rj_positive.specs.Duplicate.{rjCap}
 use Rattle.elliprj.specs.Few.{runMost}
 use Rattle.elliprj.specs.Rj.{planOf, rjUnchecked, rjSettled, rjRest, rjSigned, rj, rjOfPositive, rjOfNegative}
-use Rattle.cel.specs.Cel.{
-  celNext,
-  celNear,
-  celFound,
-  celSpent,
-  celCap,
-  celFrom,
-  celPass,
-  celBegin,
-  celSteps,
-  celUnsettled,
-  celSettled,
-  severalUnbounded,
-  eitherUnbounded,
-  cel,
-}
+use Rattle.cel.specs.Passes.{celNext, celNear, celFound, celSpent, celCap, celFrom, celPass, celBegin, celSteps}
+use Rattle.cel.specs.Cel.{celUnsettled, celSettled, severalUnbounded, eitherUnbounded, cel}
 use Rattle.calls.specs.declared.Call.{Call}
-use Rattle.calls.specs.declared.Call.the-variants.{Rc, Rf, Rd, Rg, Rj}
+use Rattle.calls.specs.declared.Call.the-variants.{Rc, Rf, Rd, Rg, Rj, Cel}
 use Rattle.answers.specs.Answers.{number, answerOf}
 use Rattle.rounds.specs.Inside.{
   roundsIn,
@@ -76,6 +62,10 @@ above-most = 100
 abbrev pub below-most : ℕ
 below-most = 133
 
+-- "cel's count is at most 30"
+abbrev pub celMost : ℕ
+celMost = 30
+
 -- "the count is at most 0 for RC, 11 for RF, 50 for RD and RG, 100 for RJ with p above zero and 133 with p below"
 abbrev pub mostOf : Call → ℕ
 mostOf (Rc x y) = 0
@@ -83,10 +73,7 @@ mostOf (Rf x y z) = 11
 mostOf (Rd x y z) = 50
 mostOf (Rg x y z) = 50
 mostOf (Rj x y z p) = cond (lt (number p) +0) below-most above-most
-
--- "cel's count is at most 30"
-abbrev pub celMost : ℕ
-celMost = 30
+mostOf (Cel kc p a b) = celMost
 
 -- n is what the answer counts; the zero for an infinite argument counts none (document 02, 2026-04), whatever was begun
 pub data Counted (n : ℕ) : Answer → Type 0 where
@@ -259,6 +246,7 @@ begun (Rf x y z) = rf-begun (omega arith) (number x) (number y) (number z)
 begun (Rd x y z) = rd-begun (omega arith) (number x) (number y) (number z)
 begun (Rg x y z) = rg-begun (omega arith) (number x) (number y) (number z)
 begun (Rj x y z p) = rj-begun (number x) (number y) (number z) (number p)
+begun (Cel kc p a b) = cel-begun (number kc) (number p) (number a) (number b)
 
 -- whether it ends in a value or in a refusal
 pub begun-bound : (c : Call) → begunOf c ≤ mostOf c
@@ -287,9 +275,6 @@ rounds-begun c = counted-most (answerOf c) (begun c)
 -- THE BOUND of every answer
 pub rounds-bound : (c : Call) → roundsOf (answerOf c) ≤ mostOf c
 rounds-bound c = omega (arith, rounds-begun c, begun-bound c)
-
-pub cel-bound : (kc p a b : Float) → roundsOf (cel kc p a b) ≤ celMost
-cel-bound kc p a b = omega (arith, counted-most (cel kc p a b) (cel-begun kc p a b), cel-begun kc p a b .most)
 
 -- "100 for RJ with p above zero and 133 with p below": of RJ's two entries
 pub rj-positive-bound : (x y z p : Float) → roundsOf (rjOfPositive x y z p) ≤ above-most

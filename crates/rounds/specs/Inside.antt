@@ -26,9 +26,9 @@ use Rattle.rj_negative.specs.declared.reduction.Reduced.{Reduced}
 use Rattle.elliprj.specs.declared.plan.Plan.{Plan}
 use Rattle.elliprj.specs.declared.plan.Plan.the-variants.{Done, Rescale, Reduce}
 use Rattle.elliprj.specs.Rj.{planOf, rjRun}
-use Rattle.cel.specs.Cel.{celSteps}
+use Rattle.cel.specs.Passes.{celSteps}
 use Rattle.calls.specs.declared.Call.{Call}
-use Rattle.calls.specs.declared.Call.the-variants.{Rc, Rf, Rd, Rg, Rj}
+use Rattle.calls.specs.declared.Call.the-variants.{Rc, Rf, Rd, Rg, Rj, Cel}
 use Rattle.answers.specs.Answers.{number}
 
 -- what a loop found has its count, also where that is NaN with the cap spent
@@ -147,3 +147,4 @@ begunOf (Rf x y z) = rfBegun (number x) (number y) (number z)
 begunOf (Rd x y z) = rdBegun (number x) (number y) (number z)
 begunOf (Rg x y z) = rgBegun (number x) (number y) (number z)
 begunOf (Rj x y z p) = rjBegun (number x) (number y) (number z) (number p)
+begunOf (Cel kc p a b) = celBegun (number kc) (number p) (number a) (number b)

@@ -1,14 +1,15 @@
 -- No answer's rescalings come near 2 ^ 32: the modulus with which the definitions count them, as u32 do, never acts (carlson's
 -- `rescaled-plain`). Assumes nothing.
-use Prim.Native.Nat.{ℕ, _≤_}
-use mathlib.Core.Bool.{Bool, false, _&&_}
+use Prim.Native.Nat.{ℕ, _+_, _-_, _≤_}
+use mathlib.Core.Bool.{Bool, false, _&&_, _||_}
 use native.Mathlib.Omega.{arith}
 use lib.Ieee.{Float, lt, le, eq}
 use lib.Ieee.Scale.{finite}
 use Rattle.binary64.specs.Leaves.{minimum}
 use Rattle.carlson.specs.Constants.{zero as +0}
 use Rattle.carlson.specs.Checks.{anyNan2, anyNan3, anyNan4, anyInfinite2, anyInfinite3, anyInfinite4, below3, zerosOf3}
-use Rattle.carlson.specs.Answer.{infiniteAt, settled, settledLate}
+use Rattle.carlson.specs.Answer.{infiniteAt, loopAt, settled, settledLate}
+use Rattle.carlson.specs.Loop.{capped-holds}
 use Rattle.carlson.specs.Only.{chosen}
 use Rattle.carlson.specs.Ways.{Within, Few, counted}
 use Rattle.carlson.specs.declared.answer.Found.{Found}
@@ -24,8 +25,10 @@ use Rattle.elliprg.specs.Rg.{rgUnchecked, rgSettled, rg}
 use Rattle.elliprg.specs.Few.{rg-few}
 use Rattle.elliprj.specs.Few.{run-few}
 use Rattle.elliprj.specs.Rj.{rjUnchecked, rjSettled, rjRest, rjSigned, rj}
+use Rattle.cel.specs.Passes.{celNext, celNear, celFound, celSpent, celCap, celFrom, celPass, celBegin, celSteps}
+use Rattle.cel.specs.Cel.{celUnsettled, celSettled, severalUnbounded, eitherUnbounded, cel}
 use Rattle.calls.specs.declared.Call.{Call}
-use Rattle.calls.specs.declared.Call.the-variants.{Rc, Rf, Rd, Rg, Rj}
+use Rattle.calls.specs.declared.Call.the-variants.{Rc, Rf, Rd, Rg, Rj, Cel}
 use Rattle.answers.specs.Answers.{number, answerOf}
 
 -- ---- the statement
@@ -40,6 +43,7 @@ mostRescalings (Rf x y z) = 2
 mostRescalings (Rd x y z) = 1
 mostRescalings (Rg x y z) = 2
 mostRescalings (Rj x y z p) = 109
+mostRescalings (Cel kc p a b) = 0
 
 -- ---- how an entry settles it
 zero-few : (m k : ℕ) → Few m k infiniteAt
@@ -109,6 +113,24 @@ rj-entry x y z p =
     (chosen Q (zerosOf3 x y z) tt
     (chosen Q (anyInfinite4 x y z p) (zero-few 133 109) (rj-settled (rjUnchecked x y z p) (run-few 4 x y z p))))))
 
+-- cel does not rescale
+cel-steps : (kc p a b : Float) → Within 30 0 (celSteps kc p a b .way)
+unfolding celSteps celFrom loopAt
+cel-steps kc p a b =
+    let s = celPass (celBegin kc p a b) in
+    capped-holds celNext celNear celFound celSpent (λ f. Within 30 0 (f .way)) (celCap - 1) (λ t n h. counted (n + 1) (omega arith))
+    (λ t n h. counted (n + 1) (omega arith)) (celCap - 1) (celNear s) s 0 (omega arith)
+
+cel-entry : (kc p a b : Float) → Few 30 0 (cel kc p a b)
+unfolding cel celSettled celUnsettled
+cel-entry kc p a b =
+    let Q = Few 30 0 in
+    chosen Q (eq kc +0 || eq p +0) tt
+    (chosen Q (finite (celSteps kc p a b .value)) (cel-steps kc p a b)
+    (chosen Q (anyNan4 kc p a b) tt
+    (chosen Q (severalUnbounded kc p a b) tt
+    (chosen Q (eitherUnbounded kc p) (zero-few 30 0) (chosen Q (eitherUnbounded a b) tt tt)))))
+
 -- ---- THE LAW
 few-rescalings : (m k : ℕ) (a : Answer) → Few m k a → rescalingsOf a ≤ k
 few-rescalings m k (Value f) h = h .scaled
@@ -122,3 +144,5 @@ rescalings-bound (Rd x y z) = few-rescalings 50 1 (answerOf (Rd x y z)) (rd-entr
 rescalings-bound (Rg x y z) = few-rescalings 50 2 (answerOf (Rg x y z)) (rg-entry (number x) (number y) (number z))
 rescalings-bound (Rj x y z p) = few-rescalings 133 109 (answerOf (Rj x y z p))
     (rj-entry (number x) (number y) (number z) (number p))
+rescalings-bound (Cel kc p a b) = few-rescalings 30 0 (answerOf (Cel kc p a b))
+    (cel-entry (number kc) (number p) (number a) (number b))
