@@ -169,6 +169,10 @@ fn print(rows: &[Row], tallies: &[Tally]) {
     for (row, tally) in rows.iter().zip(tallies).filter(|(_, tally)| !tally.roads.is_empty()) {
         println!("{:<10}{}", row.name(), roads(tally));
     }
+    println!("\nThe most rounds of a value:");
+    for (row, tally) in rows.iter().zip(tallies).filter(|(_, tally)| !tally.roads.is_empty()) {
+        println!("{:<10}{}", row.name(), tally.rounds);
+    }
     println!("\nWhat RJ's calls have met:");
     for (row, tally) in rows.iter().zip(tallies).filter(|(_, tally)| !tally.aims.is_empty()) {
         let met: Vec<String> = tally.aims.iter().map(|(aim, times)| format!("{aim} {times}")).collect();

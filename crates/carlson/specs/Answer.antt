@@ -17,10 +17,13 @@ use Rattle.carlson.specs.declared.answer.Road.the-variants.{Closed, Infi
 abbrev pub wayOf : ℕ → Way
 wayOf n = record { rounds = n; rescalings = 0 }
 
--- ".. over the call and all it calls", and so "the number of rescalings" (document 02, 2026-04). Both are u32; with so few in a
--- call no sum of two reaches 2 ^ 32.
+-- ".. over the call and all it calls", and so "the number of rescalings" (document 02, 2026-04)
 unfoldable pub bothWays : Way → Way → Way
-bothWays a b = record {
+bothWays a b = record { rounds = a .rounds + b .rounds; rescalings = a .rescalings + b .rescalings }
+
+-- what adding two u32 that may wrap makes of it; of the ways of a call it is the plain sum (Ways, `few-ways`)
+unfoldable pub wrappedWays : Way → Way → Way
+wrappedWays a b = record {
   rounds = (a .rounds + b .rounds) % 2 ^ 32;
   rescalings = (a .rescalings + b .rescalings) % 2 ^ 32;
 }

@@ -31,15 +31,24 @@ module _ {S A : Type 0} (step : S → S) (stop : S → Bool) (found spent : S �
     pub few : n ≤ cap
     pub gives : capped (cap - n) b s n ≡ capped cap b₀ s₀ 0
 
-  -- ---- what holds of whatever a loop can be left with holds of what it gives: with at most `cap` passes made
+  -- ---- what holds of the first state and is kept by each pass holds of the state that the loop is left with: so a property of
+  -- that state, after at most `cap` passes, is one of what the loop gives
+  pub capped-keeps : (P : A → Type 0) (Q : S → ℕ → Type 0) (cap : ℕ) → ((s : S) (n : ℕ) → Q s n → Q (step s) (suc n))
+      → ((s : S) (n : ℕ) → n ≤ cap → Q s n → P (found s n)) → ((s : S) (n : ℕ) → n ≤ cap → Q s n → P (spent s n))
+      → (left : ℕ) (b : Bool) (s : S) (n : ℕ) → n + left ≤ cap → Q s n → P (capped left b s n)
+  unfolding capped
+  capped-keeps P Q cap k f g zero true s n h q = f s n (omega arith) q
+  capped-keeps P Q cap k f g zero false s n h q = g s n (omega arith) q
+  capped-keeps P Q cap k f g (suc left) true s n h q = f s n (omega arith) q
+  capped-keeps P Q cap k f g (suc left) false s n h q =
+      capped-keeps P Q cap k f g left (stop (step s)) (step s) (suc n) (omega arith) (k s n q)
+
+  -- what holds of whatever it can be left with needs no such property
   pub capped-holds : (P : A → Type 0) (cap : ℕ) → ((s : S) (n : ℕ) → n ≤ cap → P (found s n))
       → ((s : S) (n : ℕ) → n ≤ cap → P (spent s n))
       → (left : ℕ) (b : Bool) (s : S) (n : ℕ) → n + left ≤ cap → P (capped left b s n)
-  unfolding capped
-  capped-holds P cap f g zero true s n h = f s n (omega arith)
-  capped-holds P cap f g zero false s n h = g s n (omega arith)
-  capped-holds P cap f g (suc left) true s n h = f s n (omega arith)
-  capped-holds P cap f g (suc left) false s n h = capped-holds P cap f g left (stop (step s)) (step s) (suc n) (omega arith)
+  capped-holds P cap f g left b s n h =
+      capped-keeps P (λ s n. Unit {0}) cap (λ s n q. tt) (λ s n h q. f s n h) (λ s n h q. g s n h) left b s n h tt
 
   -- so the count is at most the cap, where the loop counts its passes
   pub capped-count : (count : A → ℕ) (cap : ℕ) → ((s : S) (n : ℕ) → count (found s n) ≡ n)
@@ -48,6 +57,18 @@ module _ {S A : Type 0} (step : S → S) (stop : S → Bool) (found spent : S �
   capped-count count cap f g b s =
       capped-holds (λ a. count a ≤ cap) cap (λ t n h. omega (arith, f t n)) (λ t n h. omega (arith, g t n)) cap b s 0
       (omega arith)
+
+-- ---- two loops with the same passes, left each in its own way, side by side
+module _ {S A B : Type 0} (step : S → S) (stop : S → Bool) (found spent : S → ℕ → A) (found' spent' : S → ℕ → B) where
+  pub capped-both : (R : A → B → Type 0) (cap : ℕ) → ((s : S) (n : ℕ) → n ≤ cap → R (found s n) (found' s n))
+      → ((s : S) (n : ℕ) → n ≤ cap → R (spent s n) (spent' s n))
+      → (left : ℕ) (b : Bool) (s : S) (n : ℕ) → n + left ≤ cap
+      → R (capped step stop found spent left b s n) (capped step stop found' spent' left b s n)
+  unfolding capped
+  capped-both R cap f g zero true s n h = f s n (omega arith)
+  capped-both R cap f g zero false s n h = g s n (omega arith)
+  capped-both R cap f g (suc left) true s n h = f s n (omega arith)
+  capped-both R cap f g (suc left) false s n h = capped-both R cap f g left (stop (step s)) (step s) (suc n) (omega arith)
 
 module _ {S A : Type 0} {step : S → S} {stop : S → Bool} {found spent : S → ℕ → A} {cap : ℕ} {b₀ : Bool} {s₀ : S} where
   -- it begins

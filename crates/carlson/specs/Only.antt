@@ -55,26 +55,59 @@ pub longer : {P : Found → Type 0} {a : Answer} (ns ms : List ℕ) → T (part 
 longer ns ms p (value v) = value v
 longer ns ms p (refused {n} h) = refused (among-part n ns ms p h)
 
--- whichever is chosen
-pub chosen : {A : Type 0} (Q : A → Type 0) (b : Bool) {u v : A} → Q u → Q v → Q (cond b u v)
-chosen Q true p q = p
-chosen Q false p q = q
+-- whichever is chosen, with what the test said
+pub asked : {A : Type 0} (Q : A → Type 0) (b : Bool) {u v : A} → (b ≡ true → Q u) → (b ≡ false → Q v) → Q (cond b u v)
+asked Q true p q = p refl
+asked Q false p q = q refl
 
--- rescaled or not
+pub chosen : {A : Type 0} (Q : A → Type 0) (b : Bool) {u v : A} → Q u → Q v → Q (cond b u v)
+chosen Q b p q = asked Q b (λ e. p) (λ e. q)
+
+-- side by side, by one test
+pub chosen-both : {A B : Type 0} (R : A → B → Type 0) (b : Bool) {u v : A} {u' v' : B} → R u u' → R v v'
+    → R (cond b u v) (cond b u' v')
+chosen-both R true p q = p
+chosen-both R false p q = q
+
+-- rescaled or not: P of what the steps give, Q of that and of what comes back
+pub rescaled2-to : {A : Type 0} (P Q : A → Type 0) (back : A → Float → A) (steps : Float → Float → A)
+    → ((x y : Float) → P (steps x y)) → ((a : A) → P a → Q a) → ((a : A) (s : Float) → P a → Q (back a s)) → (x y : Float) → Q (rescaling2 back steps x y)
+unfolding rescaling2
+rescaled2-to P Q back steps each plain kept x y =
+    let s = scaleOf2 x y in
+    chosen Q (rescales2 x y s) (kept (steps (x ⊘ s) (y ⊘ s)) s (each (x ⊘ s) (y ⊘ s))) (plain (steps x y) (each x y))
+
+pub rescaled3-to : {A : Type 0} (P Q : A → Type 0) (back : A → Float → A) (steps : Float → Float → Float → A)
+    → ((x y z : Float) → P (steps x y z))
+    → ((a : A) → P a → Q a) → ((a : A) (s : Float) → P a → Q (back a s)) → (x y z : Float) → Q (rescaling3 back steps x y z)
+unfolding rescaling3
+rescaled3-to P Q back steps each plain kept x y z =
+    let s = scaleOf3 x y z in
+    chosen Q (rescales3 x y z s) (kept (steps (x ⊘ s) (y ⊘ s) (z ⊘ s)) s (each (x ⊘ s) (y ⊘ s) (z ⊘ s)))
+    (plain (steps x y z) (each x y z))
+
+-- side by side
+pub rescaled3-both : {A B : Type 0} (R : A → B → Type 0) (back : A → Float → A) (back' : B → Float → B)
+    (steps : Float → Float → Float → A) (steps' : Float → Float → Float → B) → ((x y z : Float) → R (steps x y z) (steps' x y z))
+    → ((a : A) (b : B) (s : Float) → R a b → R (back a s) (back' b s))
+    → (x y z : Float) → R (rescaling3 back steps x y z) (rescaling3 back' steps' x y z)
+unfolding rescaling3
+rescaled3-both R back back' steps steps' each kept x y z =
+    let s = scaleOf3 x y z in
+    let a = x ⊘ s in
+    let b = y ⊘ s in
+    let c = z ⊘ s in
+    chosen-both R (rescales3 x y z s) (kept (steps a b c) (steps' a b c) s (each a b c)) (each x y z)
+
+-- what coming back keeps
 pub rescaled2 : {A : Type 0} (Q : A → Type 0) (back : A → Float → A) (steps : Float → Float → A) → ((x y : Float) → Q (steps x y))
     → ((a : A) (s : Float) → Q a → Q (back a s)) → (x y : Float) → Q (rescaling2 back steps x y)
-unfolding rescaling2
-rescaled2 Q back steps each kept x y =
-    let s = scaleOf2 x y in
-    chosen Q (rescales2 x y s) (kept (steps (x ⊘ s) (y ⊘ s)) s (each (x ⊘ s) (y ⊘ s))) (each x y)
+rescaled2 Q back steps each kept = rescaled2-to Q Q back steps each (λ a h. h) kept
 
 pub rescaled3 : {A : Type 0} (Q : A → Type 0) (back : A → Float → A) (steps : Float → Float → Float → A)
     → ((x y z : Float) → Q (steps x y z))
     → ((a : A) (s : Float) → Q a → Q (back a s)) → (x y z : Float) → Q (rescaling3 back steps x y z)
-unfolding rescaling3
-rescaled3 Q back steps each kept x y z =
-    let s = scaleOf3 x y z in
-    chosen Q (rescales3 x y z s) (kept (steps (x ⊘ s) (y ⊘ s) (z ⊘ s)) s (each (x ⊘ s) (y ⊘ s) (z ⊘ s))) (each x y z)
+rescaled3 Q back steps each kept = rescaled3-to Q Q back steps each (λ a h. h) kept
 
 -- settled: a value that is handed out is finite; else what stands in its place
 pub finite-or : {numbers : List ℕ} (f : Found) {a : Answer} → Only Finite numbers a

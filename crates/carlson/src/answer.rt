@@ -5,7 +5,7 @@ use binary64::is_finite;
 ghost use mathlib.Core.Path.{_≡_};
 ghost use lib.Ieee.{nan};
 ghost use Rattle.carlson.specs.Answer.{
-  bothWays,
+  wrappedWays,
   closedAt,
   carriedAt,
   infiniteAt,
@@ -69,9 +69,9 @@ pub enum Answer {
     Refused(u32),
 }
 
-// Two ways gone one after the other.
+// Two ways gone one after the other. A call's counts are so few that the sums never wrap (specs/Ways.antt, `few-ways`).
 pub fn both_ways(a: Way, b: Way) -> Way
-    ensures { λ r. ⌜ r ≡ bothWays a b ⌝ }
+    ensures { λ r. ⌜ r ≡ wrappedWays a b ⌝ }
 {
     Way {
         rounds: std::num::wrapping_add_u32(a.rounds, b.rounds),

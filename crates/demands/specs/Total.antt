@@ -6,7 +6,7 @@ use mathlib.Core.Bool.{Bool, false, _&&_, _||_}
 use mathlib.Core.List.{List, [], _∷_}
 use native.Mathlib.Omega.{arith}
 use lib.Dec.{eqb}
-use lib.Ieee.{Float, lt, le, eq, neg}
+use lib.Ieee.{Float, lt, le, eq}
 use Rattle.binary64.specs.Leaves.{minimum, maximum}
 use Rattle.binary64.specs.Operators.{_⊗_, bits}
 use Rattle.carlson.specs.Constants.{
@@ -23,13 +23,11 @@ use Rattle.carlson.specs.Constants.{
 }
 use Rattle.carlson.specs.Constants.{zero as +0}
 use Rattle.carlson.specs.Checks.{anyNan2, anyNan3, anyNan4, anyInfinite2, anyInfinite3, anyInfinite4, below3, zerosOf3}
-use Rattle.carlson.specs.Rescaling.{scaleOf4, rescales4}
 use Rattle.carlson.specs.Common.{meanCap}
 use Rattle.carlson.specs.Loop.{capped-holds}
 use Rattle.carlson.specs.Only.{among, Only, value, refused, Finite, Any, chosen, rescaled3, finite-or, settled-only, infinite-only, late-only, told-only, longer}
 use Rattle.carlson.specs.declared.answer.Answer.{Answer}
 use Rattle.carlson.specs.declared.answer.Answer.the-variants.{Value, Refused}
-use Rattle.sorting.specs.Sorting.{rising}
 use Rattle.elliprc.specs.Rc.{rcUnchecked, rc}
 use Rattle.elliprf.specs.Rf.{rfUnchecked, rf}
 use Rattle.elliprd.specs.Means.{sumsOf, rdTogether, rdAgmFound, rdAgmSpent, rdAgmStart, rdAgmOf}
@@ -38,14 +36,12 @@ use Rattle.root.specs.Root.{root}
 use Rattle.rg_means.specs.Means.{rgBegin, rgNext, rgTogether, rgAgmFound, rgAgmSpent, rgAgmOf}
 use Rattle.elliprg.specs.Rg.{rgEqual, rgZero, rgTwo, rgAlone, rgTop, rgLow, rgSorted, rgSteps, timesRoot, rgUnchecked, rgSettled, rg}
 use Rattle.rj_positive.specs.Positive.{wellApart, rjAll, rjThree, rjTwo, rjLast, rjPair, rjCases, rjPositive}
-use Rattle.rj_negative.specs.declared.nearzero.Near.{Near}
-use Rattle.rj_negative.specs.declared.nearzero.Near.the-variants.{Taylor, Far}
 use Rattle.rj_negative.specs.declared.reduction.Reduced.{Reduced}
-use Rattle.rj_negative.specs.NearZero.{nearZero}
 use Rattle.rj_negative.specs.Reduction.{reducedAnswer}
 use Rattle.elliprj.specs.declared.plan.Plan.{Plan}
 use Rattle.elliprj.specs.declared.plan.Plan.the-variants.{Done, Rescale, Reduce}
-use Rattle.elliprj.specs.Rj.{planUnscaled, planScaled, planNear, planOf, rjRun, rjUnchecked, rjSettled, rjRest, rj}
+use Rattle.elliprj.specs.Plans.{Plans, plan-holds}
+use Rattle.elliprj.specs.Rj.{planOf, rjRun, rjUnchecked, rjSettled, rjRest, rj}
 use Rattle.elliprj.specs.Rj.{wrong-sign, rjSigned, rjOfPositive, rjOfNegative}
 use Rattle.cel.specs.Passes.{celSteps}
 use Rattle.cel.specs.Cel.{several-infinite, a-or-b-infinite, eitherUnbounded, severalUnbounded, celUnsettled, celSettled, cel}
@@ -197,28 +193,12 @@ rj-positive x y z p =
 
 -- what a call is done with at once
 abbrev Planned : Plan → Type 0
-Planned (Done a) = Steps a
-Planned (Rescale c) = Unit {0}
-Planned (Reduce r) = Unit {0}
-
-unscaled : (x y z p : Float) → Planned (planUnscaled x y z p)
-unfolding planUnscaled
-unscaled x y z p = chosen Planned (le p +0) tt (rj-positive x y z p)
-
-scaled : (x y z p : Float) → Planned (planScaled x y z p)
-unfolding planScaled
-scaled x y z p = chosen Planned (rescales4 x y z p (scaleOf4 x y z p)) tt (unscaled x y z p)
-
-near : (n : Near) (x y z p : Float) → Planned (planNear n x y z p)
-unfolding planNear
-near (Taylor v) x y z p = value tt
-near Far x y z p = scaled x y z p
+Planned = Plans Steps (λ c. Unit {0}) (λ r. Unit {0})
 
 planned : (x y z p : Float) → Planned (planOf x y z p)
-unfolding planOf
 planned x y z p =
-    let t = rising (record { x = x; y = y; z = z }) in
-    chosen Planned (le p +0) (near (nearZero (t .x) (t .y) (t .z) (neg p)) (t .x) (t .y) (t .z) p) (scaled x y z p)
+    plan-holds Steps (λ c. Unit {0}) (λ r. Unit {0}) p (λ h v. value tt) (λ x y z h. tt) (λ h x y z. tt) x y z
+    (λ h. rj-positive x y z p)
 
 reduced : (r : Reduced) (a : Answer) → Run a → Run (reducedAnswer r a)
 unfolding reducedAnswer

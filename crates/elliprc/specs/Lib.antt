@@ -1,1 +1,2 @@
 pub mod Rc
+pub mod Few

@@ -1,3 +1,4 @@
 pub mod Means
 pub mod Duplicate
 pub mod Rd
+pub mod Few

@@ -1,3 +1,4 @@
 pub mod Duplicate
 pub mod Means
 pub mod Rf
+pub mod Few

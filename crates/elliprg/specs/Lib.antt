@@ -1,1 +1,2 @@
 pub mod Rg
+pub mod Few

@@ -1,2 +1,4 @@
 pub mod Rj
 pub mod Halves
+pub mod Plans
+pub mod Few

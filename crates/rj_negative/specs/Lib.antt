@@ -1,2 +1,3 @@
 pub mod NearZero
 pub mod Reduction
+pub mod Few

@@ -3,7 +3,7 @@ use lib.Ieee.{Float}
 use Rattle.binary64.specs.Operators.{_⊕_, _⊖_, _⊗_, _⊘_}
 use Rattle.root.specs.Root.{root}
 use Rattle.carlson.specs.Constants.{three}
-use Rattle.carlson.specs.Answer.{bothWays, reductionAt}
+use Rattle.carlson.specs.Answer.{bothWays, wrappedWays, reductionAt}
 use Rattle.carlson.specs.declared.answer.Found.{Found}
 use Rattle.carlson.specs.declared.answer.Answer.{Answer}
 use Rattle.carlson.specs.declared.answer.Answer.the-variants.{Value, Refused}
@@ -34,3 +34,12 @@ reducedFound r rj rf rc =
 unfoldable pub reducedAnswer : Reduced → Answer → Answer
 reducedAnswer r (Value rj) = Value (reducedFound r rj (rfUnchecked (r .x) (r .y) (r .z)) (reducedRc r))
 reducedAnswer r (Refused n) = Refused n
+
+-- ---- what the code makes of any inner answer, its sums being of u32; of a call's it is the same (Few, `carried-plain`)
+unfoldable pub wrappedFound : Reduced → Found → Found → Found → Found
+wrappedFound r rj rf rc =
+    reductionAt (reducedValue r (rj .value) (rf .value) (rc .value)) (wrappedWays (wrappedWays (rj .way) (rf .way)) (rc .way))
+
+unfoldable pub wrappedAnswer : Reduced → Answer → Answer
+wrappedAnswer r (Value rj) = Value (wrappedFound r rj (rfUnchecked (r .x) (r .y) (r .z)) (reducedRc r))
+wrappedAnswer r (Refused n) = Refused n

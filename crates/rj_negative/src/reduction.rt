@@ -7,7 +7,7 @@ use elliprc::elliprc_unchecked;
 use elliprf::elliprf_unchecked;
 use root::sqrt;
 ghost use mathlib.Core.Path.{_≡_};
-ghost use Rattle.rj_negative.specs.Reduction.{reduceOf, reducedRc, reducedValue, reducedFound, reducedAnswer};
+ghost use Rattle.rj_negative.specs.Reduction.{reduceOf, reducedRc, reducedValue, wrappedFound, wrappedAnswer};
 
 // The arguments of the inner call, and q = -p of the outer one.
 pub struct Reduced {
@@ -49,15 +49,15 @@ fn value_of(r: Reduced, rj: f64, rf: f64, rc: f64) -> f64
 }
 
 fn together(r: Reduced, rj: Found, rf: Found, rc: Found) -> Found
-    ensures { λ f. ⌜ f ≡ reducedFound r rj rf rc ⌝ }
+    ensures { λ f. ⌜ f ≡ wrappedFound r rj rf rc ⌝ }
 {
     let way = both_ways(both_ways(rj.way, rf.way), rc.way);
     reduction(value_of(r, rj.value, rf.value, rc.value), way)
 }
 
-// What the inner call answered, carried back.
+// What the inner call answered, carried back. The contract is that of any inner answer, whose counts might wrap; RJ's are few.
 pub fn carried(r: Reduced, inner: Answer) -> Answer
-    ensures { λ a. ⌜ a ≡ reducedAnswer r inner ⌝ }
+    ensures { λ a. ⌜ a ≡ wrappedAnswer r inner ⌝ }
 {
     match inner {
         Answer::Value(rj) => Answer::Value(together(

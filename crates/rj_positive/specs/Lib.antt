@@ -2,3 +2,4 @@ pub mod Helper
 pub mod Borders
 pub mod Duplicate
 pub mod Positive
+pub mod Few

@@ -1,6 +1,6 @@
 -- The proof of the cycle of calls {call}: the allowance falls, and each case of the plan is that of the definition. Assumes
 -- nothing.
-use Prim.Native.Nat.{ℕ, zero, suc, _-_, _<_}
+use Prim.Native.Nat.{ℕ, zero, suc, _-_, _<_, _≤_}
 use mathlib.Core.Path.{_≡_, refl, sym, ap, _∙_}
 use native.Mathlib.Nat.{pos-of-ne-zero}
 use native.Mathlib.Omega.{arith}
@@ -12,11 +12,12 @@ use Rattle.carlson.specs.declared.answer.Answer.{Answer}
 use Rattle.carlson.specs.declared.answer.Answer.the-variants.{Refused}
 use Rattle.elliprd.specs.Rd.{overScale}
 use Rattle.rj_negative.specs.declared.reduction.Reduced.{Reduced}
-use Rattle.rj_negative.specs.Reduction.{reducedAnswer}
+use Rattle.rj_negative.specs.Reduction.{wrappedAnswer}
 use Rattle.elliprj.specs.declared.plan.Plan.{Plan}
 use Rattle.elliprj.specs.declared.plan.Rescaled.{Rescaled}
 use Rattle.elliprj.specs.declared.plan.Plan.the-variants.{Done, Rescale, Reduce}
 use Rattle.elliprj.specs.Rj.{planOf, rjRun}
+use Rattle.elliprj.specs.Few.{run-plain}
 use Rattle.elliprj.proofs.call.Reads as call
 use Rattle.elliprj.proofs.call.Kinds as call-kinds
 use Rattle.elliprj.proofs.+call.Lts-call as call-lts
@@ -42,13 +43,18 @@ unfolding rjRun
 rescales zero p q c h e f = absurd (h refl)
 rescales (suc left) p q c h e f = let s : suc left - 1 ≡ left = omega arith in rw (sym e ∙ f, s)
 
-reduces : (left : ℕ) (p q : Plan) (r : Reduced) → (left ≡ 0 → ⊥) → p ≡ q → p ≡ Reduce r
-    → reducedAnswer r (rjRun (left - 1) (planOf (r .x) (r .y) (r .z) (r .p))) ≡ rjRun left q
+reduces : (left : ℕ) (p q : Plan) (r : Reduced) → left ≤ 4 → (left ≡ 0 → ⊥) → p ≡ q → p ≡ Reduce r
+    → wrappedAnswer r (rjRun (left - 1) (planOf (r .x) (r .y) (r .z) (r .p))) ≡ rjRun left q
 unfolding rjRun
-reduces zero p q r h e f = absurd (h refl)
-reduces (suc left) p q r h e f = let s : suc left - 1 ≡ left = omega arith in rw (sym e ∙ f, s)
+reduces zero p q r g h e f = absurd (h refl)
+reduces (suc left) p q r g h e f =
+    let s : suc left - 1 ≡ left = omega arith in
+    rw (sym e ∙ f, s) (run-plain left (omega arith) r (r .x) (r .y) (r .z) (r .p))
 
--- the allowance falls
+-- the allowance falls, and stays four at most
+fewer : (left : ℕ) → left ≤ 4 → left - 1 ≤ 4
+fewer left h = omega arith
+
 less : (left t : ℕ) → left ≡ t → (left ≡ 0 → ⊥) → left - 1 < t
 less left t e h = omega (arith, pos-of-ne-zero h)
 
@@ -91,7 +97,7 @@ call-sub-call t c = pos-of-ne-zero (c .before .before .before .before .if1 .left
 
 call-call-requires : (t : ℕ) → call-lts.Need-call-requires (claims t) (call-at t) call.Post
 call-call-requires t c κs = let b = c .before .before .before .before in
-    (less (b .before .args .left) t (b .before .pre .0) (b .if1 .left), tt)
+    (less (b .before .args .left) t (b .before .pre .0) (b .if1 .left), fewer (b .before .args .left) (b .before .pre .1))
 
 call-over-scale-requires : (t : ℕ) → call-lts.Need-over-scale-requires (claims t) (call-at t) call.Post
 call-over-scale-requires t c κs = tt
@@ -104,7 +110,7 @@ call-sub-call-2 t c = pos-of-ne-zero (c .before .before .before .before .if1 .le
 
 call-call-requires-2 : (t : ℕ) → call-lts.Need-call-requires-2 (claims t) (call-at t) call.Post
 call-call-requires-2 t c κs = let b = c .before .before .before .before in
-    (less (b .before .args .left) t (b .before .pre .0) (b .if1 .left), tt)
+    (less (b .before .args .left) t (b .before .pre .0) (b .if1 .left), fewer (b .before .args .left) (b .before .pre .1))
 
 call-carried-requires : (t : ℕ) → call-lts.Need-carried-requires (claims t) (call-at t) call.Post
 call-carried-requires t c κs = tt
@@ -127,8 +133,9 @@ call-returns-4 : (t : ℕ) → call-lts.Need-returns-4 (claims t) (call-at t) ca
 call-returns-4 t c =
     let k = c .before .before .before .before .before in
     let d = c .before .before .before .plan3 .given in
-    c .carried .ensures ∙ ap (λ (a : Answer). reducedAnswer (d .0 .0) a) (c .before .call2 .ensures)
-    ∙ reduces (k .before .before .args .left) (k .planned .result) _ (d .0 .0) (k .before .if1 .left) (k .planned .ensures) (d .1)
+    c .carried .ensures ∙ ap (λ (a : Answer). wrappedAnswer (d .0 .0) a) (c .before .call2 .ensures)
+    ∙ reduces (k .before .before .args .left) (k .planned .result) _ (d .0 .0) (k .before .before .pre .1) (k .before .if1 .left)
+    (k .planned .ensures) (d .1)
 
 pub +call-spec : {M : Type 1} → statement M
 +call-spec = close μ-call λ t. call-lts.spec (claims t)

@@ -1,8 +1,8 @@
 -- `both_ways` meets its contract: a sum that wraps is one modulo 2 ^ 32. Assumes nothing.
-use Rattle.carlson.specs.Answer.{bothWays}
+use Rattle.carlson.specs.Answer.{wrappedWays}
 use Rattle.carlson.proofs.answer.both_ways.Statement.{statement}
 use Rattle.carlson.proofs.answer.both_ways.Tie as tie
 
 pub both-ways-spec : {M : Type 1} → statement M
-unfolding bothWays
+unfolding wrappedWays
 both-ways-spec = tie.close (tie.spec (λ c κs. tt) (λ c κs. tt) (λ c. cc))

@@ -1,12 +1,12 @@
 -- `carried` meets its contract, step by step as its definition. Assumes nothing.
 use borrow.Author.Needs.{needs}
 use mathlib.Core.Path.{sym}
-use Rattle.rj_negative.specs.Reduction.{reducedAnswer}
+use Rattle.rj_negative.specs.Reduction.{wrappedAnswer}
 use Rattle.rj_negative.proofs.reduction.carried.Statement.{statement}
 use Rattle.rj_negative.proofs.reduction.carried.Tie as tie
 
 pub carried-spec : {M : Type 1} → statement M
-unfolding reducedAnswer
+unfolding wrappedAnswer
 carried-spec =
     tie.close
     (tie.spec
