@@ -1,9 +1,9 @@
 -- `even` meets its contract, by `Even`. Assumes nothing.
 use borrow.Author.Needs.{needs}
 use native.Mathlib.Omega.{arith}
-use Rattle.fused.proofs.Even.{moved-up, left-there}
-use Rattle.fused.proofs.word.even.Statement.{statement}
-use Rattle.fused.proofs.word.even.Tie as tie
+use Rattle.nearest.proofs.Even.{moved-up, left-there}
+use Rattle.nearest.proofs.word.even.Statement.{statement}
+use Rattle.nearest.proofs.word.even.Tie as tie
 
 add-if1 : tie.Need-add-if1
 add-if1 c = search needs

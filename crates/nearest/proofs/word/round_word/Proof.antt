@@ -2,10 +2,10 @@
 use borrow.Author.Needs.{needs}
 use native.Mathlib.Omega.{arith}
 use Prim.Native.Nat.{_-_, _/_, _%_, _^_, _≤_}
-use Rattle.fused.proofs.Even.{low-small, near-small}
-use Rattle.fused.proofs.Round.{word-low, word-high, word-over}
-use Rattle.fused.proofs.word.round_word.Statement.{statement}
-use Rattle.fused.proofs.word.round_word.Tie as tie
+use Rattle.nearest.proofs.Even.{low-small, near-small}
+use Rattle.nearest.proofs.Round.{word-low, word-high, word-over}
+use Rattle.nearest.proofs.word.round_word.Statement.{statement}
+use Rattle.nearest.proofs.word.round_word.Tie as tie
 
 sub-subnormal : tie.Need-sub-subnormal
 sub-subnormal c = search needs
@@ -20,19 +20,19 @@ signed-requires c κs =
     omega arith
 
 returns : tie.Need-returns
-returns c = λ X Y p j.
+returns c = λ t X Y p j.
     let a = c .before .before .before in
     let n = c .before .subnormal in
-    word-low (a .args .s) X Y (a .args .v) (a .args .e) p j (a .pre .0) (a .fits .v .fits) (n .result) (c .signed .result) (omega arith) (n .ensures)
+    word-low (a .args .s) X Y (a .args .v) (a .args .e) p j t (a .fits .v .fits) (n .result) (c .signed .result) (omega arith) (n .ensures)
     (c .signed .ensures)
 
 signed-requires-2 : tie.Need-signed-requires-2
 signed-requires-2 c κs = search needs
 
 returns-2 : tie.Need-returns-2
-returns-2 c = λ X Y p j.
+returns-2 c = λ t X Y p j.
     let a = c .before .before .before in
-    word-over (a .args .s) X Y (a .args .v) (a .args .e) p j (a .pre .0) (a .fits .v .fits) (omega arith) (c .signed2 .result) (omega arith)
+    word-over (a .args .s) X Y (a .args .v) (a .args .e) p j t (a .fits .v .fits) (omega arith) (c .signed2 .result) (omega arith)
     (c .signed2 .ensures)
 
 mul-signed : tie.Need-mul-signed
@@ -53,10 +53,10 @@ signed-requires-3 : tie.Need-signed-requires-3
 signed-requires-3 c κs = let n = small c in omega arith
 
 returns-3 : tie.Need-returns-3
-returns-3 c = λ X Y p j.
+returns-3 c = λ t X Y p j.
     let a = c .before .before .before .before in
     let n = c .before .even in
-    word-high (a .args .s) X Y (a .args .v) (a .args .e) p j (a .pre .0) (a .fits .v .fits) (omega arith) (n .result) (c .signed3 .result)
+    word-high (a .args .s) X Y (a .args .v) (a .args .e) p j t (a .fits .v .fits) (omega arith) (n .result) (c .signed3 .result)
     (omega arith) (n .ensures) (c .signed3 .ensures)
 
 pub round-word-spec : {M : Type 1} → statement M

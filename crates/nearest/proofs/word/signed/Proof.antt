@@ -5,9 +5,9 @@ use Prim.Native.Nat.{_+_, _^_}
 use mathlib.Core.Path.{_∙_}
 use Rattle.binary64.specs.Tests.{bits-number}
 use Rattle.rounding.specs.Sign.{bits-neg}
-use Rattle.fused.specs.Signs.{sign-set, sign-clear}
-use Rattle.fused.proofs.word.signed.Statement.{statement}
-use Rattle.fused.proofs.word.signed.Tie as tie
+use Rattle.nearest.specs.Signed.{sign-set, sign-clear}
+use Rattle.nearest.proofs.word.signed.Statement.{statement}
+use Rattle.nearest.proofs.word.signed.Tie as tie
 
 add-result : tie.Need-add-result
 add-result c = search needs

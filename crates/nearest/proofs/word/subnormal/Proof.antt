@@ -2,9 +2,9 @@
 use borrow.Author.Needs.{needs}
 use native.Mathlib.Omega.{arith}
 use mathlib.Core.Path.{_∙_}
-use Rattle.fused.proofs.Even.{none-kept, word-below, no-more, quotient-small, rest-is, rest-small, some-kept}
-use Rattle.fused.proofs.word.subnormal.Statement.{statement}
-use Rattle.fused.proofs.word.subnormal.Tie as tie
+use Rattle.nearest.proofs.Even.{none-kept, word-below, no-more, quotient-small, rest-is, rest-small, some-kept}
+use Rattle.nearest.proofs.word.subnormal.Statement.{statement}
+use Rattle.nearest.proofs.word.subnormal.Tie as tie
 
 returns : tie.Need-returns
 returns c = none-kept (c .before .args .v) (c .before .args .k) (c .before .fits .v .fits) (omega arith)

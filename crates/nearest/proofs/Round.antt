@@ -15,8 +15,8 @@ use Rattle.rounding.specs.Cut.{infinity}
 use Rattle.rounding.specs.Value.{infinity-is}
 use Rattle.rounding.specs.Fraction.{pick, beyond, rounded-fraction}
 use Rattle.rounding.specs.Jam.{Jam, Digits, jam-digits}
-use Rattle.fused.proofs.Even.{near-half, quotient-small}
-use Rattle.fused.specs.Signs.{round-sign}
+use Rattle.nearest.proofs.Even.{near-half, quotient-small}
+use Rattle.nearest.specs.Signed.{round-sign}
 
 -- ---- the scale taken through: K is the weight of the last digit kept, S = 2 ^ e, Z = 2 ^ k
 whole-is : (X Y q T K S Z : ℕ) → q * (Y * K) + T ≡ X → 2 ^ 1222 * Z ≡ K * S
