@@ -1,0 +1,6 @@
+-- `Over`: every digit turned over. `Moved`: a value's digits at two words. `Held`: from values to what the functions leave behind.
+-- `Highest`: the highest digits.
+mod Over
+mod Moved
+mod Held
+mod Highest
