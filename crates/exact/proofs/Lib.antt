@@ -1,6 +1,4 @@
--- `Over`: every digit turned over. `Moved`: a value's digits at two words. `Held`: from values to what the functions leave behind.
--- `Highest`: the highest digits.
+-- `Over`: every digit turned over. `Moved`: a value's digits at two words. `Held`: from values to what the functions leave.
 mod Over
 mod Moved
 mod Held
-mod Highest

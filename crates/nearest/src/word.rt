@@ -1,4 +1,5 @@
-// The rounding of a word, with one flag for the digits below it, which is its last digit: `sticky` sets it, and nothing else does.
+// The rounding of a word, with one flag for the digits below it, which is its last digit: `sticky` sets it, and nothing else
+// does.
 ghost use mathlib.Core.Path.{_≡_};
 ghost use mathlib.Core.Bool.{cond};
 ghost use Prim.Native.Nat.{ℕ, compare, _+_, _*_, _/_, _%_, _^_, _≤_, _<_};
@@ -60,8 +61,8 @@ fn signed(s: bool, b: u64) -> f64
     f64::from_bits(b)
 }
 
-// A word of 64 digits that stands for a number X / Y, with the scale 2 ^ (e - 2296) and the sign s. A carry out of the digits runs
-// into the exponent's field by itself.
+// A word of 64 digits that stands for a number X / Y, with the scale 2 ^ (e - 2296) and the sign s. A carry out of the digits
+// runs into the exponent's field by itself.
 pub fn round_word(s: bool, v: u64, e: u64) -> f64
     ensures { λ r. ⌜ (2 ^ 63 ≤ v → (X Y : ℕ) → 0 < Y → Jam X Y v → r ≡ round binary64 s (X * 2 ^ e) (Y * 2 ^ 2296)) ⌝ }
 {
