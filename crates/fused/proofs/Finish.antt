@@ -11,7 +11,8 @@ use lib.Ieee.{Float, unlike, binary64, sum, ofBits}
 use Rattle.algebra.specs.Ring.{con, _:*_, _≈_, _⊩_, _times_≼_, ring}
 use Rattle.rounding.specs.Cut.{value}
 use Rattle.fused.specs.Fused.{times, fused}
-use Rattle.fused.specs.Parts.{Scaled, Window, wide}
+use Rattle.nearest.specs.Stands.{wide}
+use Rattle.fused.specs.Parts.{Scaled, Window}
 use Rattle.fused.specs.Signs.{sum-same}
 use Rattle.fused.specs.Laws.{fused-sum}
 use Rattle.fused.proofs.Pattern.{bits-value}

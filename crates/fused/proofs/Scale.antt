@@ -10,7 +10,7 @@ use Rattle.algebra.specs.Order.{lt-or-le}
 use Rattle.rounding.specs.Cut.{infinity, value}
 use Rattle.rounding.specs.Value.{value-small, value-high}
 use Rattle.fused.specs.Parts.{Scaled}
-use Rattle.fused.proofs.Normal.{Normal, normal}
+use Rattle.nearest.specs.Normal.{Normal, normal}
 
 -- ---- normal numbers
 pub scaled-high : (b : ℕ) → 2 ^ 52 ≤ b → b < infinity → Scaled b (b % 2 ^ 52 + 2 ^ 52) (b / 2 ^ 52 + 63)

@@ -18,7 +18,8 @@ use Rattle.rounding.specs.Laws.{Nearest, rounded-nearest, nearest-rounded}
 use Rattle.rounding.specs.Fraction.{fraction, fraction-number, rounded-fraction}
 use Rattle.fused.specs.Fused.{times, fused}
 use Rattle.fused.specs.Parts.{apart}
-use Rattle.fused.specs.Signs.{sum-same, round-sign}
+use Rattle.fused.specs.Signs.{sum-same}
+use Rattle.nearest.specs.Signed.{round-sign}
 
 -- ---- a sum by the values of its parts
 cross-one : (M U D E N G K : ℕ) → M * U * G ≡ N * D → M * U * E * (G * K) ≡ N * K * (D * E)

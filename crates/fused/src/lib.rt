@@ -5,7 +5,6 @@ mod parts;
 mod special;
 mod sum;
 mod wide;
-mod word;
 
 use crate::numbers::numbers;
 use crate::parts::is_normal;

@@ -4,7 +4,8 @@ use native.Mathlib.Omega.{arith}
 use mathlib.Core.Path.{sym, subst, _∙_}
 use lib.Dec.{T}
 use lib.Ieee.{binary64, fits, toBits}
-use Rattle.fused.specs.Parts.{Window, wide}
+use Rattle.nearest.specs.Stands.{wide}
+use Rattle.fused.specs.Parts.{Window}
 use Rattle.fused.proofs.Pattern.{same-three}
 use Rattle.fused.proofs.Finish.{window-product, window-one, windows-fused}
 use Rattle.fused.proofs.numbers.numbers.Statement.{statement}

@@ -1,0 +1,4 @@
+pub mod Exact
+pub mod Steps
+pub mod ExactLaws
+pub mod Examples

@@ -1,0 +1,4 @@
+pub mod Stands
+pub mod Signed
+pub mod Shift
+pub mod Normal

@@ -1,0 +1,2 @@
+-- `Leading`: the highest digits, and their rounding.
+mod Leading

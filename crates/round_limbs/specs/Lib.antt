@@ -1,0 +1,2 @@
+pub mod RoundedLimbs
+pub mod Steps
