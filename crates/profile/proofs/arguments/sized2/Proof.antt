@@ -1,0 +1,15 @@
+-- `sized2` meets its contract, step by step as its definition. Assumes nothing.
+use mathlib.Core.Path.{sym}
+use Rattle.profile.specs.Profile.{sized2}
+use Rattle.profile.proofs.arguments.sized2.Statement.{statement}
+use Rattle.profile.proofs.arguments.sized2.Tie as tie
+
+pub sized2-spec : {M : Type 1} → statement M
+unfolding sized2
+sized2-spec =
+    tie.close
+    (tie.spec
+    (λ c κs. tt)
+    (λ c κs. tt)
+    (λ c κs. tt)
+    (λ c. rw (sym (c .before .before .sized .ensures), sym (c .before .sized2 .ensures)) (c .both .ensures)))

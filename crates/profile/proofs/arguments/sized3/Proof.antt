@@ -1,0 +1,15 @@
+-- `sized3` meets its contract, step by step as its definition. Assumes nothing.
+use mathlib.Core.Path.{sym}
+use Rattle.profile.specs.Profile.{sized3}
+use Rattle.profile.proofs.arguments.sized3.Statement.{statement}
+use Rattle.profile.proofs.arguments.sized3.Tie as tie
+
+pub sized3-spec : {M : Type 1} → statement M
+unfolding sized3
+sized3-spec =
+    tie.close
+    (tie.spec
+    (λ c κs. tt)
+    (λ c κs. tt)
+    (λ c κs. tt)
+    (λ c. rw (sym (c .before .before .sized2 .ensures), sym (c .before .sized .ensures)) (c .both .ensures)))

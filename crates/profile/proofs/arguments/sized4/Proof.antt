@@ -1,0 +1,15 @@
+-- `sized4` meets its contract, step by step as its definition. Assumes nothing.
+use mathlib.Core.Path.{sym}
+use Rattle.profile.specs.Profile.{sized4}
+use Rattle.profile.proofs.arguments.sized4.Statement.{statement}
+use Rattle.profile.proofs.arguments.sized4.Tie as tie
+
+pub sized4-spec : {M : Type 1} → statement M
+unfolding sized4
+sized4-spec =
+    tie.close
+    (tie.spec
+    (λ c κs. tt)
+    (λ c κs. tt)
+    (λ c κs. tt)
+    (λ c. rw (sym (c .before .before .sized3 .ensures), sym (c .before .sized .ensures)) (c .both .ensures)))
