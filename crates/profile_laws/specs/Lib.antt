@@ -1,3 +1,5 @@
 pub mod Statement
 pub mod Arguments
+pub mod Checks
 pub mod AnyOrder
+pub mod Units
