@@ -3,3 +3,4 @@ pub mod Arguments
 pub mod Checks
 pub mod AnyOrder
 pub mod Units
+pub mod Sizes
