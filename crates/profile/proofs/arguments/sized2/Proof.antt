@@ -1,5 +1,6 @@
 -- `sized2` meets its contract, step by step as its definition. Assumes nothing.
-use mathlib.Core.Path.{sym}
+use mathlib.Core.Path.{ap₂, _∙_}
+use mathlib.Core.Bool.{_&&_}
 use Rattle.profile.specs.Profile.{sized2}
 use Rattle.profile.proofs.arguments.sized2.Statement.{statement}
 use Rattle.profile.proofs.arguments.sized2.Tie as tie
@@ -12,4 +13,4 @@ sized2-spec =
     (λ c κs. tt)
     (λ c κs. tt)
     (λ c κs. tt)
-    (λ c. rw (sym (c .before .before .sized .ensures), sym (c .before .sized2 .ensures)) (c .both .ensures)))
+    (λ c. c .both .ensures ∙ ap₂ _&&_ (c .before .before .sized .ensures) (c .before .sized2 .ensures)))

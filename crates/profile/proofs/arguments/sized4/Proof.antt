@@ -1,5 +1,6 @@
 -- `sized4` meets its contract, step by step as its definition. Assumes nothing.
-use mathlib.Core.Path.{sym}
+use mathlib.Core.Path.{ap₂, _∙_}
+use mathlib.Core.Bool.{_&&_}
 use Rattle.profile.specs.Profile.{sized4}
 use Rattle.profile.proofs.arguments.sized4.Statement.{statement}
 use Rattle.profile.proofs.arguments.sized4.Tie as tie
@@ -12,4 +13,4 @@ sized4-spec =
     (λ c κs. tt)
     (λ c κs. tt)
     (λ c κs. tt)
-    (λ c. rw (sym (c .before .before .sized3 .ensures), sym (c .before .sized .ensures)) (c .both .ensures)))
+    (λ c. c .both .ensures ∙ ap₂ _&&_ (c .before .before .sized3 .ensures) (c .before .sized .ensures)))
