@@ -17,8 +17,8 @@ use Rattle.elliprg.specs.Rg.{rg}
 use Rattle.elliprj.specs.Rj.{rjOfPositive}
 
 -- "23 size outside the profile, infinities included"
-abbrev pub outside : ℕ
-outside = 23
+abbrev pub outside-profile : ℕ
+outside-profile = 23
 
 -- "-0 becomes +0 first"
 unfoldable pub plusZero : Float → Float
@@ -45,7 +45,7 @@ rcPlain x y =
     cond (lt x zero) (Refused below-zero)
     (cond (eq y zero) (Refused zero-given)
     (cond (anyNan2 x y) (Refused nan-given)
-    (cond (sized2 x y) (rc x y) (Refused outside))))
+    (cond (sized2 x y) (rc x y) (Refused outside-profile))))
 
 -- "RF and RJ sort x, y, z upward"
 unfoldable pub rfUpward : Float → Float → Float → Answer
@@ -57,7 +57,7 @@ rfPlain x y z =
     cond (anyNan3 x y z) (Refused nan-given)
     (cond (below3 x y z) (Refused below-zero)
     (cond (zerosOf3 x y z) (Refused zeros)
-    (cond (sized3 x y z) (rfUpward x y z) (Refused outside))))
+    (cond (sized3 x y z) (rfUpward x y z) (Refused outside-profile))))
 
 -- "and RD sorts x and y"
 unfoldable pub rdUpward : Float → Float → Float → Answer
@@ -70,14 +70,14 @@ rdPlain x y z =
     (cond (eq x zero && eq y zero) (Refused zeros)
     (cond (le z zero) (Refused z-not-above)
     (cond (anyNan3 x y z) (Refused nan-given)
-    (cond (sized3 x y z) (rdUpward x y z) (Refused outside)))))
+    (cond (sized3 x y z) (rdUpward x y z) (Refused outside-profile)))))
 
 -- RG: 2, 1, 23; it sorts for itself
 unfoldable pub rgPlain : Float → Float → Float → Answer
 rgPlain x y z =
     cond (below3 x y z) (Refused below-zero)
     (cond (anyNan3 x y z) (Refused nan-given)
-    (cond (sized3 x y z) (rg x y z) (Refused outside)))
+    (cond (sized3 x y z) (rg x y z) (Refused outside-profile)))
 
 unfoldable pub rjUpward : Float → Float → Float → Float → Answer
 rjUpward x y z p = let t = rising (three x y z) in rjOfPositive (t .x) (t .y) (t .z) p
@@ -89,7 +89,7 @@ rjPlain x y z p =
     (cond (eq p zero) (Refused zero-given)
     (cond (below3 x y z) (Refused below-zero)
     (cond (zerosOf3 x y z) (Refused zeros)
-    (cond (sized4 x y z p) (rjUpward x y z p) (Refused outside)))))
+    (cond (sized4 x y z p) (rjUpward x y z p) (Refused outside-profile)))))
 
 -- ---- the entries
 unfoldable pub profileRc : Float → Float → Answer

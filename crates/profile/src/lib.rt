@@ -45,7 +45,7 @@ ghost use Rattle.profile.specs.Profile.{
 };
 
 // Document 02, 2026-14: size outside the profile, infinities included.
-const OUTSIDE: u32 = 23;
+const OUTSIDE_PROFILE: u32 = 23;
 
 fn rc_plain(x: f64, y: f64) -> Answer
     ensures { λ r. ⌜ r ≡ rcPlain x y ⌝ }
@@ -62,7 +62,7 @@ fn rc_plain(x: f64, y: f64) -> Answer
     if sized2(x, y) {
         return elliprc(x, y);
     }
-    Answer::Refused(OUTSIDE)
+    Answer::Refused(OUTSIDE_PROFILE)
 }
 
 fn rf_upward(x: f64, y: f64, z: f64) -> Answer
@@ -87,7 +87,7 @@ fn rf_plain(x: f64, y: f64, z: f64) -> Answer
     if sized3(x, y, z) {
         return rf_upward(x, y, z);
     }
-    Answer::Refused(OUTSIDE)
+    Answer::Refused(OUTSIDE_PROFILE)
 }
 
 fn rd_upward(x: f64, y: f64, z: f64) -> Answer
@@ -115,7 +115,7 @@ fn rd_plain(x: f64, y: f64, z: f64) -> Answer
     if sized3(x, y, z) {
         return rd_upward(x, y, z);
     }
-    Answer::Refused(OUTSIDE)
+    Answer::Refused(OUTSIDE_PROFILE)
 }
 
 fn rg_plain(x: f64, y: f64, z: f64) -> Answer
@@ -130,7 +130,7 @@ fn rg_plain(x: f64, y: f64, z: f64) -> Answer
     if sized3(x, y, z) {
         return elliprg(x, y, z);
     }
-    Answer::Refused(OUTSIDE)
+    Answer::Refused(OUTSIDE_PROFILE)
 }
 
 fn rj_upward(x: f64, y: f64, z: f64, p: f64) -> Answer
@@ -158,7 +158,7 @@ fn rj_plain(x: f64, y: f64, z: f64, p: f64) -> Answer
     if sized4(x, y, z, p) {
         return rj_upward(x, y, z, p);
     }
-    Answer::Refused(OUTSIDE)
+    Answer::Refused(OUTSIDE_PROFILE)
 }
 
 pub fn profile_rc(x: f64, y: f64) -> Answer

@@ -44,7 +44,8 @@ use Rattle.profile.specs.Profile.{
   profileRg,
   profileRj,
 }
-use Rattle.profile_laws.specs.Statement.{profileOf, Reordered, rc, rf, rd, rg, rj}
+use Rattle.profile_answers.specs.ProfileAnswers.{profileOf}
+use Rattle.profile_laws.specs.Statement.{Reordered, rc, rf, rd, rg, rj}
 use Rattle.profile_laws.specs.Arguments.{F64, plus-zero-plain}
 
 -- ---- the checks of three arguments, besides those of RG

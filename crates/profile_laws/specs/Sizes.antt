@@ -19,14 +19,14 @@ use Rattle.sorting.specs.declared.Triple.{Triple}
 use Rattle.sorting.specs.Sorting.{three}
 use Rattle.sorting.specs.Permuted.{mapped}
 use Rattle.calls.specs.declared.Call.{Call}
-use Rattle.calls.specs.declared.Call.the-variants.{Rc, Rf, Rd, Rg, Rj}
+use Rattle.calls.specs.declared.Call.the-variants.{Rc, Rf, Rd, Rg, Rj, Cel}
 use Rattle.answers.specs.Answers.{number}
 use Rattle.units.specs.Statement.{least, most}
-use Rattle.demands.specs.Total.{rcNumbers, rfNumbers, rdNumbers, rgNumbers, rjSignedNumbers}
-use Rattle.demands.specs.Total.{rc-only, rf-only, rd-only, rg-only, rj-positive-only}
+use Rattle.demands.specs.Total.{rcNumbers, rfNumbers, rdNumbers, rgNumbers, rjSignedNumbers, celNumbers}
+use Rattle.demands.specs.Total.{rc-only, rf-only, rd-only, rg-only, rj-positive-only, cel-only}
 use Rattle.rg_order.specs.Seen.{at}
 use Rattle.profile.specs.Profile.{
-  outside,
+  outside-profile,
   plusZero,
   sized,
   sized2,
@@ -46,7 +46,8 @@ use Rattle.profile.specs.Profile.{
   profileRg,
   profileRj,
 }
-use Rattle.profile_laws.specs.Statement.{profileOf, Passes}
+use Rattle.profile_answers.specs.ProfileAnswers.{profileOf}
+use Rattle.profile_laws.specs.Statement.{Passes}
 use Rattle.profile_laws.specs.Checks.{
   Same,
   Same3,
@@ -92,6 +93,8 @@ argumentNumbers (Rf x y z) = nan-given ∷ below-zero ∷ zeros ∷ []
 argumentNumbers (Rd x y z) = below-zero ∷ zeros ∷ z-not-above ∷ nan-given ∷ []
 argumentNumbers (Rg x y z) = below-zero ∷ nan-given ∷ []
 argumentNumbers (Rj x y z p) = nan-given ∷ zero-given ∷ below-zero ∷ zeros ∷ []
+-- cel is no call of the profile: the base entry alone answers
+argumentNumbers (Cel kc p a b) = []
 
 -- those of the base entry that is called, 21 among RJ's
 abbrev pub baseNumbers : Call → List ℕ
@@ -100,10 +103,11 @@ baseNumbers (Rf x y z) = rfNumbers
 baseNumbers (Rd x y z) = rdNumbers
 baseNumbers (Rg x y z) = rgNumbers
 baseNumbers (Rj x y z p) = rjSignedNumbers
+baseNumbers (Cel kc p a b) = celNumbers
 
 -- all that the profile's entry can give
 abbrev pub profileNumbers : Call → List ℕ
-profileNumbers c = outside ∷ baseNumbers c
+profileNumbers c = outside-profile ∷ baseNumbers c
 
 -- ---- the checks of each entry
 -- those of the base that rest on arguments alone, in the base order
@@ -117,6 +121,7 @@ checksOf (Rg x y z) = let t = three (number x) (number y) (number z) in at below
 checksOf (Rj x y z p) =
     let t = three (number x) (number y) (number z) in
     with-p anyNan4 t (number p) ∷ eq (number p) zero ∷ at below3 t ∷ at zerosOf3 t ∷ []
+checksOf (Cel kc p a b) = []
 
 -- whether one of them refuses
 abbrev pub anyOf : List Bool → Bool
@@ -130,6 +135,7 @@ passes (Rf x y z) = sized3 (number x) (number y) (number z)
 passes (Rd x y z) = sized3 (number x) (number y) (number z)
 passes (Rg x y z) = sized3 (number x) (number y) (number z)
 passes (Rj x y z p) = sized4 (number x) (number y) (number z) (number p)
+passes (Cel kc p a b) = true
 
 passes-yes : (c : Call) → Passes c → T (passes c)
 passes-yes (Rc x y) h = h
@@ -137,6 +143,7 @@ passes-yes (Rf x y z) h = h
 passes-yes (Rd x y z) h = h
 passes-yes (Rg x y z) h = h
 passes-yes (Rj x y z p) h = h
+passes-yes (Cel kc p a b) h = tt
 
 passes-no : (c : Call) → (Passes c → ⊥) → T (not (passes c))
 passes-no (Rc x y) h = not-T (passes (Rc x y)) h
@@ -144,11 +151,12 @@ passes-no (Rf x y z) h = not-T (passes (Rf x y z)) h
 passes-no (Rd x y z) h = not-T (passes (Rd x y z)) h
 passes-no (Rg x y z) h = not-T (passes (Rg x y z)) h
 passes-no (Rj x y z p) h = not-T (passes (Rj x y z p)) h
+passes-no (Cel kc p a b) h = absurd (h tt)
 
 -- ---- what is answered, by whether a check on arguments refuses, and by whether the sizes pass
 pub data Told (ns ms : List ℕ) : Bool → Bool → Answer → Type 0 where
   by-arguments : {s : Bool} {a : Answer} → Only Finite ns a → Told ns ms true s a
-  by-size : Told ns ms false false (Refused outside)
+  by-size : Told ns ms false false (Refused outside-profile)
   by-base : {a : Answer} → Only Finite ms a → Told ns ms false true a
 
 module _ {ns ms : List ℕ} where
@@ -162,10 +170,10 @@ module _ {ns ms : List ℕ} where
       go true = by-arguments (refused h)
       go false = t
 
-  ends : {s s' : Bool} {a : Answer} → s ≡ s' → Only Finite ms a → Told ns ms false s' (cond s a (Refused outside))
-  ends {s} {s'} {a} same o = subst (λ (c : Bool). Told ns ms false s' (cond c a (Refused outside))) (sym same) (go s')
+  ends : {s s' : Bool} {a : Answer} → s ≡ s' → Only Finite ms a → Told ns ms false s' (cond s a (Refused outside-profile))
+  ends {s} {s'} {a} same o = subst (λ (c : Bool). Told ns ms false s' (cond c a (Refused outside-profile))) (sym same) (go s')
     where
-      go : (s : Bool) → Told ns ms false s (cond s a (Refused outside))
+      go : (s : Bool) → Told ns ms false s (cond s a (Refused outside-profile))
       go true = by-base o
       go false = by-size
 
@@ -201,22 +209,23 @@ told (Rj x y z p) =
     let a = all x y z in
     check (nan4-same a (one p)) nan-given tt (check (one p .none) zero-given tt (check (below3-same a) below-zero tt
     (check (zeros3-same a) zeros tt (ends (sized4-same a (one p)) (rj-positive-only _ _ _ _)))))
+told (Cel kc p a b) = by-base (cel-only _ _ _ _)
 
 -- ---- so 23 is given where no check before it refuses and a size is outside
-pub outside-refused : (c : Call) → T (not (anyOf (checksOf c))) → (Passes c → ⊥) → profileOf c ≡ Refused outside
+pub outside-refused : (c : Call) → T (not (anyOf (checksOf c))) → (Passes c → ⊥) → profileOf c ≡ Refused outside-profile
 outside-refused c h p = go (told c) h (passes-no c p)
   where
-    go : {ns ms : List ℕ} {e s : Bool} {a : Answer} → Told ns ms e s a → T (not e) → T (not s) → a ≡ Refused outside
+    go : {ns ms : List ℕ} {e s : Bool} {a : Answer} → Told ns ms e s a → T (not e) → T (not s) → a ≡ Refused outside-profile
     go (by-arguments o) h p = absurd h
     go by-size h p = refl
     go (by-base o) h p = absurd p
 
 -- what the lists say of each other, and of 23
 record Sound (ns ms : List ℕ) : Type 0 where
-  arguments : T (part ns (outside ∷ ms))
-  base : T (part ms (outside ∷ ms))
-  not-argument : among outside ns ≡ false
-  not-base : among outside ms ≡ false
+  arguments : T (part ns (outside-profile ∷ ms))
+  base : T (part ms (outside-profile ∷ ms))
+  not-argument : among outside-profile ns ≡ false
+  not-base : among outside-profile ms ≡ false
 
 sound : (c : Call) → Sound (argumentNumbers c) (baseNumbers c)
 sound (Rc x y) = record { arguments = tt; base = tt; not-argument = refl; not-base = refl }
@@ -224,18 +233,19 @@ sound (Rf x y z) = record { arguments = tt; base = tt; not-argument = refl; not-
 sound (Rd x y z) = record { arguments = tt; base = tt; not-argument = refl; not-base = refl }
 sound (Rg x y z) = record { arguments = tt; base = tt; not-argument = refl; not-base = refl }
 sound (Rj x y z p) = record { arguments = tt; base = tt; not-argument = refl; not-base = refl }
+sound (Cel kc p a b) = record { arguments = tt; base = tt; not-argument = refl; not-base = refl }
 
 -- and nowhere else: "a refusal for size" is none for anything else
-pub outside-alone : (c : Call) → profileOf c ≡ Refused outside → T (not (anyOf (checksOf c))) × (Passes c → ⊥)
+pub outside-alone : (c : Call) → profileOf c ≡ Refused outside-profile → T (not (anyOf (checksOf c))) × (Passes c → ⊥)
 outside-alone c e = let r = go (told c) (sound c) e in (r .0, λ p. T-not (passes c) (r .1) (passes-yes c p))
   where
-    never : {ns : List ℕ} {a : Answer} → Only Finite ns a → among outside ns ≡ false → a ≡ Refused outside → ⊥
+    never : {ns : List ℕ} {a : Answer} → Only Finite ns a → among outside-profile ns ≡ false → a ≡ Refused outside-profile → ⊥
     never {ns} o h e = named (subst (Only Finite ns) e o) h
       where
         named : {n : ℕ} → Only Finite ns (Refused n) → among n ns ≡ false → ⊥
         named (refused t) h = subst T h t
 
-    go : {ns ms : List ℕ} {e s : Bool} {a : Answer} → Told ns ms e s a → Sound ns ms → a ≡ Refused outside
+    go : {ns ms : List ℕ} {e s : Bool} {a : Answer} → Told ns ms e s a → Sound ns ms → a ≡ Refused outside-profile
         → T (not e) × T (not s)
     go (by-arguments o) l e = absurd (never o (l .not-argument) e)
     go by-size l e = (tt, tt)
@@ -245,10 +255,10 @@ outside-alone c e = let r = go (told c) (sound c) e in (r .0, λ p. T-not (passe
 pub profile-only : (c : Call) → Only Finite (profileNumbers c) (profileOf c)
 profile-only c = go (told c) (sound c)
   where
-    go : {ns ms : List ℕ} {e s : Bool} {a : Answer} → Told ns ms e s a → Sound ns ms → Only Finite (outside ∷ ms) a
-    go {ns} {ms} (by-arguments o) l = longer ns (outside ∷ ms) (l .arguments) o
+    go : {ns ms : List ℕ} {e s : Bool} {a : Answer} → Told ns ms e s a → Sound ns ms → Only Finite (outside-profile ∷ ms) a
+    go {ns} {ms} (by-arguments o) l = longer ns (outside-profile ∷ ms) (l .arguments) o
     go by-size l = refused tt
-    go {ns} {ms} (by-base o) l = longer ms (outside ∷ ms) (l .base) o
+    go {ns} {ms} (by-base o) l = longer ms (outside-profile ∷ ms) (l .base) o
 
 -- and 0, which a C program takes for a value, is no refusal's number
 pub never-zero : (c : Call) → among 0 (profileNumbers c) ≡ false
@@ -257,3 +267,4 @@ never-zero (Rf x y z) = refl
 never-zero (Rd x y z) = refl
 never-zero (Rg x y z) = refl
 never-zero (Rj x y z p) = refl
+never-zero (Cel kc p a b) = refl

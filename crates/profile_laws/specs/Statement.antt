@@ -1,22 +1,14 @@
--- What is claimed of the bench profile (document 02, 2026-14), over calls: what a call of the profile answers, two calls that
--- differ in the order of the sorted arguments, two calls that differ in the unit, and the size check. Definitions only.
+-- What is claimed of the bench profile (document 02, 2026-14), over calls, whose answer is `profileOf`: two calls that differ in
+-- the order of the sorted arguments, two calls that differ in the unit, and the size check. cel is no call of the profile, and
+-- the first two have no case for it. Definitions only.
 use Prim.Native.Nat.{ℕ}
 use lib.Dec.{T}
-use Rattle.carlson.specs.declared.answer.Answer.{Answer}
 use Rattle.sorting.specs.Sorting.{three, Permuted}
 use Rattle.calls.specs.declared.Call.{Call}
-use Rattle.calls.specs.declared.Call.the-variants.{Rc, Rf, Rd, Rg, Rj}
+use Rattle.calls.specs.declared.Call.the-variants.{Rc, Rf, Rd, Rg, Rj, Cel}
 use Rattle.answers.specs.Answers.{number}
 use Rattle.units.specs.Statement.{TimesFour}
-use Rattle.profile.specs.Profile.{sized2, sized3, sized4, profileRc, profileRf, profileRd, profileRg, profileRj}
-
--- the profile's entry of the call's name
-unfoldable pub profileOf : Call → Answer
-profileOf (Rc x y) = profileRc (number x) (number y)
-profileOf (Rf x y z) = profileRf (number x) (number y) (number z)
-profileOf (Rd x y z) = profileRd (number x) (number y) (number z)
-profileOf (Rg x y z) = profileRg (number x) (number y) (number z)
-profileOf (Rj x y z p) = profileRj (number x) (number y) (number z) (number p)
+use Rattle.profile.specs.Profile.{sized2, sized3, sized4}
 
 -- two calls that differ in the order of the sorted arguments alone: x, y, z of RF, RG and RJ, x and y of RD, none of RC
 pub data Reordered : Call → Call → Type 0 where
@@ -42,10 +34,11 @@ pub data InUnits (u d : ℕ) : Call → Call → Type 0 where
   rj : {x x' y y' z z' p p' : ℕ} → Factor u d x x' → Factor u d y y' → Factor u d z z' → Factor u d p p'
       → InUnits u d (Rj x y z p) (Rj x' y' z' p')
 
--- the call passes the profile's size check
+-- the call passes the profile's size check; of cel there is none
 abbrev pub Passes : Call → Type 0
 Passes (Rc x y) = T (sized2 (number x) (number y))
 Passes (Rf x y z) = T (sized3 (number x) (number y) (number z))
 Passes (Rd x y z) = T (sized3 (number x) (number y) (number z))
 Passes (Rg x y z) = T (sized3 (number x) (number y) (number z))
 Passes (Rj x y z p) = T (sized4 (number x) (number y) (number z) (number p))
+Passes (Cel kc p a b) = Unit {0}

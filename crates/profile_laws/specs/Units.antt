@@ -56,7 +56,8 @@ use Rattle.profile.specs.Profile.{
   profileRg,
   profileRj,
 }
-use Rattle.profile_laws.specs.Statement.{profileOf, Factor, InUnits, rc, rf, rd, rg, rj, Passes}
+use Rattle.profile_answers.specs.ProfileAnswers.{profileOf}
+use Rattle.profile_laws.specs.Statement.{Factor, InUnits, rc, rf, rd, rg, rj, Passes}
 use Rattle.profile_laws.specs.Arguments.{F64, some-above}
 use Rattle.profile_laws.specs.Checks.{
   Same,
