@@ -96,10 +96,10 @@ uint32_t gatewren_cel(double kc, double p, double a, double b,
                       double *value, uint32_t *rounds, uint32_t *road, uint32_t *rescalings);
 
 /*
- * The bench profile: the arguments of RF, RG and RJ's x, y, z in any order, and RD's x and y, with one answer. Every argument must
- * be zero or of size from 2^-64 to 2^64, RJ's p above zero; -0 is taken for +0, and the base entry answers of the sorted arguments.
- * Two calls that are in size, the arguments of the second being those of the first times 4^k, are answered alike but for the value's
- * power of two. As the entries above, with 23 beside their numbers: 23 comes after 1 to 5, and before 21.
+ * The bench profile: x, y, z of RF, RG and RJ in any order, and x, y of RD, with one answer. Every argument must be zero or of
+ * size from 2^-64 to 2^64, RJ's p above zero; -0 is taken for +0, and the entry above answers of the sorted arguments. Two calls
+ * that are in size, the arguments of the second being those of the first times 4^k, are answered alike but for the value's power
+ * of two. As the entries above, with 23 beside their numbers: 23 comes after 1 to 5, and before 21.
  */
 
 /* RC(x, y). Returns 0, 1, 2, 4, 7 or 23. */
