@@ -1,15 +1,15 @@
 -- The bench profile (document 02, 2026-14): five entries beside the old ones, whose arguments may stand in any order and in any
 -- unit by powers of four. Definitions only.
 use Prim.Native.Nat.{ℕ}
-use mathlib.Core.Bool.{Bool, _&&_, _||_, cond}
+use mathlib.Core.Bool.{_&&_, cond}
 use lib.Ieee.{Float, lt, le, eq}
-use Rattle.binary64.specs.Leaves.{absolute, minimum}
+use Rattle.binary64.specs.Leaves.{minimum}
 use Rattle.carlson.specs.Constants.{zero, nan-given, below-zero, zeros, zero-given, z-not-above}
 use Rattle.carlson.specs.Checks.{anyNan2, anyNan3, anyNan4, below3, zerosOf3}
 use Rattle.carlson.specs.declared.answer.Answer.{Answer}
 use Rattle.carlson.specs.declared.answer.Answer.the-variants.{Refused}
 use Rattle.sorting.specs.Sorting.{riseXY, rising, three}
-use Rattle.units.specs.Statement.{least, most}
+use Rattle.profile_arguments.specs.Arguments.{plusZero, sized2, sized3, sized4}
 use Rattle.elliprc.specs.Rc.{rc}
 use Rattle.elliprf.specs.Rf.{rf}
 use Rattle.elliprd.specs.Rd.{rd}
@@ -19,23 +19,6 @@ use Rattle.elliprj.specs.Rj.{rjOfPositive}
 -- "23 size outside the profile, infinities included"
 abbrev pub outside-profile : ℕ
 outside-profile = 23
-
--- "-0 becomes +0 first"
-unfoldable pub plusZero : Float → Float
-plusZero x = cond (eq x zero) zero x
-
--- "each argument must be zero or of size from 2 ^ -64 to 2 ^ 64": both ends are in, a NaN is not
-unfoldable pub sized : Float → Bool
-sized x = eq x zero || (le least (absolute x) && le (absolute x) most)
-
-unfoldable pub sized2 : Float → Float → Bool
-sized2 x y = sized x && sized y
-
-unfoldable pub sized3 : Float → Float → Float → Bool
-sized3 x y z = sized2 x y && sized z
-
-unfoldable pub sized4 : Float → Float → Float → Float → Bool
-sized4 x y z p = sized3 x y z && sized p
 
 -- ---- past the zeros' signs: "the base ones first where they rest on arguments alone (1 to 5, in the base order, 1 where NaN is
 -- present and none came earlier), then 23", then the base entry, at the arguments in order

@@ -1,11 +1,5 @@
 // The bench profile (document 02, 2026-14): five entries beside the old ones, whose arguments may stand in any order and in any
-// unit by powers of four. A file an idea: what every argument is held to (`arguments`), and the entries.
-mod arguments;
-
-use crate::arguments::plus_zero;
-use crate::arguments::sized2;
-use crate::arguments::sized3;
-use crate::arguments::sized4;
+// unit by powers of four.
 use binary64::min;
 use carlson::answer::Answer;
 use carlson::checks::any_nan2;
@@ -24,6 +18,10 @@ use elliprd::elliprd;
 use elliprf::elliprf;
 use elliprg::elliprg;
 use elliprj::elliprj_positive;
+use profile_arguments::plus_zero;
+use profile_arguments::sized2;
+use profile_arguments::sized3;
+use profile_arguments::sized4;
 use sorting::Triple;
 use sorting::rise_xy;
 use sorting::rising;

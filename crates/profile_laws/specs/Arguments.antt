@@ -14,7 +14,7 @@ use Rattle.carlson.specs.Constants.{zero}
 use Rattle.units.specs.Arguments.{no-units-of}
 use Rattle.rg_order.specs.Plain.{Plain}
 use Rattle.rg_order.specs.PlainLaws.{told-apart}
-use Rattle.profile.specs.Profile.{plusZero, sized}
+use Rattle.profile_arguments.specs.Arguments.{plusZero, sized}
 
 -- an f64, NaN included
 abbrev pub F64 : Float → Type 0

@@ -8,7 +8,7 @@ use Rattle.carlson.specs.Constants.{zero}
 use Rattle.carlson.specs.Checks.{anyNan2, anyNan3, anyNan4, below3, zerosOf3}
 use Rattle.sorting.specs.declared.Triple.{Triple}
 use Rattle.rg_order.specs.Seen.{at, smaller-below, below3-any}
-use Rattle.profile.specs.Profile.{plusZero, sized, sized2, sized3, sized4}
+use Rattle.profile_arguments.specs.Arguments.{plusZero, sized, sized2, sized3, sized4}
 use Rattle.profile_laws.specs.Arguments.{F64, nan-kept, below-kept, zero-kept, sized-kept}
 
 -- two arguments of which the tests say the same

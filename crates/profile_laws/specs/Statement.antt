@@ -8,7 +8,7 @@ use Rattle.calls.specs.declared.Call.{Call}
 use Rattle.calls.specs.declared.Call.the-variants.{Rc, Rf, Rd, Rg, Rj, Cel}
 use Rattle.answers.specs.Answers.{number}
 use Rattle.units.specs.Statement.{TimesFour}
-use Rattle.profile.specs.Profile.{sized2, sized3, sized4}
+use Rattle.profile_arguments.specs.Arguments.{sized2, sized3, sized4}
 
 -- two calls that differ in the order of the sorted arguments alone: x, y, z of RF, RG and RJ, x and y of RD, none of RC
 pub data Reordered : Call → Call → Type 0 where

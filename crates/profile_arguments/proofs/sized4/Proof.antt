@@ -1,9 +1,9 @@
 -- `sized4` meets its contract, step by step as its definition. Assumes nothing.
 use mathlib.Core.Path.{ap₂, _∙_}
 use mathlib.Core.Bool.{_&&_}
-use Rattle.profile.specs.Profile.{sized4}
-use Rattle.profile.proofs.arguments.sized4.Statement.{statement}
-use Rattle.profile.proofs.arguments.sized4.Tie as tie
+use Rattle.profile_arguments.specs.Arguments.{sized4}
+use Rattle.profile_arguments.proofs.sized4.Statement.{statement}
+use Rattle.profile_arguments.proofs.sized4.Tie as tie
 
 pub sized4-spec : {M : Type 1} → statement M
 unfolding sized4

@@ -1,9 +1,9 @@
 -- `sized3` meets its contract, step by step as its definition. Assumes nothing.
 use mathlib.Core.Path.{ap₂, _∙_}
 use mathlib.Core.Bool.{_&&_}
-use Rattle.profile.specs.Profile.{sized3}
-use Rattle.profile.proofs.arguments.sized3.Statement.{statement}
-use Rattle.profile.proofs.arguments.sized3.Tie as tie
+use Rattle.profile_arguments.specs.Arguments.{sized3}
+use Rattle.profile_arguments.proofs.sized3.Statement.{statement}
+use Rattle.profile_arguments.proofs.sized3.Tie as tie
 
 pub sized3-spec : {M : Type 1} → statement M
 unfolding sized3

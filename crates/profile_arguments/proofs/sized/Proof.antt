@@ -2,9 +2,9 @@
 use mathlib.Core.Path.{sym, ap, _∙_}
 use lib.Ieee.{le}
 use Rattle.units.specs.Statement.{least}
-use Rattle.profile.specs.Profile.{sized}
-use Rattle.profile.proofs.arguments.sized.Statement.{statement}
-use Rattle.profile.proofs.arguments.sized.Tie as tie
+use Rattle.profile_arguments.specs.Arguments.{sized}
+use Rattle.profile_arguments.proofs.sized.Statement.{statement}
+use Rattle.profile_arguments.proofs.sized.Tie as tie
 
 pub sized-spec : {M : Type 1} → statement M
 unfolding sized

@@ -1,8 +1,8 @@
-// What the profile holds every argument to.
+// What the bench profile (document 02, 2026-14) holds every argument to.
 use binary64::abs;
 use carlson::checks::both;
 ghost use mathlib.Core.Path.{_≡_};
-ghost use Rattle.profile.specs.Profile.{plusZero, sized, sized2, sized3, sized4};
+ghost use Rattle.profile_arguments.specs.Arguments.{plusZero, sized, sized2, sized3, sized4};
 
 const LEAST: f64 = 5.421010862427522e-20; // 2 ^ -64
 

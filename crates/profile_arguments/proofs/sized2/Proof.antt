@@ -1,9 +1,9 @@
 -- `sized2` meets its contract, step by step as its definition. Assumes nothing.
 use mathlib.Core.Path.{ap₂, _∙_}
 use mathlib.Core.Bool.{_&&_}
-use Rattle.profile.specs.Profile.{sized2}
-use Rattle.profile.proofs.arguments.sized2.Statement.{statement}
-use Rattle.profile.proofs.arguments.sized2.Tie as tie
+use Rattle.profile_arguments.specs.Arguments.{sized2}
+use Rattle.profile_arguments.proofs.sized2.Statement.{statement}
+use Rattle.profile_arguments.proofs.sized2.Tie as tie
 
 pub sized2-spec : {M : Type 1} → statement M
 unfolding sized2

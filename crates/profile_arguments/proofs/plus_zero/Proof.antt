@@ -1,7 +1,7 @@
 -- `plus_zero` meets its contract: its test is the definition's. Assumes nothing.
-use Rattle.profile.specs.Profile.{plusZero}
-use Rattle.profile.proofs.arguments.plus_zero.Statement.{statement}
-use Rattle.profile.proofs.arguments.plus_zero.Tie as tie
+use Rattle.profile_arguments.specs.Arguments.{plusZero}
+use Rattle.profile_arguments.proofs.plus_zero.Statement.{statement}
+use Rattle.profile_arguments.proofs.plus_zero.Tie as tie
 
 pub plus-zero-spec : {M : Type 1} → statement M
 unfolding plusZero
