@@ -42,7 +42,8 @@ enum gatewren_outcome {
     GATEWREN_NO_ROOM = 17,      /* a job is longer than what is left of the buffer */
     GATEWREN_SEVERAL_INFINITE = 19, /* more than one of cel's arguments is infinite */
     GATEWREN_A_OR_B_INFINITE = 20, /* cel's a or b is infinite */
-    GATEWREN_WRONG_SIGN = 21    /* RJ's p has the wrong sign for this entry */
+    GATEWREN_WRONG_SIGN = 21,   /* RJ's p has the wrong sign for this entry */
+    GATEWREN_OUTSIDE_PROFILE = 23 /* an argument of a profile's entry is neither zero nor of size from 2^-64 to 2^64 */
 };
 
 /* Which formula gave a value. A call that rescales, or hands its whole answer to another function, has that one's road. */
@@ -93,6 +94,33 @@ uint32_t gatewren_rj_negative(double x, double y, double z, double p,
 /* Bulirsch's cel(kc, p, a, b); for p below zero its Cauchy principal value. Returns 0, 1, 4, 6, 19 or 20. */
 uint32_t gatewren_cel(double kc, double p, double a, double b,
                       double *value, uint32_t *rounds, uint32_t *road, uint32_t *rescalings);
+
+/*
+ * The bench profile: x, y, z of RF, RG and RJ in any order, and x, y of RD, with one answer. Every argument must be zero or of
+ * size from 2^-64 to 2^64, RJ's p above zero; -0 is taken for +0, and the entry above answers of the sorted arguments. Two calls
+ * that are in size, the arguments of the second being those of the first times 4^k, are answered alike but for the value's power
+ * of two. As the entries above, with 23 beside their numbers: 23 comes after 1 to 5, and before 21.
+ */
+
+/* RC(x, y). Returns 0, 1, 2, 4, 7 or 23. */
+uint32_t gatewren_profile_rc(double x, double y,
+                             double *value, uint32_t *rounds, uint32_t *road, uint32_t *rescalings);
+
+/* RF(x, y, z). Returns 0, 1, 2, 3, 6 or 23. */
+uint32_t gatewren_profile_rf(double x, double y, double z,
+                             double *value, uint32_t *rounds, uint32_t *road, uint32_t *rescalings);
+
+/* RD(x, y, z). Returns 0, 1, 2, 3, 5, 6, 9 or 23. */
+uint32_t gatewren_profile_rd(double x, double y, double z,
+                             double *value, uint32_t *rounds, uint32_t *road, uint32_t *rescalings);
+
+/* RG(x, y, z). Returns 0, 1, 2, 8, 9 or 23. */
+uint32_t gatewren_profile_rg(double x, double y, double z,
+                             double *value, uint32_t *rounds, uint32_t *road, uint32_t *rescalings);
+
+/* RJ(x, y, z, p) for p above zero. Returns 0, 1, 2, 3, 4, 6, 9, 10, 21 or 23; 21 where p is below zero and all are in size. */
+uint32_t gatewren_profile_rj(double x, double y, double z, double p,
+                             double *value, uint32_t *rounds, uint32_t *road, uint32_t *rescalings);
 
 /*
  * The knee bench: whole micrometres, and micrometres per second squared.
@@ -151,6 +179,31 @@ static inline uint32_t gatewren_rj_negative_answer(double x, double y, double z,
 static inline uint32_t gatewren_cel_answer(double kc, double p, double a, double b, gatewren_answer *answer)
 {
     return gatewren_cel(kc, p, a, b, &answer->value, &answer->rounds, &answer->road, &answer->rescalings);
+}
+
+static inline uint32_t gatewren_profile_rc_answer(double x, double y, gatewren_answer *answer)
+{
+    return gatewren_profile_rc(x, y, &answer->value, &answer->rounds, &answer->road, &answer->rescalings);
+}
+
+static inline uint32_t gatewren_profile_rf_answer(double x, double y, double z, gatewren_answer *answer)
+{
+    return gatewren_profile_rf(x, y, z, &answer->value, &answer->rounds, &answer->road, &answer->rescalings);
+}
+
+static inline uint32_t gatewren_profile_rd_answer(double x, double y, double z, gatewren_answer *answer)
+{
+    return gatewren_profile_rd(x, y, z, &answer->value, &answer->rounds, &answer->road, &answer->rescalings);
+}
+
+static inline uint32_t gatewren_profile_rg_answer(double x, double y, double z, gatewren_answer *answer)
+{
+    return gatewren_profile_rg(x, y, z, &answer->value, &answer->rounds, &answer->road, &answer->rescalings);
+}
+
+static inline uint32_t gatewren_profile_rj_answer(double x, double y, double z, double p, gatewren_answer *answer)
+{
+    return gatewren_profile_rj(x, y, z, p, &answer->value, &answer->rounds, &answer->road, &answer->rescalings);
 }
 
 static inline uint32_t gatewren_swing_answer(uint64_t length, uint64_t height, uint64_t gravity, gatewren_answer *answer)

@@ -1,4 +1,5 @@
-//! The entries: beside the untouched crate's on plain f64. Unless said otherwise arguments are moderate.
+//! The entries: beside the untouched crate's on plain f64; the bench profile's beside our own. Unless said otherwise arguments
+//! are moderate.
 
 use crate::clock::Row;
 use crate::inputs::{between, many, moderate};
@@ -16,8 +17,27 @@ pub fn rows() -> Vec<Row> {
     rows.extend(of_three("RG", ours, |[x, y, z]| elliprg(x, y, z).unwrap_or(0.0)));
     rows.extend(rj());
     rows.extend(cel());
+    rows.extend(profile());
     rows
 }
+
+/// Two of the bench profile's, beside our own base entries and not the crate's: what its tests and its sorting cost.
+fn profile() -> Vec<Row> {
+    let three = symbols::PROFILE_RF.zip(symbols::RF).map(|(ours, base)| {
+        let inputs = many(|r| [moderate(r), moderate(r), moderate(r)]);
+        let asked = |f: Three| move |[x, y, z]: [f64; 3]| value(|v, n, r, s| unsafe { f(x, y, z, v, n, r, s) });
+        Row::new("profile RF, beside RF", inputs, Some(asked(ours)), asked(base))
+    });
+    let four = symbols::PROFILE_RJ.zip(symbols::RJ_POSITIVE).map(|(ours, base)| {
+        let inputs = many(|r| [moderate(r), moderate(r), moderate(r), moderate(r)]);
+        let asked = |f: Four| move |[x, y, z, p]: [f64; 4]| value(|v, n, r, s| unsafe { f(x, y, z, p, v, n, r, s) });
+        Row::new("profile RJ, beside RJ", inputs, Some(asked(ours)), asked(base))
+    });
+    three.into_iter().chain(four).collect()
+}
+
+type Three = unsafe extern "C" fn(f64, f64, f64, *mut f64, *mut u32, *mut u32, *mut u32) -> u32;
+type Four = unsafe extern "C" fn(f64, f64, f64, f64, *mut f64, *mut u32, *mut u32, *mut u32) -> u32;
 
 /// The value of a call through the C interface; 0 for a refusal, which the stated inputs do not meet.
 fn value(call: impl FnOnce(*mut f64, *mut u32, *mut u32, *mut u32) -> u32) -> f64 {

@@ -3,6 +3,7 @@
 import ctypes
 import doctest
 import inspect
+import itertools
 import math
 import operator
 import os
@@ -14,8 +15,10 @@ import unittest
 
 import gatewren
 from gatewren import Refusal, Refused, Road, Value, cel, rc, rd, rf, rg, rj_negative, rj_positive
+from gatewren import profile_rc, profile_rd, profile_rf, profile_rg, profile_rj
 
 INF, NAN = math.inf, math.nan
+PARTED = (1, 2, 5)  # RF of these differs in the last place between the orders x, y, z and z, y, x
 
 
 def of_bits(bits):
@@ -105,6 +108,33 @@ class Examples(unittest.TestCase):
         for answer in (cel(-INF, 1, 1, 1), cel(0.5, -INF, 1, 1)):
             self.assertEqual(answer, Value(0.0, 0, Road.INFINITE, 0))
         self.assertEqual(cel(0.5, INF, -1, 1).value.hex(), (-0.0).hex())
+
+    def test_the_bench_profile(self):
+        """Request 2026-14: one answer in any order and for either zero, in any unit; 1 to 5, then 23, then 21."""
+        x, y, z = PARTED
+        self.assertNotEqual(rf(x, y, z), rf(z, y, x))
+        for order in itertools.permutations((x, y, z)):
+            self.assertEqual(profile_rf(*order), profile_rf(x, y, z))
+            self.assertEqual(profile_rg(*order), profile_rg(x, y, z))
+            self.assertEqual(profile_rj(*order, 3), profile_rj(x, y, z, 3))
+        self.assertEqual(profile_rd(y, x, z), profile_rd(x, y, z))
+        self.assertEqual(profile_rg(-0.0, 0, 0), Value(0.0, 0, Road.CLOSED, 0))
+        self.assertEqual(float(profile_rd(4 * x, 4 * y, 4 * z)), float(profile_rd(x, y, z)) / 8)
+        least, most = 2.0**-64, 2.0**64
+        self.assertIsInstance(profile_rf(least, most, 0), Value)
+        told = [
+            (profile_rf(math.nextafter(least, 0), most, 0), 23),
+            (profile_rf(1, 1, INF), 23),
+            (profile_rf(INF, 0, 0), 3),
+            (profile_rc(NAN, -0.0), 4),
+            (profile_rc(NAN, 1e300), 1),
+            (profile_rd(1e300, 1, 0), 5),
+            (profile_rj(1, 1, 1, -0.0), 4),
+            (profile_rj(1, 1, 1, -INF), 23),
+            (profile_rj(1, 1, 1, -1), 21),
+        ]
+        for answer, number in told:
+            self.assertEqual(answer, Refused(number))
 
     def test_no_10(self):
         tiny = of_bits(1)
@@ -240,7 +270,7 @@ class Answers(unittest.TestCase):
             rf(-1, 1, 1).value = 1.0
 
     def test_every_number_has_a_meaning(self):
-        self.assertEqual([refusal.value for refusal in Refusal], [*range(1, 18), 19, 20, 21])
+        self.assertEqual([refusal.value for refusal in Refusal], [*range(1, 18), 19, 20, 21, 23])
         for number in (0, 18):
             with self.assertRaises(ValueError):
                 Refused(number)
@@ -251,6 +281,7 @@ class Interface(unittest.TestCase):
 
     ENTRIES = [("rc", (-1.0, 1.0)), ("rf", (-1.0, 1.0, 1.0)), ("rd", (-1.0, 1.0, 1.0)), ("rg", (-1.0, 1.0, 1.0))]
     ENTRIES += [("rj_positive", (-1.0, 1.0, 1.0, 1.0)), ("rj_negative", (-1.0, 1.0, 1.0, -1.0))]
+    ENTRIES += [(f"profile_{name}", arguments) for name, arguments in ENTRIES[:4]] + [("profile_rj", (-1.0, 1.0, 1.0, 1.0))]
 
     def test_a_refusal_touches_no_place(self):
         for name, arguments in self.ENTRIES:
@@ -263,6 +294,7 @@ class Interface(unittest.TestCase):
         header = pathlib.Path(__file__).resolve().parents[2] / "include" / "gatewren.h"
         text = header.read_text()
         names = ["rc", "rf", "rd", "rg", "rj_positive", "rj_negative", "sqrt", "mul_add", "pow_neg_3_2", "atan", "ln", "ln_1p", "swing", "steps"]
+        names += [f"profile_{name}" for name in ("rc", "rf", "rd", "rg", "rj")]
         for name in names:
             self.assertIn(f"gatewren_{name}(", text)
         for refusal in Refusal:

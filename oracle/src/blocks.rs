@@ -8,6 +8,9 @@ use crate::lists::runs::examples;
 use crate::random::Random;
 use std::path::PathBuf;
 
+/// Those whose loops differ: the profile's is the listing's.
+const PROGRAMS: [Program; 3] = [Program::Listing, Program::Swing, Program::Steps];
+
 /// What a program reads at once, at the least (the listing reads twice as much), and about how long an input is.
 const BLOCK: usize = 1024;
 const LENGTH: usize = 6 * BLOCK - 100;
@@ -36,7 +39,7 @@ fn input(program: Program) -> Vec<u8> {
 /// How far before a border the line across it begins.
 fn lead(program: Program) -> usize {
     match program {
-        Program::Listing => 30,
+        Program::Listing | Program::Profile => 30,
         Program::Swing => 6,
         Program::Steps => 3,
     }
@@ -63,7 +66,7 @@ fn push(text: &mut Vec<u8>, line: Vec<u8>) {
 
 /// The files: their names, and what they hold.
 fn files() -> Vec<(String, Vec<u8>)> {
-    let of_lines = Program::ALL.map(|program| {
+    let of_lines = PROGRAMS.map(|program| {
         let text = input(program);
         let replies = program.replies(&text);
         (format!("{}.txt", program.name()), text, replies)
@@ -101,7 +104,7 @@ mod tests {
 
     #[test]
     fn what_they_hold() {
-        for program in Program::ALL {
+        for program in PROGRAMS {
             let text = input(program);
             assert!(text.len() > 5 * BLOCK && text.len() < 6 * BLOCK && !text.ends_with(b"\n"));
             assert!(

@@ -1,4 +1,4 @@
-//! `fuzz`: good lines, mutated lines and noise through each of the three programs that answer lines, and good lists, mutated
+//! `fuzz`: good lines, mutated lines and noise through each of the four programs that answer lines, and good lists, mutated
 //! lists and noise through `unpack` (`lists/runs.rs`), against what the oracle's own readers make of them.
 
 mod calls;
@@ -8,7 +8,9 @@ pub mod numbers;
 use crate::call::Entry;
 use crate::lines::Program;
 use crate::lists;
+use crate::profile;
 use crate::random::Random;
+use crate::shapes;
 use std::io::Write;
 use std::process::Stdio;
 use std::time::{Duration, Instant};
@@ -17,7 +19,12 @@ const LINES: u64 = 2000;
 
 /// What can be made of a program's lines; the first is a line as it should be.
 fn kinds(program: Program) -> Vec<&'static str> {
-    let own: &[&str] = if program == Program::Listing { &calls::KINDS } else { &numbers::KINDS };
+    let own: &[&str] = match program {
+        // calls of cel are good lines of the listing, and bad ones of the profile
+        Program::Listing => &calls::KINDS[..calls::KINDS.len() - 1],
+        Program::Profile => &calls::KINDS,
+        Program::Swing | Program::Steps => &numbers::KINDS,
+    };
     [&["a good line"], &mutate::KINDS[..], own].concat()
 }
 
@@ -33,7 +40,7 @@ pub fn piece(program: Program, entries: &[Entry], random: &mut Random) -> (usize
             let another = |random: &mut Random| good(program, entries, random);
             mutate::made(random, kind - 1, line, another)
         }
-        (kind, Program::Listing) => calls::made(random, kind - own, line),
+        (kind, Program::Listing | Program::Profile) => calls::made(random, kind - own, line),
         (kind, _) => numbers::made(random, kind - own, line, program),
     };
     (kind, made)
@@ -42,7 +49,8 @@ pub fn piece(program: Program, entries: &[Entry], random: &mut Random) -> (usize
 /// A line as it should be.
 pub fn good(program: Program, entries: &[Entry], random: &mut Random) -> Vec<u8> {
     match program {
-        Program::Listing => calls::good(entries, random),
+        Program::Listing => calls::good(entries, random, shapes::draw),
+        Program::Profile => calls::good(&Entry::CARLSON, random, profile::draw::draw),
         _ => numbers::good(random, program),
     }
 }
@@ -85,7 +93,7 @@ impl Counts {
 
 /// So many seconds for each program.
 pub fn run(seconds: u64, seed: u64) -> bool {
-    let lines = Program::ALL.map(|program| fuzzed(program, seconds, seed)) == [true; 3];
+    let lines = Program::ALL.map(|program| fuzzed(program, seconds, seed)) == [true; 4];
     lists::runs::fuzz(seconds, seed) && lines
 }
 

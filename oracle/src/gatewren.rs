@@ -35,6 +35,34 @@ pub fn answer(call: &Call) -> Option<Answer> {
     }
 }
 
+/// What the bench profile says; nothing where it is not linked or where a refusal touched a place.
+pub fn by_profile(call: &Call) -> Option<Answer> {
+    match (call.entry, call.args()) {
+        (Entry::RC, &[x, y]) => {
+            let rc = symbols::PROFILE_RC?;
+            told(|v, n, r, s| unsafe { rc(x, y, v, n, r, s) })
+        }
+        (Entry::RJ, &[x, y, z, p]) => {
+            let rj = symbols::PROFILE_RJ?;
+            told(|v, n, r, s| unsafe { rj(x, y, z, p, v, n, r, s) })
+        }
+        (entry, &[x, y, z]) => {
+            let three = match entry {
+                Entry::RF => symbols::PROFILE_RF?,
+                Entry::RD => symbols::PROFILE_RD?,
+                _ => symbols::PROFILE_RG?,
+            };
+            told(|v, n, r, s| unsafe { three(x, y, z, v, n, r, s) })
+        }
+        _ => unreachable!("a call has its entry's number of arguments"),
+    }
+}
+
+/// Its five symbols are one group.
+pub fn has_profile() -> bool {
+    symbols::PROFILE_RC.is_some()
+}
+
 /// Document 02, 2026-10: what the entry for the other sign must say. 1 and 4 come before its 21, so that a NaN or zero p is refused
 /// alike by both.
 fn of_the_wrong_sign(x: f64, y: f64, z: f64, p: f64) -> Answer {

@@ -1,7 +1,8 @@
-//! What the three programs that read lines must print: readers and writers of the oracle's own, from document 01's listing and
+//! What the four programs that read lines must print: readers and writers of the oracle's own, from document 01's listing and
 //! from docs/DECISIONS.md, "The swing's lines".
 
-use crate::call::{shown, Call};
+use crate::call::{shown, Call, Entry};
+use crate::profile;
 use crate::swing::{judged, summed};
 use doc01::Answer;
 use std::path::{Path, PathBuf};
@@ -12,17 +13,19 @@ use std::sync::OnceLock;
 #[derive(Clone, Copy, Debug, PartialEq, Eq)]
 pub enum Program {
     Listing,
+    Profile,
     Swing,
     Steps,
 }
 
 impl Program {
-    pub const ALL: [Program; 3] = [Program::Listing, Program::Swing, Program::Steps];
+    pub const ALL: [Program; 4] = [Program::Listing, Program::Profile, Program::Swing, Program::Steps];
 
     /// As `./gatewren` calls it.
     pub fn name(self) -> &'static str {
         match self {
             Program::Listing => "listing",
+            Program::Profile => "profile",
             Program::Swing => "swing",
             Program::Steps => "steps",
         }
@@ -30,7 +33,11 @@ impl Program {
 
     /// Where it was built.
     pub fn path(self) -> PathBuf {
-        let crate_name = if self == Program::Swing { "swings" } else { self.name() };
+        let crate_name = match self {
+            Program::Profile => "profiles",
+            Program::Swing => "swings",
+            Program::Listing | Program::Steps => self.name(),
+        };
         root().join("target/bin").join(crate_name)
     }
 
@@ -42,6 +49,7 @@ impl Program {
     pub fn takes(self, line: &[u8]) -> bool {
         match self {
             Program::Listing => call(line).is_some(),
+            Program::Profile => profile_call(line).is_some(),
             Program::Swing => matches!(numbers(line).as_deref(), Some([_, _, _])),
             Program::Steps => matches!(numbers(line).as_deref(), Some([0..=65535])),
         }
@@ -50,7 +58,8 @@ impl Program {
     /// All that it must print.
     pub fn replies(self, input: &[u8]) -> Vec<u8> {
         match self {
-            Program::Listing => listing(input),
+            Program::Listing => listing(input, "carlson 2", call, |call| call.judged().answer),
+            Program::Profile => listing(input, "profile 1", profile_call, profile::judged),
             Program::Swing => swing(input),
             Program::Steps => steps(input),
         }
@@ -95,11 +104,16 @@ fn numbers(line: &[u8]) -> Option<Vec<u64>> {
     std::str::from_utf8(line).ok()?.split(' ').map(number).collect()
 }
 
-fn listing(input: &[u8]) -> String {
-    let mut text = "carlson 2\n".to_string();
+/// Document 02, 2026-14: a call of the profile; cel's are none.
+fn profile_call(line: &[u8]) -> Option<Call> {
+    call(line).filter(|call| call.entry != Entry::CEL)
+}
+
+fn listing(input: &[u8], header: &str, read: fn(&[u8]) -> Option<Call>, answer: impl Fn(&Call) -> Answer) -> String {
+    let mut text = format!("{header}\n");
     for line in lines(input) {
-        text += &match call(line) {
-            Some(call) => format!("{:?} {}\n", call.entry, shown(call.judged().answer)),
+        text += &match read(line) {
+            Some(call) => format!("{:?} {}\n", call.entry, shown(answer(&call))),
             None => "bad line\n".to_string(),
         };
     }
@@ -200,7 +214,7 @@ mod tests {
     /// The fixtures that the proved programs are run on by rt.
     #[test]
     fn fixtures() {
-        for (program, crate_name) in [(Program::Swing, "swings"), (Program::Steps, "steps")] {
+        for (program, crate_name) in [(Program::Profile, "profiles"), (Program::Swing, "swings"), (Program::Steps, "steps")] {
             let file =
                 |name| std::fs::read(root().join("crates").join(crate_name).join(name)).expect("a program has its fixture");
             assert_eq!(program.replies(&file("stdin")), file("stdout"), "{crate_name}");

@@ -18,6 +18,7 @@ mod list;
 mod listing;
 mod lists;
 mod orders;
+mod profile;
 mod random;
 mod rescale;
 mod shapes;
@@ -31,8 +32,8 @@ mod units_list;
 use std::process::ExitCode;
 
 const USAGE: &str = "oracle examples | make-list | check-list | call | diff N [SEED] | leaf NAME N [SEED] | cases NAME N [SEED] |
-       answers NAME | compare N [SEED [THREADS]] | units N [SEED] | orders N [SEED] | effect N [SEED] | swing N [SEED] |
-       fuzz SECONDS [SEED] | lists N [SEED] | round N [SEED] | cel N [SEED] | make-units | make-blocks";
+       answers NAME | compare N [SEED [THREADS]] | units N [SEED] | orders N [SEED] | profile N [SEED] | effect N [SEED] |
+       swing N [SEED] | fuzz SECONDS [SEED] | lists N [SEED] | round N [SEED] | cel N [SEED] | make-units | make-blocks";
 
 fn main() -> ExitCode {
     let words: Vec<String> = std::env::args().skip(1).collect();
@@ -53,6 +54,8 @@ fn main() -> ExitCode {
         ["units", n, seed] => rescale::run(number(n), number(seed)),
         ["orders", n] => orders::run(number(n), 1),
         ["orders", n, seed] => orders::run(number(n), number(seed)),
+        ["profile", n] => profile::run(number(n), 1),
+        ["profile", n, seed] => profile::run(number(n), number(seed)),
         ["make-units"] => units_list::make(),
         ["make-blocks"] => blocks::make(),
         ["fuzz", seconds] => fuzz::run(number(seconds), 1),

@@ -9,7 +9,7 @@ use doc01::Answer;
 use std::collections::BTreeMap;
 use std::time::Instant;
 
-const ORDERS: [[usize; 3]; 6] = [[0, 1, 2], [0, 2, 1], [1, 0, 2], [1, 2, 0], [2, 0, 1], [2, 1, 0]];
+pub const ORDERS: [[usize; 3]; 6] = [[0, 1, 2], [0, 2, 1], [1, 0, 2], [1, 2, 0], [2, 0, 1], [2, 1, 0]];
 
 /// What request 2026-13 speaks of.
 fn plain(arg: f64) -> bool {

@@ -21,7 +21,7 @@ fn weight(entry: Entry) -> i64 {
 }
 
 /// Exact: the arguments are zeros, or normal before and after.
-fn scaled(call: &Call, k: i64) -> Call {
+pub fn scaled(call: &Call, k: i64) -> Call {
     let args: Vec<f64> = call.args().iter().map(|arg| arg * power_of_two(2 * k)).collect();
     Call::new(call.entry, &args)
 }
@@ -36,7 +36,7 @@ fn times(value: u64, by: i64) -> Option<u64> {
     (normal(field(value)) && normal(field(value) + by)).then(|| value.wrapping_add_signed(by << 52))
 }
 
-fn alike(entry: Entry, k: i64, first: Answer, second: Answer) -> bool {
+pub fn alike(entry: Entry, k: i64, first: Answer, second: Answer) -> bool {
     match (first, second) {
         (Answer::Refused(one), Answer::Refused(other)) => one == other,
         (Answer::Value(v, way), Answer::Value(w, again)) => way == again && times(v, weight(entry) * k) == Some(w),

@@ -38,6 +38,15 @@ linked! {
     "lib-cel" CEL = gatewren_cel(f64, f64, f64, f64, *mut f64, *mut u32, *mut u32, *mut u32) -> u32;
 }
 
+// Request 2026-14: the bench profile's, likewise.
+linked! {
+    "lib-profile" PROFILE_RC = gatewren_profile_rc(f64, f64, *mut f64, *mut u32, *mut u32, *mut u32) -> u32;
+    "lib-profile" PROFILE_RF = gatewren_profile_rf(f64, f64, f64, *mut f64, *mut u32, *mut u32, *mut u32) -> u32;
+    "lib-profile" PROFILE_RD = gatewren_profile_rd(f64, f64, f64, *mut f64, *mut u32, *mut u32, *mut u32) -> u32;
+    "lib-profile" PROFILE_RG = gatewren_profile_rg(f64, f64, f64, *mut f64, *mut u32, *mut u32, *mut u32) -> u32;
+    "lib-profile" PROFILE_RJ = gatewren_profile_rj(f64, f64, f64, f64, *mut f64, *mut u32, *mut u32, *mut u32) -> u32;
+}
+
 // Request 2026-01: likewise; a log's readings go as a pointer and a length.
 linked! {
     "lib-swing" SWING = gatewren_swing(u64, u64, u64, *mut f64, *mut u32, *mut u32, *mut u32) -> u32;

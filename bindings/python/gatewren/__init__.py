@@ -1,5 +1,6 @@
-"""Gatewren for Python: Carlson's elliptic integrals rc, rf, rd, rg, rj_positive, rj_negative, Bulirsch's cel, the leaves they
-stand on, the knee bench's swing time and step log, and the packed work lists of its controller.
+"""Gatewren for Python: Carlson's elliptic integrals rc, rf, rd, rg, rj_positive, rj_negative, Bulirsch's cel, the bench's profile
+of them (profile_rf and its like), the leaves they stand on, the knee bench's swing time and step log, and the packed work lists
+of its controller.
 
 What is called is the proved library as a shared object, which `./gatewren shared` builds and `pip install` takes along;
 GATEWREN_SO may name another place.
@@ -26,6 +27,7 @@ from collections.abc import Callable, Iterable
 from typing import NamedTuple, NoReturn, SupportsFloat, SupportsIndex
 
 __all__ = ["Refusal", "Road", "Answer", "Value", "Total", "Refused", "rc", "rf", "rd", "rg", "rj_positive", "rj_negative", "cel"]
+__all__ += ["profile_rc", "profile_rf", "profile_rd", "profile_rg", "profile_rj"]
 __all__ += ["Job", "ReadList", "read_list", "write_list", "swing", "steps", "sqrt", "mul_add", "pow_neg_3_2", "atan", "ln", "ln_1p"]
 
 __version__ = "0.4.0"
@@ -54,6 +56,7 @@ class Refusal(enum.Enum):
     SEVERAL_INFINITE = 19  # more than one of cel's arguments is infinite
     A_OR_B_INFINITE = 20  # cel's a or b is infinite
     WRONG_SIGN = 21  # RJ's p has the wrong sign for this entry
+    OUTSIDE_PROFILE = 23  # an argument of a profile's entry is neither zero nor of size from 2^-64 to 2^64
 
 
 class Road(enum.Enum):
@@ -203,6 +206,11 @@ _RG = _entry("rg", [_DOUBLE] * 3)
 _RJ_POSITIVE = _entry("rj_positive", [_DOUBLE] * 4)
 _RJ_NEGATIVE = _entry("rj_negative", [_DOUBLE] * 4)
 _CEL = _entry("cel", [_DOUBLE] * 4)
+_PROFILE_RC = _entry("profile_rc", [_DOUBLE] * 2)
+_PROFILE_RF = _entry("profile_rf", [_DOUBLE] * 3)
+_PROFILE_RD = _entry("profile_rd", [_DOUBLE] * 3)
+_PROFILE_RG = _entry("profile_rg", [_DOUBLE] * 3)
+_PROFILE_RJ = _entry("profile_rj", [_DOUBLE] * 4)
 _SWING = _entry("swing", [ctypes.c_uint64] * 3)
 _STEPS = _symbol("steps", [ctypes.POINTER(ctypes.c_uint64), ctypes.POINTER(ctypes.c_uint16), ctypes.c_size_t], ctypes.c_uint32)
 _JOB = ctypes.c_uint64 * 5
@@ -301,6 +309,60 @@ def cel(kc: SupportsFloat, p: SupportsFloat, a: SupportsFloat, b: SupportsFloat)
     Refused(Refusal.ZERO_GIVEN)
     """
     return _CEL(_DOUBLE(kc), _DOUBLE(p), _DOUBLE(a), _DOUBLE(b))
+
+
+# The bench profile: arguments in any order and in any unit by powers of four, each zero or of size from 2^-64 to 2^64.
+
+
+def profile_rc(x: SupportsFloat, y: SupportsFloat) -> Value | Refused:
+    """RC(x, y) of the bench profile.
+
+    >>> profile_rc(0, 1) == rc(0, 1)
+    True
+    >>> profile_rc(1e300, 1)
+    Refused(Refusal.OUTSIDE_PROFILE)
+    """
+    return _PROFILE_RC(_DOUBLE(x), _DOUBLE(y))
+
+
+def profile_rf(x: SupportsFloat, y: SupportsFloat, z: SupportsFloat) -> Value | Refused:
+    """RF(x, y, z) of the bench profile, the same in any order.
+
+    >>> profile_rf(1, 0.5, 0.25) == profile_rf(0.25, 1, 0.5)
+    True
+    >>> profile_rf(1, 0.5, float("inf"))
+    Refused(Refusal.OUTSIDE_PROFILE)
+    """
+    return _PROFILE_RF(_DOUBLE(x), _DOUBLE(y), _DOUBLE(z))
+
+
+def profile_rd(x: SupportsFloat, y: SupportsFloat, z: SupportsFloat) -> Value | Refused:
+    """RD(x, y, z) of the bench profile, the same with x and y exchanged.
+
+    >>> profile_rd(1, 0.5, 0.25) == profile_rd(0.5, 1, 0.25)
+    True
+    """
+    return _PROFILE_RD(_DOUBLE(x), _DOUBLE(y), _DOUBLE(z))
+
+
+def profile_rg(x: SupportsFloat, y: SupportsFloat, z: SupportsFloat) -> Value | Refused:
+    """RG(x, y, z) of the bench profile, the same in any order, -0 being +0.
+
+    >>> profile_rg(-0.0, 0, 0)
+    Value(value=0.0, rounds=0, road=Road.CLOSED, rescalings=0)
+    """
+    return _PROFILE_RG(_DOUBLE(x), _DOUBLE(y), _DOUBLE(z))
+
+
+def profile_rj(x: SupportsFloat, y: SupportsFloat, z: SupportsFloat, p: SupportsFloat) -> Value | Refused:
+    """RJ(x, y, z, p) of the bench profile for p above zero, the same in any order of x, y and z.
+
+    >>> profile_rj(1, 0.5, 0.25, 2) == profile_rj(0.5, 0.25, 1, 2)
+    True
+    >>> profile_rj(1, 0.5, 0.25, -2)
+    Refused(Refusal.WRONG_SIGN)
+    """
+    return _PROFILE_RJ(_DOUBLE(x), _DOUBLE(y), _DOUBLE(z), _DOUBLE(p))
 
 
 # The knee bench.

@@ -32,16 +32,8 @@ pub enum Road {
 }
 
 impl Road {
-    const ALL: [Road; 8] = [
-        Road::Closed,
-        Road::Infinite,
-        Road::Agm,
-        Road::Duplication,
-        Road::Joint,
-        Road::Taylor,
-        Road::Reduction,
-        Road::Loop,
-    ];
+    const ALL: [Road; 8] =
+        [Road::Closed, Road::Infinite, Road::Agm, Road::Duplication, Road::Joint, Road::Taylor, Road::Reduction, Road::Loop];
 
     fn of(number: u32) -> Option<Road> {
         Road::ALL.into_iter().find(|road| *road as u32 == number)
@@ -127,6 +119,7 @@ refusals! {
     SeveralInfinite = 19, "more than one of cel's arguments is infinite";
     AOrBInfinite = 20, "cel's a or b is infinite";
     WrongSign = 21, "p has the wrong sign for this entry";
+    OutsideProfile = 23, "an argument is neither zero nor of size from 2^-64 to 2^64";
 }
 
 impl Refusal {

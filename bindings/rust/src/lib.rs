@@ -1,6 +1,7 @@
 //! Gatewren for Rust: Carlson's elliptic integrals [`rc`], [`rf`], [`rd`], [`rg`] and RJ as [`rj_positive`] and
-//! [`rj_negative`], Bulirsch's [`cel`], the [`leaf`] functions they stand on, the knee [`bench`]'s swing time and step log, and
-//! the packed [`WorkList`] of its controller. What is called is the proved library, libgatewren.a; here is only its dress.
+//! [`rj_negative`], Bulirsch's [`cel`], the bench's [`profile`] of them, the [`leaf`] functions they stand on, the knee
+//! [`bench`]'s swing time and step log, and the packed [`WorkList`] of its controller. What is called is the proved library,
+//! libgatewren.a; here is only its dress.
 //!
 //! ```
 //! use gatewren::{rf, Answer, Refusal, Road};
@@ -13,6 +14,7 @@ mod answer;
 pub mod bench;
 mod entries;
 pub mod leaf;
+pub mod profile;
 mod symbols;
 mod work_list;
 

@@ -17,6 +17,11 @@ extern "C" {
     entry!(gatewren_rj_positive(x: f64, y: f64, z: f64, p: f64));
     entry!(gatewren_rj_negative(x: f64, y: f64, z: f64, p: f64));
     entry!(gatewren_cel(kc: f64, p: f64, a: f64, b: f64));
+    entry!(gatewren_profile_rc(x: f64, y: f64));
+    entry!(gatewren_profile_rf(x: f64, y: f64, z: f64));
+    entry!(gatewren_profile_rd(x: f64, y: f64, z: f64));
+    entry!(gatewren_profile_rg(x: f64, y: f64, z: f64));
+    entry!(gatewren_profile_rj(x: f64, y: f64, z: f64, p: f64));
     entry!(gatewren_swing(length: u64, height: u64, gravity: u64));
     pub fn gatewren_steps(total: &mut u64, readings: *const u16, n: usize) -> u32;
     pub fn gatewren_write_job(bytes: *mut u8, length: usize, place: &mut usize, job: &Job) -> u32;

@@ -1,9 +1,11 @@
 //! Document 01's settled and printed examples, and the leaves at a few points, through the binding.
 
-use gatewren::{bench, cel, leaf, rc, rd, rf, rg, rj_negative, rj_positive, Answer, Job, Refusal, Road, WorkList};
+use gatewren::{bench, cel, leaf, profile, rc, rd, rf, rg, rj_negative, rj_positive, Answer, Job, Refusal, Road, WorkList};
 
 const INF: f64 = f64::INFINITY;
 const NAN: f64 = f64::NAN;
+/// RF of these differs in the last place between the orders (x, y, z) and (z, y, x).
+const PARTED: (f64, f64, f64) = (1.0, 2.0, 5.0);
 
 fn value(bits: u64) -> Answer {
     by(Road::Closed, bits, 0, 0)
@@ -88,7 +90,7 @@ fn roads_and_rescalings() {
 #[test]
 fn every_number_has_a_meaning() {
     let numbers: Vec<u32> = Refusal::ALL.iter().map(|refusal| refusal.number()).collect();
-    assert_eq!(numbers, (1..=17).chain([19, 20, 21]).collect::<Vec<u32>>());
+    assert_eq!(numbers, (1..=17).chain([19, 20, 21, 23]).collect::<Vec<u32>>());
     assert!(Refusal::ALL.iter().all(|&refusal| Refusal::of(refusal.number()) == Some(refusal)));
     assert_eq!(Refusal::of(0), None);
     assert_eq!(Refusal::of(18), None);
@@ -119,7 +121,8 @@ fn cel_in_its_order() {
 #[test]
 fn rj_in_two() {
     let no = |number| Answer::Refused(Refusal::of(number).unwrap());
-    for (x, p, wanted) in [(NAN, -1.0, no(1)), (1.0, NAN, no(1)), (-1.0, -0.0, no(4)), (-1.0, -1.0, no(21)), (1.0, -INF, no(21))] {
+    for (x, p, wanted) in [(NAN, -1.0, no(1)), (1.0, NAN, no(1)), (-1.0, -0.0, no(4)), (-1.0, -1.0, no(21)), (1.0, -INF, no(21))]
+    {
         same(rj_positive(x, 1.0, 1.0, p), wanted);
     }
     for (x, p, wanted) in [(NAN, 1.0, no(1)), (1.0, NAN, no(1)), (-1.0, 0.0, no(4)), (-1.0, 1.0, no(21)), (1.0, INF, no(21))] {
@@ -127,6 +130,34 @@ fn rj_in_two() {
     }
     same(rj_positive(1.0, 1.0, 1.0, INF), by(Road::Infinite, 0, 0, 0));
     same(rj_negative(-1.0, 1.0, 1.0, -1.0), no(2));
+}
+
+/// Request 2026-14: one answer in any order and for either zero, in any unit; 1 to 5, then 23, then 21.
+#[test]
+fn the_bench_profile() {
+    let no = |number| Answer::Refused(Refusal::of(number).unwrap());
+    let (x, y, z) = PARTED;
+    assert_ne!(rf(x, y, z), rf(z, y, x));
+    for (a, b, c) in [(x, z, y), (y, x, z), (y, z, x), (z, x, y), (z, y, x)] {
+        same(profile::rf(a, b, c), profile::rf(x, y, z));
+        same(profile::rg(a, b, c), profile::rg(x, y, z));
+        same(profile::rj(a, b, c, 3.0), profile::rj(x, y, z, 3.0));
+    }
+    same(profile::rd(y, x, z), profile::rd(x, y, z));
+    same(profile::rg(-0.0, 0.0, 0.0), value(0));
+    assert_eq!(profile::rd(x, y, z).value().map(|v| v / 8.0), profile::rd(4.0 * x, 4.0 * y, 4.0 * z).value());
+    let (least, most) = (2f64.powi(-64), 2f64.powi(64));
+    assert!(profile::rf(least, most, 0.0).value().is_ok());
+    same(profile::rf(f64::from_bits(least.to_bits() - 1), most, 0.0), no(23));
+    same(profile::rf(1.0, 1.0, INF), no(23));
+    same(profile::rf(INF, 0.0, 0.0), no(3));
+    same(profile::rc(1.0, -2.0), rc(1.0, -2.0));
+    same(profile::rc(NAN, -0.0), no(4));
+    same(profile::rc(NAN, 1e300), no(1));
+    same(profile::rd(1e300, 1.0, 0.0), no(5));
+    same(profile::rj(1.0, 1.0, 1.0, -0.0), no(4));
+    same(profile::rj(1.0, 1.0, 1.0, -INF), no(23));
+    same(profile::rj(1.0, 1.0, 1.0, -1.0), no(21));
 }
 
 #[test]

@@ -3,6 +3,7 @@ mod entries;
 mod fused_leaf;
 mod leaves;
 mod power_leaf;
+mod profile_entries;
 mod series_leaf;
 mod swing_layer;
 mod work_lists;

@@ -1,4 +1,4 @@
-// The listing's replies (document 01): a line to its reply, the input as it comes.
+// The listing's replies (document 01), by the base's entries or the bench profile's: a line to its reply, the input as it comes.
 mod replies;
 mod stream;
 

@@ -29,7 +29,8 @@ ghost use Rattle.writing.specs.Written.{Put, Tried};
 // No reply is longer, its end counted.
 pub const LONGEST: usize = 55;
 
-fn is_cel(call: Call) -> bool
+// The one call whose name is not an R and a letter.
+pub fn is_cel(call: Call) -> bool
     ensures { λ r. ⌜ r ≡ isCel call ⌝ }
 {
     match call {

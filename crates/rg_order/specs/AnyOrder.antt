@@ -33,8 +33,8 @@ pub rg-any-order : {x y z x' y' z' : Float} → Permuted (three x y z) (three x'
 unfolding rg rgUnchecked
 rg-any-order {x} {y} {z} {x'} {y'} {z'} p a b c =
     let e : Each Plain (three x y z) = record { x = a; y = b; z = c } in
-    choose _≡_ (below3 x y z) (below3 x' y' z') (below3-permuted p e) (λ h. refl)
-    (λ h. ap₂ rgSettled (rescaling-permuted p e timesRoot rgSteps steps-permuted h) (nan-permuted p e))
+    choose _≡_ (below3 x y z) (below3 x' y' z') (below3-permuted p) (λ h. refl)
+    (λ h. ap₂ rgSettled (rescaling-permuted p e timesRoot rgSteps steps-permuted h) (nan-permuted p))
 
 -- ---- with a -0 it is false: no zero is below another, and the root of the one that comes first is the answer
 pub first-zero : (rg (neg zero) zero zero ≡ Value (closedAt (neg zero))) × (rg zero (neg zero) zero ≡ Value (closedAt zero))

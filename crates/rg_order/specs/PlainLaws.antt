@@ -11,7 +11,7 @@ use lib.Dec.{T, ltb}
 use lib.Ieee.{Float, nan, inf, fin, binary64, up, down, odd, units, round, fits, isNan, lt, neg, div, below, ofBits}
 use lib.Ieee.Fits.{inf-fits, div-fits, round-is}
 use lib.Ieee.Scale.{finite}
-use Rattle.binary64.specs.Leaves.{absolute, maximum, minimum}
+use Rattle.binary64.specs.Leaves.{absolute, maximum}
 use Rattle.binary64.specs.Operators.{_⊘_}
 use Rattle.scaling.specs.Units.{Is, unique, lt-units, neg-units}
 use Rattle.scaling.specs.One.{sign, abs-units}
@@ -87,10 +87,6 @@ size-plain (fin s m e) p =
 pub larger-plain : {x y : Float} → Plain x → Plain y → Plain (maximum x y)
 unfolding maximum
 larger-plain {x} {y} p q = chosen Plain (isNan x) q (chosen Plain (lt x y) q p)
-
-pub smaller-plain : {x y : Float} → Plain x → Plain y → Plain (minimum x y)
-unfolding minimum
-smaller-plain {x} {y} p q = chosen Plain (isNan x) q (chosen Plain (lt y x) q p)
 
 -- ---- over a scale
 -- what is not below zero has no sign

@@ -1,9 +1,9 @@
 -- What RG sees of its arguments before it sorts them is the same in any order: whether one is below zero, whether one is NaN,
 -- the scale, and whether they are rescaled. Assumes nothing.
 use mathlib.Core.Path.{_≡_, refl, sym, ap, _∙_, subst}
-use mathlib.Core.Bool.{Bool, true, false, not, _&&_, _||_, cond, and-assoc, and-comm, or-assoc, or-comm}
+use mathlib.Core.Bool.{Bool, true, false, not, _&&_, _||_, cond, and-assoc, and-comm, or-assoc, or-comm, true≢false}
 use lib.Dec.{T}
-use lib.Ieee.{Float, isNan, lt}
+use lib.Ieee.{Float, nan, inf, fin, isNan, lt}
 use lib.Ieee.Bits.{is-true, is-false}
 use lib.Ieee.Fits.{and-l, and-r}
 use lib.Ieee.Scale.{finite}
@@ -20,7 +20,7 @@ use Rattle.sorting.specs.Order.{lt-once, not-below-through}
 use Rattle.sorting.specs.Sorting.{Permuted}
 use Rattle.sorting.specs.Permuted.{Each, each-permuted, mapped, mapped-permuted, joined-permuted, same-below}
 use Rattle.rg_order.specs.Plain.{Plain}
-use Rattle.rg_order.specs.PlainLaws.{told-apart, size-plain, larger-plain, smaller-plain, quotient-plain}
+use Rattle.rg_order.specs.PlainLaws.{told-apart, size-plain, larger-plain, quotient-plain}
 
 -- a function of three arguments, of three values
 abbrev pub at : {A : Type 0} → (Float → Float → Float → A) → Triple → A
@@ -36,16 +36,36 @@ and-last : (p q : Bool) → (p ≡ false → q ≡ false) → q ≡ (p && q)
 and-last true q h = refl
 and-last false q h = h refl
 
-module _ {x y : Float} (p : Plain x) (q : Plain y) (v : Float) where
-  smaller-below : lt (minimum x y) v ≡ (lt x v || lt y v)
-  unfolding minimum
-  smaller-below = rw (p .number) (go (lt y x) refl)
-    where
-      go : (b : Bool) → lt y x ≡ b → lt (cond b y x) v ≡ (lt x v || lt y v)
-      go true e =
-          or-first (lt y v) (lt x v) (λ h. not-below-through v y x (q .number) h (lt-once y x e)) ∙ or-comm (lt y v) (lt x v)
-      go false e = or-first (lt x v) (lt y v) (λ h. not-below-through v x y (p .number) h e)
+-- a NaN is below nothing
+nan-below : (x v : Float) → isNan x ≡ true → lt x v ≡ false
+unfolding isNan lt
+nan-below nan v n = refl
+nan-below (inf s) v n = absurd (true≢false (sym n))
+nan-below (fin s m e) v n = absurd (true≢false (sym n))
 
+below-number : (x v : Float) → lt x v ≡ true → isNan x ≡ false
+below-number x v h = go (isNan x) refl
+  where
+    go : (b : Bool) → isNan x ≡ b → b ≡ false
+    go true n = absurd (true≢false (sym h ∙ nan-below x v n))
+    go false n = refl
+
+-- of any two, since the smaller of two passes over a NaN
+pub smaller-below : (x y v : Float) → lt (minimum x y) v ≡ (lt x v || lt y v)
+unfolding minimum
+smaller-below x y v = passed (isNan x) refl
+  where
+    go : isNan x ≡ false → (b : Bool) → lt y x ≡ b → lt (cond b y x) v ≡ (lt x v || lt y v)
+    go n true e =
+        or-first (lt y v) (lt x v) (λ h. not-below-through v y x (below-number y x e) h (lt-once y x e))
+        ∙ or-comm (lt y v) (lt x v)
+    go n false e = or-first (lt x v) (lt y v) (λ h. not-below-through v x y n h e)
+
+    passed : (b : Bool) → isNan x ≡ b → lt (cond b y (cond (lt y x) y x)) v ≡ (lt x v || lt y v)
+    passed true n = sym (ap (λ b. b || lt y v) (nan-below x v n))
+    passed false n = go n (lt y x) refl
+
+module _ {x y : Float} (p : Plain x) (q : Plain y) (v : Float) where
   larger-below : lt (maximum x y) v ≡ (lt x v && lt y v)
   unfolding maximum
   larger-below = rw (p .number) (go (lt x y) refl)
@@ -55,10 +75,10 @@ module _ {x y : Float} (p : Plain x) (q : Plain y) (v : Float) where
       go false e = and-last (lt y v) (lt x v) (λ h. not-below-through v y x (q .number) h e) ∙ and-comm (lt y v) (lt x v)
 
 -- ---- the smallest of three, and the largest size: the scale
-below3-any : {t : Triple} → Each Plain t → at below3 t ≡ (lt (t .x) zero || lt (t .y) zero || lt (t .z) zero)
-below3-any {t} e =
-    smaller-below (smaller-plain (e .x) (e .y)) (e .z) zero
-    ∙ ap (λ (b : Bool). b || lt (t .z) zero) (smaller-below (e .x) (e .y) zero)
+pub below3-any : (t : Triple) → at below3 t ≡ (lt (t .x) zero || lt (t .y) zero || lt (t .z) zero)
+below3-any t =
+    smaller-below (minimum (t .x) (t .y)) (t .z) zero
+    ∙ ap (λ (b : Bool). b || lt (t .z) zero) (smaller-below (t .x) (t .y) zero)
 
 sizes : {t : Triple} → Each Plain t → Each Plain (mapped absolute t)
 sizes {t} e = record { x = size-plain (t .x) (e .x); y = size-plain (t .y) (e .y); z = size-plain (t .z) (e .z) }
@@ -77,7 +97,7 @@ scale-below {t} e v =
 scaled : {t : Triple} (s : Float) → Each Plain t → T (not (at below3 t)) → T (beyondLimits s)
     → Each Plain (mapped (λ a. a ⊘ s) t)
 scaled {t} s e h b =
-    let n = subst (λ (c : Bool). T (not c)) (below3-any e) h in
+    let n = subst (λ (c : Bool). T (not c)) (below3-any t) h in
     let m = nor-l (lt (t .x) zero || lt (t .y) zero) (lt (t .z) zero) n in
     let bounds = lt zero s && (lt limit s || lt s reciprocal) in
     let f = is-true (finite s) (and-l (finite s) bounds b) in
@@ -89,15 +109,15 @@ scaled {t} s e h b =
           (is-false (lt (t .z) zero) (nor-r (lt (t .x) zero || lt (t .y) zero) (lt (t .z) zero) n)) f g;
     }
 
--- ---- THE LAWS, of three arguments and the same three in another order
+-- ---- THE LAWS, of three arguments and the same three in another order: whether one is below zero and whether one is NaN, of
+-- any; the scale and whether they are rescaled, of plain ones
+pub below3-permuted : {t u : Triple} → Permuted t u → at below3 t ≡ at below3 u
+below3-permuted {t} {u} p = below3-any t ∙ joined-permuted _||_ or-comm or-assoc (λ a. lt a zero) p ∙ sym (below3-any u)
+
+pub nan-permuted : {t u : Triple} → Permuted t u → at anyNan3 t ≡ at anyNan3 u
+nan-permuted p = joined-permuted _||_ or-comm or-assoc isNan p
+
 module _ {t u : Triple} (p : Permuted t u) (e : Each Plain t) where
-  pub below3-permuted : at below3 t ≡ at below3 u
-  below3-permuted =
-      below3-any e ∙ joined-permuted _||_ or-comm or-assoc (λ a. lt a zero) p ∙ sym (below3-any (each-permuted p e))
-
-  pub nan-permuted : at anyNan3 t ≡ at anyNan3 u
-  nan-permuted = joined-permuted _||_ or-comm or-assoc isNan p
-
   scale-permuted : at scaleOf3 t ≡ at scaleOf3 u
   scale-permuted =
       let f = each-permuted p e in

@@ -1,8 +1,8 @@
 -- What another order of three values leaves as it is, and that three in order stand in one order only, where `<` tells any two
 -- of them apart. Assumes nothing.
 use Prim.Native.Nat.{ℕ, _+_}
-use mathlib.Core.Path.{_≡_, refl, sym, ap, _∙_}
-use mathlib.Core.Bool.{Bool, true, false, true≢false}
+use mathlib.Core.Path.{_≡_, refl, sym, ap, ap₂, _∙_}
+use mathlib.Core.Bool.{Bool, true, false, _&&_, _||_, and-comm, or-comm, true≢false}
 use native.Mathlib.Nat.{add-comm, add-assoc}
 use lib.Dec.{ltb}
 use lib.Ieee.{Float, isNan, lt}
@@ -65,6 +65,21 @@ module _ {A : Type 0} (op : A → A → A) (swap : (a b : A) → op a b ≡ op b
   joined-permuted (last-two {x} {y} {z}) =
       move (f x) (f y) (f z) ∙ ap (op (f x)) (swap (f y) (f z)) ∙ sym (move (f x) (f z) (f y))
   joined-permuted (and-then p q) = joined-permuted p ∙ joined-permuted q
+
+-- whether two of the three pass a test
+module _ (f : Float → Bool) where
+  abbrev pub twoOf : Triple → Bool
+  twoOf t = (f (t .x) && f (t .y)) || ((f (t .x) || f (t .y)) && f (t .z))
+
+  pub two-permuted : {t u : Triple} → Permuted t u → twoOf t ≡ twoOf u
+  two-permuted as-it-is = refl
+  two-permuted (first-two {x} {y} {z}) = ap₂ (λ a b. a || (b && f z)) (and-comm (f x) (f y)) (or-comm (f x) (f y))
+  two-permuted (last-two {x} {y} {z}) = last (f x) (f y) (f z)
+    where
+      last : (a b c : Bool) → (a && b) || ((a || b) && c) ≡ (a && c) || ((a || c) && b)
+      last true b c = or-comm b c
+      last false b c = and-comm b c
+  two-permuted (and-then p q) = two-permuted p ∙ two-permuted q
 
 -- ---- none is below the one before it
 pub record Rises (a b c : Float) : Type 0 where

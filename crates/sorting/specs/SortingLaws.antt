@@ -114,3 +114,20 @@ largest-first-only {t = t} {u = u} told p e =
     let b = and-then (largest-first-permuted u) turned in
     ap (λ (r : Triple). three (r .z) (r .x) (r .y))
     (upward-only told (and-then (undone a) (and-then p b)) (each-permuted a e) (largest-first-rises t) (largest-first-rises u))
+
+pub rising-only : {P : Float → Type 0} {t u : Triple} → ToldApart P → Permuted t u → Each P t → rising t ≡ rising u
+rising-only {t = t} {u = u} told p e =
+    let a = rising-permuted t in
+    upward-only told (and-then (undone a) (and-then p (rising-permuted u))) (each-permuted a e) (rising-rises t) (rising-rises u)
+
+-- and of the first two alone
+pub first-two-only : {P : Float → Type 0} {x y : Float} (z : Float) → ToldApart P → P x → P y
+    → riseXY (three x y z) ≡ riseXY (three y x z)
+unfolding riseXY
+first-two-only {x = x} {y} z told p q = go (lt y x) (lt x y) refl refl
+  where
+    go : (b c : Bool) → lt y x ≡ b → lt x y ≡ c → cond b (three y x z) (three x y z) ≡ cond c (three x y z) (three y x z)
+    go true true e f = rw (told .apart p q (lt-once y x e) (lt-once x y f))
+    go true false e f = refl
+    go false true e f = refl
+    go false false e f = rw (told .apart p q f e)

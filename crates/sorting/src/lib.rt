@@ -8,7 +8,7 @@ pub struct Triple {
     pub z: f64,
 }
 
-fn rise_xy(t: Triple) -> Triple
+pub fn rise_xy(t: Triple) -> Triple
     ensures { λ r. ⌜ r ≡ riseXY t ⌝ }
 {
     if t.x > t.y {

@@ -1,15 +1,15 @@
 //! The listing's lines: calls, and calls with something wrong that only a call can have.
 
-use crate::call::Entry;
+use crate::call::{Call, Entry};
 use crate::random::Random;
-use crate::shapes;
 
-pub const KINDS: [&str; 5] =
-    ["a digit changed", "a digit in lower case", "an argument missing", "an argument too many", "another name"];
+/// The last is for the profile alone.
+pub const KINDS: [&str; 6] =
+    ["a digit changed", "a digit in lower case", "an argument missing", "an argument too many", "another name", "a call of cel"];
 
-pub fn good(entries: &[Entry], random: &mut Random) -> Vec<u8> {
+pub fn good(entries: &[Entry], random: &mut Random, draw: fn(&mut Random, Entry) -> Call) -> Vec<u8> {
     let entry = random.pick(entries);
-    shapes::draw(random, entry).to_string().into_bytes()
+    draw(random, entry).to_string().into_bytes()
 }
 
 pub fn made(random: &mut Random, kind: usize, mut line: Vec<u8>) -> Vec<u8> {
@@ -19,10 +19,11 @@ pub fn made(random: &mut Random, kind: usize, mut line: Vec<u8>) -> Vec<u8> {
         1 => *digit(random, &mut line[letters + 1..]) = random.pick(b"abcdef"),
         2 => line.truncate(line.len() - 17),
         3 => line.extend_from_within(letters..letters + 17),
-        _ => {
+        4 => {
             let name = if letters == 2 { name_of_two(random).to_vec() } else { name_of_three(random).to_vec() };
             line.splice(..letters, name);
         }
+        _ => line = cel(random),
     }
     line
 }
@@ -37,6 +38,11 @@ fn digit<'a>(random: &mut Random, arguments: &'a mut [u8]) -> &'a mut u8 {
 fn name_of_three(random: &mut Random) -> &'static [u8] {
     const NAMES: [&[u8]; 12] = [b"CEK", b"CFL", b"REL", b"cel", b"CEl", b"CE ", b" EL", b"CE", b"EL", b"CELL", b"RJ", b"CE\0"];
     random.pick(&NAMES)
+}
+
+fn cel(random: &mut Random) -> Vec<u8> {
+    let digits = |_| format!(" {:016X}", random.word());
+    format!("CEL{}", (0..4).map(digits).collect::<String>()).into_bytes()
 }
 
 /// A name of two letters, mostly none of ours.

@@ -30,7 +30,7 @@ returns c =
     let held : length (now (s .args .held)) ≡ heldLength = search needs in
     let block : length (now (s .args .block)) ≡ blockLength = search needs in
     let full : length (now (s .args .out)) ≡ 65536 = search needs in
-    let most : c .feed-all .result .used ≤ length (c .feed-all .last .1 .1 .1 .1 .0) =
+    let most : c .feed-all .result .used ≤ length (c .feed-all .last .1 .1 .1 .1 .1 .0) =
     omega (arith, put-length (f .0 .said), f .1 .1, k .least .ensures .0) in (
       rw (
         take-least (now (s .args .held)) heldLength _ _ held (a .least2 .ensures .2),

@@ -14,12 +14,12 @@ use Rattle.listing_stream.proofs.stream.feed_all.Statement.{statement}
 use Rattle.listing_stream.proofs.stream.feed_all.Tie as tie
 
 abbrev Inv-loop : tie.InvT-loop
-Inv-loop block size held₀ held-before out₀ n₀ used₀ i₀ held out n used i =
+Inv-loop profile block size held₀ held-before out₀ n₀ used₀ i₀ held out n used i =
     (i ≤ size) × (n ≤ heldLength) × (length held ≡ heldLength)
-    × Upto listingByte (λ held. false) longestReply 0 block (take held-before held₀) out₀ i (take n held) out used 0
+    × Upto (listingByte profile) (λ held. false) longestReply 0 block (take held-before held₀) out₀ i (take n held) out used 0
 
 abbrev μ-loop : tie.MeasureT-loop
-μ-loop block size held₀ held-before out₀ n₀ used₀ i₀ held out n used i = size - i
+μ-loop profile block size held₀ held-before out₀ n₀ used₀ i₀ held out n used i = size - i
 
 step-requires : tie.Need-step-requires Inv-loop μ-loop
 step-requires c κs =
@@ -35,8 +35,8 @@ loop-again c =
     let inside : l .i < length (now (k .before .before .before .before .args .block)) = omega arith in (
       omega arith,
       s .step .ensures .1,
-      s .step .kept .1 .0 ∙ l .inv .2,
-      upto-byte (l .inv .3) inside refl byte-short (s .step .ensures .0),
+      s .step .kept .1 .1 .0 ∙ l .inv .2,
+      upto-byte (l .inv .3) inside refl (byte-short _) (s .step .ensures .0),
     )
 
 returns : tie.Need-returns Inv-loop μ-loop

@@ -19,7 +19,7 @@ returns c =
     let p = c .last .ensures in
     let held : length (now (s .args .held)) ≡ heldLength = search needs in
     let full : length (now (s .args .out)) ≡ 65536 = search needs in
-    let most : c .last .result ≤ length (c .last .last .1 .1 .0) = omega (arith, put-length (p .0), p .1) in (
+    let most : c .last .result ≤ length (c .last .last .1 .1 .1 .0) = omega (arith, put-length (p .0), p .1) in (
       rw (take-least (now (s .args .held)) heldLength (s .args .n) (l .least .result) held (l .least .ensures .2)) at (p .0),
       (most, sym (length-take-le _ _ most)),
     )

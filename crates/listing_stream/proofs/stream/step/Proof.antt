@@ -1,6 +1,7 @@
 -- `step` meets its contract: a newline ends the line and is answered, any other byte is held. Assumes nothing.
 use Prim.Native.Nat.{ℕ, _≤_}
 use mathlib.Core.Path.{_≡_, refl, sym, _∙_}
+use mathlib.Core.Bool.{Bool}
 use mathlib.Core.List.{List, [], _∷_, _++_}
 use native.Mathlib.Omega.{arith}
 use borrow.Author.Needs.{needs}
@@ -17,31 +18,31 @@ use Rattle.listing_stream.proofs.stream.step.Statement.{statement}
 use Rattle.listing_stream.proofs.stream.step.Tie as tie
 
 -- the line has ended
-ended : (held before out : List ℕ) (b at next : ℕ) → b ≡ 10 → Put before at (replyOf held) out next
-    → Lists (listingByte held b) [] before at out (record { held = 0; used = next })
+ended : (profile : Bool) (held before out : List ℕ) (b at next : ℕ) → b ≡ 10 → Put before at (replyOf profile held) out next
+    → Lists (listingByte profile held b) [] before at out (record { held = 0; used = next })
 unfolding listingByte
-ended held before out b at next e p = rw (eq-eqb b 10 e) (record { left = refl; said = p; counted = refl })
+ended profile held before out b at next e p = rw (eq-eqb b 10 e) (record { left = refl; said = p; counted = refl })
 
 -- one byte more is held
 goes-on :
-    (held after before : List ℕ) (b at n r : ℕ) → length held ≡ heldLength → n ≤ heldLength → (b ≡ 10 → ⊥)
+    (profile : Bool) (held after before : List ℕ) (b at n r : ℕ) → length held ≡ heldLength → n ≤ heldLength → (b ≡ 10 → ⊥)
     → after ≡ set held n b → r ≡ pushed n (length held)
-    → Lists (listingByte (take n held) b) after before at before (record { held = r; used = at })
+    → Lists (listingByte profile (take n held) b) after before at before (record { held = r; used = at })
 unfolding listingByte
-goes-on held after before b at n r l h ne e f =
+goes-on profile held after before b at n r l h ne e f =
     let is : take r after ≡ take heldLength (take n held ++ b ∷ []) = rw e (held-more held n b r (omega arith) f ∙ rw l) in
     rw (ne-eqb b 10 ne, is) (fed-quiet _ before at)
 
 returns : tie.Need-returns
 returns c =
     let k = c .before .before in
-    (ended _ _ _ _ _ _ (k .before .before .before .if1 .taken) (k .put-reply .ensures), omega arith)
+    (ended _ _ _ _ _ _ _ (k .before .before .before .if1 .taken) (k .put-reply .ensures), omega arith)
 
 returns-2 : tie.Need-returns-2
 returns-2 c =
     let k = c .before .before in
     let s = k .before .before .before .before .before in (
-      goes-on (now (s .args .held)) _ _ _ _ (s .args .n) _ (s .pre .0) (s .pre .1 .0) (k .before .before .if1 .left)
+      goes-on (s .args .profile) (now (s .args .held)) _ _ _ _ (s .args .n) _ (s .pre .0) (s .pre .1 .0) (k .before .before .if1 .left)
           (k .push .ensures .0)
           (k .push .ensures .1),
       pushed-most (s .args .n) heldLength _ (s .pre .1 .0) (rw (s .pre .0) at (k .push .ensures .1)),

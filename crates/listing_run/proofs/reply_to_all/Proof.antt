@@ -3,14 +3,14 @@ use mathlib.Core.Path.{_≡_}
 use borrow.Author.Needs.{needs}
 use lib.ListN.{length}
 use Rattle.listing_stream.specs.Stream.{blockLength}
-use Rattle.listing.proofs.reply_to_all.Statement.{statement}
-use Rattle.listing.proofs.reply_to_all.Tie as tie
+use Rattle.listing_run.proofs.reply_to_all.Statement.{statement}
+use Rattle.listing_run.proofs.reply_to_all.Tie as tie
 
 abbrev Inv-loop : tie.InvT-loop
-Inv-loop out₀ block₀ held₀ n₀ turns₀ out block held n turns = length block ≡ blockLength
+Inv-loop profile out₀ block₀ held₀ n₀ turns₀ out block held n turns = length block ≡ blockLength
 
 abbrev μ-loop : tie.MeasureT-loop
-μ-loop out₀ block₀ held₀ n₀ turns₀ out block held n turns = turns
+μ-loop profile out₀ block₀ held₀ n₀ turns₀ out block held n turns = turns
 
 pub reply-to-all-spec : {M : Type 1} → statement M
 reply-to-all-spec =
