@@ -15,12 +15,13 @@ use Rattle.job_answers.specs.JobAnswers.{callOfJob}
 -- of a function that the work lists know
 pub call-number : (j : Job) → (arityOf (j .function) ≡ 0 → ⊥) → numberOf (callOfJob j) ≡ j .function
 unfolding callOfJob numberOf arityOf
-call-number j known = go (eqb (j .function) 1) (eqb (j .function) 2) (eqb (j .function) 3) (eqb (j .function) 4) (eqb (j .function) 5)
+call-number j known =
+    go (eqb (j .function) 1) (eqb (j .function) 2) (eqb (j .function) 3) (eqb (j .function) 4) (eqb (j .function) 5)
     (eqb (j .function) 6) refl refl refl refl refl refl known
   where
     go :
-        (one two three four five six : Bool) → eqb (j .function) 1 ≡ one → eqb (j .function) 2 ≡ two → eqb (j .function) 3 ≡ three
-        → eqb (j .function) 4 ≡ four → eqb (j .function) 5 ≡ five → eqb (j .function) 6 ≡ six
+        (one two three four five six : Bool) → eqb (j .function) 1 ≡ one → eqb (j .function) 2 ≡ two
+        → eqb (j .function) 3 ≡ three → eqb (j .function) 4 ≡ four → eqb (j .function) 5 ≡ five → eqb (j .function) 6 ≡ six
         → (_≡_ {A = ℕ} (cond one 3 (cond two 2 (cond three 3 (cond four 3 (cond five 4 (cond six 4 0)))))) 0 → ⊥)
         → numberOf (cond one (Rf (j .a) (j .b) (j .c)) (cond two (Rc (j .a) (j .b)) (cond three (Rd (j .a) (j .b) (j .c))
         (cond four (Rg (j .a) (j .b) (j .c)) (cond five (Rj (j .a) (j .b) (j .c) (j .d)) (Cel (j .a) (j .b) (j .c) (j .d)))))))

@@ -21,11 +21,11 @@ use Rattle.packed.specs.declared.jobs.Job.{Job}
 use Rattle.packed.specs.declared.read.Got.{Got}
 use Rattle.packed.specs.declared.read.Read.{Read}
 use Rattle.packed.specs.declared.read.Read.the-variants.{Found, Nothing, Refused as NotRead}
-use Rattle.table.specs.Table.{numbers-differ, rowMeets, claimsOf, rowsFrom, tableOf, checkOf}
-use Rattle.table.specs.Rows.{rowAfter, endedAt, none, rowMore, wordsAfter}
-use Rattle.table.specs.declared.claim.Claim.{Claim}
-use Rattle.table.specs.declared.rows.Checked.{Checked}
-use Rattle.table.specs.declared.rows.Checked.the-variants.{Accepted, BadRow, Refused}
+use Rattle.claim.specs.Rows.{numbers-differ, rowAfter, missingAt, endedAt}
+use Rattle.claim.specs.declared.rows.Checked.{Checked}
+use Rattle.claim.specs.declared.rows.Checked.the-variants.{Accepted, BadRow, Refused}
+use Rattle.table.specs.Table.{rowMeets, claimsOf, rowsFrom, tableOf, checkOf}
+use Rattle.table.specs.Words.{rowMore, wordsAfter}
 
 -- from what is known so far, the jobs that are left and their words
 abbrev pub restOf : ℕ → Checked → ℕ → Jobs → List ℕ → Checked
@@ -42,7 +42,7 @@ double-suc n = omega arith
 module _ (t row : ℕ) (j : Job) where
   job-more : (so : Checked) (js : List Job) (ws : List ℕ)
       → restOf t so row (jobs (j ∷ js)) ws ≡ restOf t (rowMore t so row j ws) (row + 1) (jobs js) (drop 2 ws)
-  unfolding rowMore rowAfter claimsOf rowsFrom
+  unfolding rowMore rowAfter missingAt claimsOf rowsFrom
   job-more (Refused n) js [] = refl
   job-more (Refused n) js (k ∷ []) = refl
   job-more (Refused n) js (k ∷ w ∷ ws) = refl
@@ -69,25 +69,25 @@ module _ (t row : ℕ) (j : Job) where
 
   -- a claim is there, or none
   pub words-there : (so : Checked) (l : List ℕ) (at : ℕ) → at + 2 ≤ length l
-      → rowMore t so row j (drop at l) ≡ rowAfter t so row j true (record { kind = getD l at 0; word = getD l (at + 1) 0 })
+      → rowMore t so row j (drop at l) ≡ rowAfter so row (rowMeets t j (record { kind = getD l at 0; word = getD l (at + 1) 0 }))
   unfolding rowMore
   words-there so l at h =
       let e : at + 1 ≡ suc at = add-one at in
       rw (drop-cons l at 0 (omega arith), e, drop-cons l (suc at) 0 (omega arith))
 
   pub words-none : (so : Checked) (l : List ℕ) (at : ℕ) → length l < at + 2
-      → rowMore t so row j (drop at l) ≡ rowAfter t so row j false none
+      → rowMore t so row j (drop at l) ≡ missingAt so
   unfolding rowMore
   words-none so l at h = go (drop at l) (omega (arith, length-drop at l))
     where
-      go : (ws : List ℕ) → length ws < 2 → rowMore t so row j ws ≡ rowAfter t so row j false none
+      go : (ws : List ℕ) → length ws < 2 → rowMore t so row j ws ≡ missingAt so
       go [] h = refl
       go (k ∷ []) h = refl
       go (k ∷ w ∷ ws) h = absurd (omega arith)
 
   refused-after : (so : Checked) (J : Jobs) (ws vs : List ℕ)
-      → restOf t (rowAfter t so row j false none) (row + 1) J ws ≡ restOf t (rowAfter t so row j false none) (row + 1) J vs
-  unfolding rowAfter
+      → restOf t (missingAt so) (row + 1) J ws ≡ restOf t (missingAt so) (row + 1) J vs
+  unfolding missingAt
   refused-after so (stopped js place n) ws vs = refl
   refused-after (Refused n) (jobs js) ws vs = refl
   refused-after (BadRow n) (jobs js) ws vs = refl
@@ -112,8 +112,9 @@ module _ (t row : ℕ) (j : Job) where
 
 -- ---- the list's end
 rest-ended : (t row : ℕ) (so : Checked) (ws : List ℕ) → restOf t so row (jobs []) ws ≡ endedAt so (ltb 0 (length ws))
-unfolding endedAt rowsFrom
-rest-ended t row (Refused n) ws = refl
+unfolding endedAt missingAt rowsFrom
+rest-ended t row (Refused n) [] = refl
+rest-ended t row (Refused n) (w ∷ ws) = rw (lt-ltb 0 (suc (length ws)) (omega arith))
 rest-ended t row (BadRow first) [] = refl
 rest-ended t row (BadRow first) (w ∷ ws) = rw (eqb·suc-zero (length ws), lt-ltb 0 (suc (length ws)) (omega arith))
 rest-ended t row Accepted [] = refl
@@ -157,7 +158,8 @@ module _ {t : ℕ} {list words : List ℕ} where
 
   module _ {so : Checked} {row place at : ℕ} (s : Standing t list words so row place at) where
     pub standing-more : {got : Got} → Bytes list → readAt list place ≡ Found got
-        → Standing t list words (rowMore t so row (got .job) (drop at words)) (row + 1) (got .next) (wordsAfter (length words) at)
+        → Standing t list words (rowMore t so row (got .job) (drop at words)) (row + 1) (got .next)
+        (wordsAfter (length words) at)
     unfolding readFrom readOn
     standing-more {got} b e =
         let later = found-later list place got b e in
@@ -183,7 +185,8 @@ module _ {t : ℕ} {list words : List ℕ} where
     pub standing-ended : length list ≤ place → endedAt so (ltb at (length words)) ≡ checkOf t list words
     unfolding readFrom readOn readAt
     standing-ended h =
-        sym (rest-ended t row so (drop at words) ∙ ap (endedAt so) left) ∙ rw (turn-left, le-ltb place (length list) h) at (s .rest)
+        sym (rest-ended t row so (drop at words) ∙ ap (endedAt so) left)
+        ∙ rw (turn-left, le-ltb place (length list) h) at (s .rest)
       where
         left : ltb 0 (length (drop at words)) ≡ ltb at (length words)
         left = rw (length-drop at words) (same-ltb 0 (length words - at) at (length words) (λ k. omega arith) (λ k. omega arith))

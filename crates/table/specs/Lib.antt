@@ -1,2 +1,4 @@
 pub mod Table
-pub mod Rows
+pub mod Words
+pub mod RefusalLaws
+pub mod TableLaws

@@ -1,38 +1,20 @@
 -- What is right of a table (document 02, 2026-11). Definitions only.
 use Prim.Native.Nat.{ℕ, _+_, _*_}
-use mathlib.Core.Bool.{Bool, _&&_, cond}
+use mathlib.Core.Bool.{Bool, cond}
 use mathlib.Core.List.{List, [], _∷_}
-use lib.Dec.{eqb, leb}
+use lib.Dec.{eqb}
 use lib.ListN.{length}
-use lib.Ieee.{binary64, toBits}
-use Rattle.distance.specs.Steps.{apartOf, finitePattern}
-use Rattle.carlson.specs.declared.answer.Answer.{Answer}
-use Rattle.carlson.specs.declared.answer.Answer.the-variants.{Value, Refused as Refusal}
 use Rattle.packed.specs.Reading.{Jobs, jobs, stopped, readAll}
 use Rattle.packed.specs.declared.jobs.Job.{Job}
 use Rattle.answers.specs.Answers.{answerOf}
 use Rattle.job_answers.specs.JobAnswers.{callOfJob}
-use Rattle.table.specs.declared.claim.Claim.{Claim}
-use Rattle.table.specs.declared.rows.Checked.{Checked}
-use Rattle.table.specs.declared.rows.Checked.the-variants.{Accepted, BadRow, Refused}
-
--- "22, exactly where the list is sound and claims and jobs differ in number"
-abbrev pub numbers-differ : ℕ
-numbers-differ = 22
+use Rattle.claim.specs.Claims.{meetsOf}
+use Rattle.claim.specs.Rows.{numbers-differ}
+use Rattle.claim.specs.declared.meeting.Claim.{Claim}
+use Rattle.claim.specs.declared.rows.Checked.{Checked}
+use Rattle.claim.specs.declared.rows.Checked.the-variants.{Accepted, BadRow, Refused}
 
 -- ---- a row
--- "a finite value within the tolerance of ours"
-unfoldable pub valueMeets : ℕ → ℕ → Claim → Bool
-valueMeets tolerance ours c = eqb (c .kind) 0 && (finitePattern (c .word) && leb (apartOf ours (c .word)) tolerance)
-
--- "the same refusal"
-unfoldable pub refusalMeets : ℕ → Claim → Bool
-refusalMeets n c = eqb (c .kind) 1 && eqb (c .word) n
-
-unfoldable pub meetsOf : ℕ → Answer → Claim → Bool
-meetsOf tolerance (Value f) c = valueMeets tolerance (toBits binary64 (f .value)) c
-meetsOf tolerance (Refusal n) c = refusalMeets n c
-
 -- a job, and what is claimed of it
 abbrev pub rowMeets : ℕ → Job → Claim → Bool
 rowMeets tolerance j c = meetsOf tolerance (answerOf (callOfJob j)) c

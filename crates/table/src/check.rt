@@ -1,8 +1,9 @@
 // A list and its claims, each lent whole.
-use crate::claim::Claim;
-use crate::rows::Checked;
-use crate::rows::ended;
-use crate::rows::row_after;
+use crate::judge::judged;
+use claim::Checked;
+use claim::Claim;
+use claim::ended;
+use claim::missing;
 use packed::Job;
 use packed::Read;
 use packed::read_job;
@@ -11,7 +12,7 @@ ghost use mathlib.Core.Path.{_≡_};
 ghost use Prim.Native.Nat.{_+_, _≤_};
 ghost use lib.ListN.{length, getD, drop};
 ghost use Rattle.table.specs.Table.{checkOf};
-ghost use Rattle.table.specs.Rows.{rowMore, wordsAfter};
+ghost use Rattle.table.specs.Words.{rowMore, wordsAfter};
 
 // The claim at a place of the words.
 fn claim_at(claims: &[u64], at: usize) -> Claim
@@ -29,9 +30,9 @@ fn row_more(so: Checked, row: u64, job: Job, claims: &[u64], at: usize, toleranc
     ensures { λ r. ⌜ r ≡ rowMore tolerance so row job (drop at (now (claims .entry))) ⌝ }
 {
     if has_room(claims.len(), at, 2) {
-        return row_after(so, row, job, true, claim_at(claims, at), tolerance);
+        return judged(so, row, job, claim_at(claims, at), tolerance);
     }
-    row_after(so, row, job, false, Claim { kind: 0, word: 0 }, tolerance)
+    missing(so)
 }
 
 // The place after a claim, where there is one.

@@ -15,7 +15,7 @@ returns c =
     let h = leb-true (a .at + 2) (length (now (a .claims))) (sym (r .has-room .ensures) ∙ c .before .before .if1 .taken) in
     rw (
       words-there (a .tolerance) (a .row) (a .job) (a .so) (now (a .claims)) (a .at) h,
-      c .row-after .ensures,
+      c .judged .ensures,
       c .before .claim-at .ensures,
     )
 
@@ -24,7 +24,7 @@ returns-2 c =
     let r = c .before .before in
     let a = r .before .before .args in
     let h = leb-false (a .at + 2) (length (now (a .claims))) (sym (r .has-room .ensures) ∙ c .before .if1 .left) in
-    rw (words-none (a .tolerance) (a .row) (a .job) (a .so) (now (a .claims)) (a .at) h) (c .row-after2 .ensures)
+    rw (words-none (a .tolerance) (a .row) (a .job) (a .so) (now (a .claims)) (a .at) h) (c .missing .ensures)
 
 pub row-more-spec : {M : Type 1} → statement M
 row-more-spec =

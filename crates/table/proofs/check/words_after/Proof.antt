@@ -3,7 +3,7 @@ use Prim.Native.Nat.{_+_}
 use mathlib.Core.Path.{sym, _∙_}
 use native.Mathlib.Omega.{arith}
 use borrow.Author.Tests.{leb-true}
-use Rattle.table.specs.Rows.{wordsAfter}
+use Rattle.table.specs.Words.{wordsAfter}
 use Rattle.table.proofs.check.words_after.Statement.{statement}
 use Rattle.table.proofs.check.words_after.Tie as tie
 

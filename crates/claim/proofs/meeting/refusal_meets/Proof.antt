@@ -1,8 +1,8 @@
 -- `refusal_meets` meets its contract, test by test as its definition. Assumes nothing.
 use borrow.Author.Tests.{eq-eqb, ne-eqb}
-use Rattle.table.specs.Table.{refusalMeets}
-use Rattle.table.proofs.claim.refusal_meets.Statement.{statement}
-use Rattle.table.proofs.claim.refusal_meets.Tie as tie
+use Rattle.claim.specs.Claims.{refusalMeets}
+use Rattle.claim.proofs.meeting.refusal_meets.Statement.{statement}
+use Rattle.claim.proofs.meeting.refusal_meets.Tie as tie
 
 pub refusal-meets-spec : {M : Type 1} → statement M
 unfolding refusalMeets

@@ -4,7 +4,7 @@ use carlson::answer::Answer;
 use distance::apart;
 use distance::is_finite_pattern;
 ghost use mathlib.Core.Path.{_≡_};
-ghost use Rattle.table.specs.Table.{valueMeets, refusalMeets, meetsOf};
+ghost use Rattle.claim.specs.Claims.{valueMeets, refusalMeets, meetsOf};
 
 // Kind 0 and the value's bits, or kind 1 and the refusal's number; no claim of another kind meets anything.
 pub struct Claim {

@@ -1,9 +1,9 @@
 -- `value_meets` meets its contract, test by test as its definition. Assumes nothing.
 use mathlib.Core.Path.{sym, _∙_}
 use borrow.Author.Tests.{eq-eqb, ne-eqb}
-use Rattle.table.specs.Table.{valueMeets}
-use Rattle.table.proofs.claim.value_meets.Statement.{statement}
-use Rattle.table.proofs.claim.value_meets.Tie as tie
+use Rattle.claim.specs.Claims.{valueMeets}
+use Rattle.claim.proofs.meeting.value_meets.Statement.{statement}
+use Rattle.claim.proofs.meeting.value_meets.Tie as tie
 
 pub value-meets-spec : {M : Type 1} → statement M
 unfolding valueMeets

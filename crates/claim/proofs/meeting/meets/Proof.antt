@@ -1,8 +1,8 @@
 -- `meets` meets its contract, case by case as its definition. Assumes nothing.
 use borrow.Author.Needs.{needs}
-use Rattle.table.specs.Table.{meetsOf}
-use Rattle.table.proofs.claim.meets.Statement.{statement}
-use Rattle.table.proofs.claim.meets.Tie as tie
+use Rattle.claim.specs.Claims.{meetsOf}
+use Rattle.claim.proofs.meeting.meets.Statement.{statement}
+use Rattle.claim.proofs.meeting.meets.Tie as tie
 
 pub meets-spec : {M : Type 1} → statement M
 unfolding meetsOf

@@ -1,6 +1,6 @@
 -- `job_meets` meets its contract. Assumes nothing.
-use Rattle.table.proofs.rows.job_meets.Statement.{statement}
-use Rattle.table.proofs.rows.job_meets.Tie as tie
+use Rattle.table.proofs.judge.job_meets.Statement.{statement}
+use Rattle.table.proofs.judge.job_meets.Tie as tie
 
 pub job-meets-spec : {M : Type 1} → statement M
 job-meets-spec =
