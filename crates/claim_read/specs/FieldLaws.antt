@@ -1,6 +1,6 @@
 -- Where a field ends. Assumes nothing.
 use Prim.Native.Nat.{ℕ, suc, _+_, _≤_, _<_}
-use mathlib.Core.Path.{_≡_, refl, ap, _∙_}
+use mathlib.Core.Path.{_≡_, refl, ap}
 use mathlib.Core.Bool.{Bool, true, false, cond}
 use mathlib.Core.List.{List, [], _∷_, _++_}
 use native.Mathlib.Numerals.{add-one}
@@ -8,8 +8,8 @@ use native.Mathlib.Omega.{arith}
 use borrow.Author.Tests.{eq-eqb, ne-eqb}
 use lib.Dec.{eqb}
 use lib.ListN.{length, getD, take, drop, drop-of-length-le}
-use lib.Seq.{drop-cons}
-use Rattle.claim_read.specs.Line.{fieldOf}
+use lib.Seq.{drop-cons, drop-append-add}
+use Rattle.claim_read.specs.Line.{fieldOf, afterField}
 
 -- a field is the beginning of what it is the field of
 pub field-most : (l : List ℕ) → length (fieldOf l) ≤ length l
@@ -45,17 +45,23 @@ module _ (l : List ℕ) (i : ℕ) where
   unfolding fieldOf
   field-end h = rw (drop-of-length-le l {i = i} h)
 
--- a text with no blank, then a blank or nothing
-abbrev pub NoBlank : List ℕ → Type 0
-NoBlank [] = Unit {0}
-NoBlank (b ∷ l) = (b ≡ 32 → ⊥) × NoBlank l
+-- ---- a field that is known
+-- every byte is above k
+abbrev pub Over : ℕ → List ℕ → Type 0
+Over k [] = Unit {0}
+Over k (b ∷ l) = (k < b) × Over k l
 
-pub field-is : (l m : List ℕ) → NoBlank l → fieldOf (l ++ 32 ∷ m) ≡ l
+-- a text with no blank, then a blank or nothing
+pub field-is : (l m : List ℕ) → Over 32 l → fieldOf (l ++ 32 ∷ m) ≡ l
 unfolding fieldOf
 field-is [] m h = refl
-field-is (b ∷ l) m h = rw (ne-eqb b 32 (h .0), field-is l m (h .1))
+field-is (b ∷ l) m h = rw (ne-eqb b 32 (λ e. omega (arith, h .0)), field-is l m (h .1))
 
-pub field-all : (l : List ℕ) → NoBlank l → fieldOf l ≡ l
+pub field-all : (l : List ℕ) → Over 32 l → fieldOf l ≡ l
 unfolding fieldOf
 field-all [] h = refl
-field-all (b ∷ l) h = rw (ne-eqb b 32 (h .0), field-all l (h .1))
+field-all (b ∷ l) h = rw (ne-eqb b 32 (λ e. omega (arith, h .0)), field-all l (h .1))
+
+pub after-is : (l m : List ℕ) → Over 32 l → afterField (l ++ 32 ∷ m) ≡ m
+unfolding afterField
+after-is l m h = rw (field-is l m h) (drop-append-add l (32 ∷ m) 1)

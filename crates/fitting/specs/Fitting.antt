@@ -1,18 +1,18 @@
--- Every value that an entry hands out is one that an f64 holds: the last operation of every road to it rounds. So it has bits of its
--- own, and those of a finite f64. Assumes nothing.
+-- Every value that an entry hands out is one that an f64 holds: the last operation of every road to it rounds. So it has bits
+-- of its own. Assumes nothing.
 use Prim.Native.Nat.{ℕ, zero, suc, _*_}
-use mathlib.Core.Bool.{Bool, true, false, _&&_, _||_, cond}
+use mathlib.Core.Bool.{Bool, false, _&&_, _||_}
 use native.Mathlib.Omega.{arith}
-use lib.Dec.{T, eqb}
-use lib.Ieee.{Float, nan, inf, fin, binary64, up, down, fits, lt, le, eq, neg, ofBits}
+use lib.Dec.{T}
+use lib.Ieee.{Float, nan, inf, fin, binary64, up, down, fits, lt, le, eq, neg}
 use lib.Ieee.Bits.{ofBits-fits}
-use lib.Ieee.Fits.{nan-fits, inf-fits, add-fits, sub-fits, mul-fits, div-fits}
+use lib.Ieee.Fits.{nan-fits, inf-fits, add-fits, mul-fits, div-fits}
 use lib.Ieee.Scale.{finite}
 use Rattle.rounding.specs.Cut.{last, rounded}
 use Rattle.binary64.specs.Leaves.{minimum, maximum}
 use Rattle.binary64.specs.Operators.{_⊗_, _⊘_, bits}
 use Rattle.root.specs.Root.{rootOf, root}
-use Rattle.carlson.specs.Constants.{nan-given, rc-no-result, no-result, rg-no-result}
+use Rattle.carlson.specs.Constants.{rc-no-result, no-result, rg-no-result}
 use Rattle.carlson.specs.Constants.{zero as +0, half, one, four, epsilon}
 use Rattle.carlson.specs.Checks.{anyNan2, anyNan3, anyNan4, anyInfinite2, anyInfinite3, anyInfinite4, below3, zerosOf3}
 use Rattle.carlson.specs.Rescaling.{scaleOf3, scaleOf4, rescales3, rescales4, rescaling3}
@@ -61,7 +61,8 @@ use Rattle.elliprd.specs.Means.{sumsOf, rdTogether, rdMeanValue, rdAgmFound, rd
 use Rattle.elliprd.specs.Rd.{rdEqual, rdZero, rdGeneral, rdOrdered, rdSteps, overScale, rdUnchecked, rdSettled, rd}
 use Rattle.rg_means.specs.Means.{rgBegin, rgNext, rgTogether, rgMeanValue, rgAgmFound, rgAgmSpent, rgAgmOf}
 use Rattle.rg_joint.specs.Joint.{rgValue, rgJoint}
-use Rattle.elliprg.specs.Rg.{rgEqual, rgZero, rgTwo, rgAlone, rgTop, rgLow, rgSorted, rgSteps, timesRoot, rgUnchecked, rgSettled, rg}
+use Rattle.elliprg.specs.Rg.{rgEqual, rgZero, rgTwo, rgAlone, rgTop, rgLow, rgSorted, rgSteps}
+use Rattle.elliprg.specs.Rg.{timesRoot, rgUnchecked, rgSettled, rg}
 use Rattle.rj_positive.specs.Duplicate.{rjBegin, rjStart, rjStep, rjClose, rjFound, rjSpent, rjSeries, rjCap, rjDuplication}
 use Rattle.rj_positive.specs.Positive.{wellApart, rjAll, rjThree, rjTwo, rjLast, rjPair, rjCases, rjPositive}
 use Rattle.rj_negative.specs.declared.nearzero.Near.{Near}
@@ -72,7 +73,7 @@ use Rattle.rj_negative.specs.Reduction.{reducedValue, reducedFound, reducedAnsw
 use Rattle.elliprj.specs.declared.plan.Plan.{Plan}
 use Rattle.elliprj.specs.declared.plan.Plan.the-variants.{Done, Rescale, Reduce}
 use Rattle.elliprj.specs.Rj.{planUnscaled, planScaled, planNear, planOf, rjRun, rjUnchecked, rjSettled, rjRest, rjSigned, rj}
-use Rattle.cel.specs.Passes.{celNext, celNear, celFound, celSpent, celCap, celValue, celFrom, celPass, celBegin, celSteps}
+use Rattle.cel.specs.Passes.{celNext, celNear, celFound, celSpent, celValue, celFrom, celPass, celBegin, celSteps}
 use Rattle.cel.specs.Cel.{severalUnbounded, eitherUnbounded, celUnsettled, celSettled, cel}
 use Rattle.calls.specs.declared.Call.{Call}
 use Rattle.calls.specs.declared.Call.the-variants.{Rc, Rf, Rd, Rg, Rj, Cel}
@@ -95,7 +96,8 @@ unfolding root rounded
 root-fits nan h = nan-fits binary64
 root-fits (inf s) h = chosen Fit s (nan-fits binary64) (inf-fits binary64 false)
 root-fits (fin s zero e) h = h
-root-fits (fin s (suc m) e) h = chosen Fit s (nan-fits binary64) (ofBits-fits binary64 (last (rootOf (suc m * up e) (down e)) 63 0))
+root-fits (fin s (suc m) e) h =
+    chosen Fit s (nan-fits binary64) (ofBits-fits binary64 (last (rootOf (suc m * up e) (down e)) 63 0))
 
 -- ---- how an entry settles
 infinite-fits : Fits infiniteAt

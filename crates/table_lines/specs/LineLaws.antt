@@ -1,19 +1,21 @@
 -- Row by row, the lines of a listing give what the definition says of all. Assumes nothing.
-use Prim.Native.Nat.{ℕ, suc, _+_}
-use mathlib.Core.Path.{_≡_, refl, sym, _∙_}
+use Prim.Native.Nat.{ℕ, suc, _+_, _≤_, _<_}
+use mathlib.Core.Path.{_≡_, refl, ap, _∙_}
 use mathlib.Core.Bool.{Bool, true, false, cond}
 use mathlib.Core.List.{List, [], _∷_}
 use native.Mathlib.Omega.{arith}
 use borrow.Author.Tests.{lt-ltb}
 use lib.Dec.{eqb, eqb·suc-suc, eqb·suc-zero, eqb·zero-suc}
-use lib.ListN.{length}
-use Rattle.packed.specs.Reading.{Jobs, jobs, stopped}
+use lib.ListN.{length, take}
+use Rattle.packed.specs.Reading.{jobs}
 use Rattle.packed.specs.declared.jobs.Job.{Job}
+use Rattle.unpack_stream.specs.Text.{letterOf, nameText}
 use Rattle.claim.specs.Rows.{numbers-differ, rowAfter, missingAt, endedAt}
 use Rattle.claim.specs.declared.rows.Checked.{Checked}
 use Rattle.claim.specs.declared.rows.Checked.the-variants.{Accepted, BadRow, Refused}
-use Rattle.table.specs.Table.{rowsFrom, tableOf}
-use Rattle.table_lines.specs.Lines.{lineMeets, lineClaims, checkLines, afterRows}
+use Rattle.claim_read.specs.HeldLaws.{name-held, claim-held}
+use Rattle.table.specs.Table.{rowMeets, rowsFrom, tableOf}
+use Rattle.table_lines.specs.Lines.{isHeader, lineMeets, lineClaims, checkLines, afterRows}
 
 -- from what is known so far, the jobs and lines that are left
 abbrev restOf : ℕ → Checked → ℕ → List Job → List (List ℕ) → Checked
@@ -63,3 +65,20 @@ after-rest t (j ∷ js) so row (l ∷ ls) =
 pub rows-right : (t : ℕ) (js : List Job) (ls : List (List ℕ)) → afterRows t Accepted 0 js ls ≡ checkLines t (jobs js) ls
 unfolding checkLines tableOf
 rows-right t js ls = after-rest t js Accepted 0 ls
+
+-- ---- of a line it is enough to hold so many bytes
+name-short : (f : ℕ) → length (nameText f) ≤ 3
+unfolding nameText
+name-short f = go (eqb f 6)
+  where
+    go : (t : Bool) → length (cond t (67 ∷ 69 ∷ 76 ∷ []) (82 ∷ letterOf f ∷ [])) ≤ 3
+    go true = omega arith
+    go false = omega arith
+
+pub held-line : (t : ℕ) (j : Job) (l : List ℕ) (k : ℕ) → 22 < k → lineMeets t j (take k l) ≡ lineMeets t j l
+unfolding lineMeets
+held-line t j l k h = ap (rowMeets t j) (claim-held (nameText (j .function)) l k (name-short (j .function)) h)
+
+pub held-header : (l : List ℕ) (k : ℕ) → 9 < k → isHeader (take k l) ≡ isHeader l
+unfolding isHeader
+held-header l k h = rw (name-held _ k l h, name-held _ k l h)

@@ -1,6 +1,7 @@
--- `field_length` meets its contract. The invariant: what was passed, and the field of what is left, are the field. Assumes nothing.
+-- `field_length` meets its contract. The invariant: what was passed, and the field of what is left, are the field. Assumes
+-- nothing.
 use Prim.Native.Nat.{_+_, _-_, _≤_}
-use mathlib.Core.Path.{_≡_, refl}
+use mathlib.Core.Path.{_≡_}
 use native.Mathlib.Omega.{arith}
 use denote.Ref.{now}
 use lib.ListN.{length, drop}
@@ -25,13 +26,15 @@ field-length-spec =
     (λ c. omega arith)
     (λ c.
     let l = c .before .before .before in
-    omega (arith, l .loop .inv .1, field-blank (now (l .before .args .text)) (l .loop .i) (c .before .before .loop-test .taken) (c .if1 .taken)))
+    let inside = c .before .before .loop-test .taken in
+    omega (arith, l .loop .inv .1, field-blank (now (l .before .args .text)) (l .loop .i) inside (c .if1 .taken)))
     (λ c. omega arith)
     (λ c. omega arith)
     (λ c.
-    let l = c .before .before .before in (
+    let l = c .before .before .before in
+    let inside = c .before .before .loop-test .taken in (
       omega arith,
-      omega (arith, l .loop .inv .1, field-more (now (l .before .args .text)) (l .loop .i) (c .before .before .loop-test .taken) (c .if1 .left)),
+      omega (arith, l .loop .inv .1, field-more (now (l .before .args .text)) (l .loop .i) inside (c .if1 .left)),
     ))
     (λ c.
     let l = c .before in

@@ -1,5 +1,6 @@
--- `number` meets its contract. The invariant: the digits that are left, after the number so far, give what all give. Assumes nothing.
-use Prim.Native.Nat.{ℕ, suc, _+_, _-_, _*_, _^_, _≤_, _<_}
+-- `number` meets its contract. The invariant: the digits that are left, after the number so far, give what all give. Assumes
+-- nothing.
+use Prim.Native.Nat.{ℕ, _+_, _-_, _*_, _^_, _≤_, _<_}
 use mathlib.Core.Path.{_≡_, refl, _∙_}
 use mathlib.Core.List.{List}
 use native.Mathlib.Nat.{mul-le-mul-left, pow-suc, pow-le-pow-right}
@@ -74,11 +75,11 @@ number-spec =
     (λ c. omega arith)
     (λ c. omega arith)
     (λ c.
-    let l = c .before .before .before .before in (
+    let l = c .before .before .before .before in
+    let d = c .before .digit .ensures in (
       omega arith,
       grown c,
-      digit-more _ (l .loop .value) (now (l .before .before .args .field)) (l .loop .i) _ (omega arith) (c .before .digit .ensures)
-          (c .if1 .left)
+      digit-more _ (l .loop .value) (now (l .before .before .args .field)) (l .loop .i) _ (omega arith) d (c .if1 .left)
           ∙ l .loop .inv .2,
     ))
     (λ c.

@@ -8,8 +8,8 @@ returns : tie.Need-returns
 returns c =
     let t = c .before .before in
     let n = t .before .before .before in
-    c .claim-said .ensures
-    ∙ name-there _ _ (n .field-length .ensures) _ _ (sym (t .before .is-name-of .ensures) ∙ t .if1 .taken) (c .before .rest .ensures)
+    let named = sym (t .before .is-name-of .ensures) ∙ t .if1 .taken in
+    c .claim-said .ensures ∙ name-there _ _ (n .field-length .ensures) _ _ named (c .before .rest .ensures)
 
 returns-2 : tie.Need-returns-2
 returns-2 c =

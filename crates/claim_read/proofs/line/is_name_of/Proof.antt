@@ -1,5 +1,5 @@
 -- `is_name_of` meets its contract, test by test as the name's definition. Assumes nothing.
-use mathlib.Core.Path.{sym, _∙_}
+use mathlib.Core.Path.{sym}
 use borrow.Author.Needs.{needs}
 use borrow.Author.Tests.{eq-eqb, ne-eqb}
 use Rattle.unpack_stream.specs.Text.{nameText}
@@ -17,4 +17,6 @@ is-name-of-spec =
     (λ c κs. tt)
     (λ c. search needs)
     (λ c κs. tt)
-    (λ c. rw (ne-eqb _ 6 (c .before .before .before .if1 .left), sym (c .before .before .letter .ensures)) (c .is-name2 .ensures)))
+    (λ c.
+    let l = c .before .before in
+    rw (ne-eqb _ 6 (l .before .if1 .left), sym (l .letter .ensures)) (c .is-name2 .ensures)))

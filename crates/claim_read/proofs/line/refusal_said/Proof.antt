@@ -10,9 +10,9 @@ returns c =
     let m = c .before .before .before in
     let t = m .before .before in
     let n = t .before .before .before .before in
+    let named = sym (t .before .is-name .ensures) ∙ t .if1 .taken in
     rw (c .count-claim .ensures, c .before .count .ensures)
-    (refusal-there _ _ (n .field-length .ensures) _ _ (sym (t .before .is-name .ensures) ∙ t .if1 .taken) (m .before .rest .ensures)
-    (m .field-length2 .ensures))
+    (refusal-there _ _ (n .field-length .ensures) _ _ named (m .before .rest .ensures) (m .field-length2 .ensures))
 
 returns-2 : tie.Need-returns-2
 returns-2 c =
