@@ -1,6 +1,6 @@
 /*
  * Gatewren: Carlson's elliptic integrals RC, RF, RD, RG and RJ and Bulirsch's cel on doubles, proved to the last bit, the leaves they
- * stand on, the swing time of the knee bench, and the work lists of its controller.
+ * stand on, the swing time of the knee bench, the work lists of its controller, and the check of other laboratories' tables.
  *
  * Link libgatewren.a (rt staticlib gatewren) or libgatewren.so (./gatewren shared). Neither wants the C maths library.
  * The code counts on what IEEE 754 and C start with: rounding to nearest, and subnormal numbers kept.
@@ -43,6 +43,7 @@ enum gatewren_outcome {
     GATEWREN_SEVERAL_INFINITE = 19, /* more than one of cel's arguments is infinite */
     GATEWREN_A_OR_B_INFINITE = 20, /* cel's a or b is infinite */
     GATEWREN_WRONG_SIGN = 21,   /* RJ's p has the wrong sign for this entry */
+    GATEWREN_NUMBERS_DIFFER = 22, /* a table's claims and its work list's jobs differ in number */
     GATEWREN_OUTSIDE_PROFILE = 23 /* an argument of a profile's entry is neither zero nor of size from 2^-64 to 2^64 */
 };
 
@@ -237,6 +238,21 @@ uint32_t gatewren_write_job(uint8_t *bytes, size_t length, size_t *place, const 
 /* Reads the job at *place and moves *place past it. Returns 0; or 14, 15 or 16, or GATEWREN_NOTHING_LEFT where no byte is left, and
    then *place and *job are as they were. The same of the pointers as above. */
 uint32_t gatewren_read_job(const uint8_t *bytes, size_t length, size_t *place, gatewren_job *job);
+
+/*
+ * Checking the tables of others: a work list, and for each of its jobs a claim of two words: 0 and the value's bits, or 1 and the
+ * refusal's number. No claim of another kind is met.
+ */
+
+/* What gatewren_check_table returns for a bad row. */
+#define GATEWREN_BAD_ROW UINT32_MAX
+
+/* Holds each claim against our answer to its job. Returns 0 exactly if each is the same refusal, or a finite value at most `tolerance`
+   steps between neighbouring doubles from ours, zeros of both signs being one; else GATEWREN_BAD_ROW, and *row is the first bad row,
+   counted from 0. The list's own 14, 15 and 16 come first, then 22 where words is not twice the number of jobs. *row is touched for a
+   bad row alone. list may be null only where length is 0, claims only where words is; row lies apart from both and is not null. */
+uint32_t gatewren_check_table(const uint8_t *list, size_t length, const uint64_t *claims, size_t words, uint64_t tolerance,
+                              uint64_t *row);
 
 /*
  * The leaves. A leaf always returns a number; where the exact result is none, that is a NaN, and which NaN is left open.

@@ -155,6 +155,25 @@ class Examples(unittest.TestCase):
         self.assertEqual(gatewren.read_list(bytes([7])), ([], 0, Refused(16)))
         self.assertEqual(gatewren.read_list(b""), ([], 0, None))
 
+    def test_tables(self):
+        one, minus_four = 0x3FF0000000000000, 0xC010000000000000
+        data = gatewren.write_list(gatewren.Job(2, (x, y, 0, 0)) for x, y in [(0, minus_four), (one, 0), (0, one)])
+        ours = [rc(0, -4), rc(1, 0), rc(0, 1)]
+        table = gatewren.check_table
+        self.assertTrue(table(data, ours, 0))
+        self.assertTrue(table(data, [-0.0, *ours[1:]], 0))
+        for bits in (1, 2**63 + 1):
+            self.assertEqual(table(data, [of_bits(bits), *ours[1:]], 0), (False, 0, None))
+            self.assertTrue(table(data, [of_bits(bits), *ours[1:]], 1))
+        for claim in (Refused(3), 4, 0.0):
+            self.assertEqual(table(data, [ours[0], claim, ours[2]], 2**64 - 1), (False, 1, None))
+        for claim in (NAN, INF, -INF, Refused(1)):
+            self.assertEqual(table(data, [*ours[:2], claim], 2**64 - 1), (False, 2, None))
+        self.assertEqual(table(data, ours[:2], 0).refused, Refused(22))
+        self.assertEqual(table(data[:-1], [], 0).refused, Refused(14))
+        self.assertRaises(ValueError, table, data, ours, 2**64)
+        self.assertRaises(ValueError, table, data, ours, -1)
+
     def test_leaves(self):
         self.assertEqual(gatewren.sqrt(2), math.sqrt(2))
         self.assertTrue(math.isnan(gatewren.sqrt(-1)))
@@ -270,7 +289,7 @@ class Answers(unittest.TestCase):
             rf(-1, 1, 1).value = 1.0
 
     def test_every_number_has_a_meaning(self):
-        self.assertEqual([refusal.value for refusal in Refusal], [*range(1, 18), 19, 20, 21, 23])
+        self.assertEqual([refusal.value for refusal in Refusal], [*range(1, 18), *range(19, 24)])
         for number in (0, 18):
             with self.assertRaises(ValueError):
                 Refused(number)

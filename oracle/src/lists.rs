@@ -7,24 +7,24 @@ use crate::call::{Call, Entry};
 use crate::lines::lines;
 
 /// A job: its function's number and its arguments.
-type Job = (u64, Vec<u64>);
+pub type Job = (u64, Vec<u64>);
 
-const NAMES: [(u64, Entry); 6] =
+pub const NAMES: [(u64, Entry); 6] =
     [(1, Entry::RF), (2, Entry::RC), (3, Entry::RD), (4, Entry::RG), (5, Entry::RJ), (6, Entry::CEL)];
 
-fn entry_of(function: u64) -> Option<Entry> {
+pub fn entry_of(function: u64) -> Option<Entry> {
     NAMES.into_iter().find(|&(number, _)| number == function).map(|(_, entry)| entry)
 }
 
 /// "in groups of seven bits, low group first, top bit set while more follow, shortest form only": as many groups as the bits
 /// fill.
-fn number(n: u64) -> Vec<u8> {
+pub fn number(n: u64) -> Vec<u8> {
     let bits = (64 - n.leading_zeros()).max(1);
     let groups = bits.div_ceil(7);
     (0..groups).map(|i| (n >> (7 * i) & 127) as u8 | if i + 1 < groups { 128 } else { 0 }).collect()
 }
 
-fn written(jobs: &[Job]) -> Vec<u8> {
+pub fn written(jobs: &[Job]) -> Vec<u8> {
     jobs.iter().flat_map(|(function, arguments)| [vec![*function], arguments.clone()].concat()).flat_map(number).collect()
 }
 
@@ -58,7 +58,7 @@ fn read_job(bytes: &[u8]) -> Result<(Job, usize), u32> {
 }
 
 /// The jobs of a list up to its first refusal, with the place at which the refused job begins.
-fn read(list: &[u8]) -> (Vec<Job>, Option<(usize, u32)>) {
+pub fn read(list: &[u8]) -> (Vec<Job>, Option<(usize, u32)>) {
     let (mut jobs, mut at) = (Vec::new(), 0);
     while at < list.len() {
         match read_job(&list[at..]) {

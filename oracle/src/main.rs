@@ -25,6 +25,7 @@ mod shapes;
 mod swing;
 #[allow(dead_code)] // the work lists are timed in bench/ and not asked here
 mod symbols;
+mod tables;
 mod tally;
 mod units;
 mod units_list;
@@ -33,7 +34,8 @@ use std::process::ExitCode;
 
 const USAGE: &str = "oracle examples | make-list | check-list | call | diff N [SEED] | leaf NAME N [SEED] | cases NAME N [SEED] |
        answers NAME | compare N [SEED [THREADS]] | units N [SEED] | orders N [SEED] | profile N [SEED] | effect N [SEED] |
-       swing N [SEED] | fuzz SECONDS [SEED] | lists N [SEED] | round N [SEED] | cel N [SEED] | make-units | make-blocks";
+       swing N [SEED] | fuzz SECONDS [SEED] | lists N [SEED] | round N [SEED] | tables N [SEED] | cel N [SEED] | make-units |
+       make-blocks";
 
 fn main() -> ExitCode {
     let words: Vec<String> = std::env::args().skip(1).collect();
@@ -69,6 +71,8 @@ fn main() -> ExitCode {
         ["lists", n, seed] => lists::runs::run(number(n), number(seed)),
         ["round", n] => lists::runs::round(number(n), 1),
         ["round", n, seed] => lists::runs::round(number(n), number(seed)),
+        ["tables", n] => tables::run(number(n), 1),
+        ["tables", n, seed] => tables::run(number(n), number(seed)),
         ["cel", n] => cel::run(number(n), 1),
         ["cel", n, seed] => cel::run(number(n), number(seed)),
         ["swing", n] => swing::run(number(n), 1),

@@ -58,3 +58,8 @@ linked! {
     "lib-lists" READ_JOB = gatewren_read_job(*const u8, usize, *mut usize, *mut [u64; 5]) -> u32;
     "lib-lists" WRITE_JOB = gatewren_write_job(*mut u8, usize, *mut usize, *const [u64; 5]) -> u32;
 }
+
+// Request 2026-11: a list's bytes and their length, the claims' words and their number, a tolerance, and a place for the row.
+linked! {
+    "lib-tables" CHECK_TABLE = gatewren_check_table(*const u8, usize, *const u64, usize, u64, *mut u64) -> u32;
+}

@@ -1,6 +1,6 @@
 """Gatewren for Python: Carlson's elliptic integrals rc, rf, rd, rg, rj_positive, rj_negative, Bulirsch's cel, the bench's profile
-of them (profile_rf and its like), the leaves they stand on, the knee bench's swing time and step log, and the packed work lists
-of its controller.
+of them (profile_rf and its like), the leaves they stand on, the knee bench's swing time and step log, the packed work lists of
+its controller, and the check of others' tables.
 
 What is called is the proved library as a shared object, which `./gatewren shared` builds and `pip install` takes along;
 GATEWREN_SO may name another place.
@@ -23,12 +23,14 @@ import enum
 import operator
 import os
 import pathlib
+import struct
 from collections.abc import Callable, Iterable
 from typing import NamedTuple, NoReturn, SupportsFloat, SupportsIndex
 
 __all__ = ["Refusal", "Road", "Answer", "Value", "Total", "Refused", "rc", "rf", "rd", "rg", "rj_positive", "rj_negative", "cel"]
 __all__ += ["profile_rc", "profile_rf", "profile_rd", "profile_rg", "profile_rj"]
-__all__ += ["Job", "ReadList", "read_list", "write_list", "swing", "steps", "sqrt", "mul_add", "pow_neg_3_2", "atan", "ln", "ln_1p"]
+__all__ += ["Job", "ReadList", "read_list", "write_list", "Checked", "check_table", "swing", "steps"]
+__all__ += ["sqrt", "mul_add", "pow_neg_3_2", "atan", "ln", "ln_1p"]
 
 __version__ = "0.4.0"
 
@@ -56,6 +58,7 @@ class Refusal(enum.Enum):
     SEVERAL_INFINITE = 19  # more than one of cel's arguments is infinite
     A_OR_B_INFINITE = 20  # cel's a or b is infinite
     WRONG_SIGN = 21  # RJ's p has the wrong sign for this entry
+    NUMBERS_DIFFER = 22  # a table's claims and its work list's jobs differ in number
     OUTSIDE_PROFILE = 23  # an argument of a profile's entry is neither zero nor of size from 2^-64 to 2^64
 
 
@@ -217,7 +220,9 @@ _JOB = ctypes.c_uint64 * 5
 _SIZE = ctypes.POINTER(ctypes.c_size_t)
 _WRITE_JOB = _symbol("write_job", [ctypes.c_char_p, ctypes.c_size_t, _SIZE, ctypes.POINTER(_JOB)], ctypes.c_uint32)
 _READ_JOB = _symbol("read_job", [ctypes.c_char_p, ctypes.c_size_t, _SIZE, ctypes.POINTER(_JOB)], ctypes.c_uint32)
-_NOTHING_LEFT = 2**32 - 1
+_CHECKED = [ctypes.c_char_p, ctypes.c_size_t, ctypes.POINTER(ctypes.c_uint64), ctypes.c_size_t, ctypes.c_uint64]
+_CHECK_TABLE = _symbol("check_table", _CHECKED + [ctypes.POINTER(ctypes.c_uint64)], ctypes.c_uint32)
+_NOTHING_LEFT = _BAD_ROW = 2**32 - 1
 _LONGEST_JOB = 41
 _SQRT = _symbol("sqrt", [_DOUBLE], _DOUBLE)
 _MUL_ADD = _symbol("mul_add", [_DOUBLE] * 3, _DOUBLE)
@@ -443,6 +448,49 @@ def write_list(jobs: Iterable[Job]) -> bytes | Refused:
             return Refused(number)
         held.append(buffer.raw[: place.value])
     return b"".join(held)
+
+
+# Checking the tables of other laboratories.
+
+
+class Checked(NamedTuple):
+    """Whether a table is accepted; where it is not its first bad row, counted from 0, or why it was not checked."""
+
+    accepted: bool
+    bad_row: int | None = None
+    refused: Refused | None = None
+
+    def __bool__(self) -> bool:
+        return self.accepted
+
+
+def _claim(claim: SupportsFloat | Refused) -> tuple[int, int]:
+    if isinstance(claim, Refused):
+        return (1, claim.number)
+    return (0, struct.unpack("<Q", struct.pack("<d", float(claim)))[0])
+
+
+def check_table(data: bytes, claims: Iterable[SupportsFloat | Refused], tolerance: SupportsIndex) -> Checked:
+    """Holds a claim for each job of a packed work list against our answer: the same refusal, or a finite value at most
+    `tolerance` steps between neighbouring floats from ours, zeros of both signs being one.
+
+    >>> data = write_list([Job(2, (0, 0x3FF0000000000000, 0, 0)), Job(2, (0, 0, 0, 0))])
+    >>> check_table(data, [rc(0, 1), rc(0, 0)], 0)
+    Checked(accepted=True, bad_row=None, refused=None)
+    >>> check_table(data, [1.5707963267948968, Refused(4)], 0)
+    Checked(accepted=False, bad_row=0, refused=None)
+    >>> bool(check_table(data, [1.5707963267948968, Refused(4)], 1))
+    True
+    >>> check_table(data, [], 0)
+    Checked(accepted=False, bad_row=None, refused=Refused(Refusal.NUMBERS_DIFFER))
+    """
+    data, words = bytes(data), [word for claim in claims for word in _claim(claim)]
+    row = ctypes.c_uint64()
+    held = (ctypes.c_uint64 * len(words))(*words)
+    number = _CHECK_TABLE(data, len(data), held, len(words), _whole(tolerance, 64), ctypes.byref(row))
+    if number == _BAD_ROW:
+        return Checked(False, bad_row=row.value)
+    return Checked(True) if number == 0 else Checked(False, refused=Refused(number))
 
 
 # The leaves. Which NaN a leaf gives is left open.

@@ -119,6 +119,7 @@ refusals! {
     SeveralInfinite = 19, "more than one of cel's arguments is infinite";
     AOrBInfinite = 20, "cel's a or b is infinite";
     WrongSign = 21, "p has the wrong sign for this entry";
+    NumbersDiffer = 22, "a table's claims and its work list's jobs differ in number";
     OutsideProfile = 23, "an argument is neither zero nor of size from 2^-64 to 2^64";
 }
 

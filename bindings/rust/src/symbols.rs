@@ -1,5 +1,6 @@
 //! The C interface, as include/gatewren.h has it.
 
+use crate::table::Claim;
 use crate::work_list::Job;
 
 /// An entry: its own arguments, then the four places that it writes to unless it refuses.
@@ -26,6 +27,14 @@ extern "C" {
     pub fn gatewren_steps(total: &mut u64, readings: *const u16, n: usize) -> u32;
     pub fn gatewren_write_job(bytes: *mut u8, length: usize, place: &mut usize, job: &Job) -> u32;
     pub fn gatewren_read_job(bytes: *const u8, length: usize, place: &mut usize, job: &mut Job) -> u32;
+    pub fn gatewren_check_table(
+        list: *const u8,
+        length: usize,
+        claims: *const Claim,
+        words: usize,
+        tolerance: u64,
+        row: &mut u64,
+    ) -> u32;
     pub fn gatewren_sqrt(x: f64) -> f64;
     pub fn gatewren_mul_add(a: f64, b: f64, c: f64) -> f64;
     pub fn gatewren_pow_neg_3_2(a: f64) -> f64;

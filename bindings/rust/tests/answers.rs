@@ -1,6 +1,7 @@
 //! Document 01's settled and printed examples, and the leaves at a few points, through the binding.
 
 use gatewren::{bench, cel, leaf, profile, rc, rd, rf, rg, rj_negative, rj_positive, Answer, Job, Refusal, Road, WorkList};
+use gatewren::{check_table, Checked, Claim};
 
 const INF: f64 = f64::INFINITY;
 const NAN: f64 = f64::NAN;
@@ -90,11 +91,11 @@ fn roads_and_rescalings() {
 #[test]
 fn every_number_has_a_meaning() {
     let numbers: Vec<u32> = Refusal::ALL.iter().map(|refusal| refusal.number()).collect();
-    assert_eq!(numbers, (1..=17).chain([19, 20, 21, 23]).collect::<Vec<u32>>());
+    assert_eq!(numbers, (1..=17).chain(19..=23).collect::<Vec<u32>>());
     assert!(Refusal::ALL.iter().all(|&refusal| Refusal::of(refusal.number()) == Some(refusal)));
     assert_eq!(Refusal::of(0), None);
     assert_eq!(Refusal::of(18), None);
-    assert_eq!(Refusal::of(22), None);
+    assert_eq!(Refusal::of(23), None);
     assert_eq!(Refusal::TooDeep.to_string(), "refused 10: a fifth nested RJ call would be needed");
 }
 
@@ -250,4 +251,39 @@ fn work_lists_go_there_and_back() {
     assert_eq!(jobs[2].write(&mut [0; 4], 0), Err(Refusal::NoRoom));
     assert_eq!(jobs[2].write(&mut [0; 9], usize::MAX), Err(Refusal::NoRoom));
     assert_eq!(WorkList::new(&[]).next(), None);
+}
+
+/// Request 2026-11: the list's own refusals, 22, then the first bad row.
+#[test]
+fn tables_are_checked() {
+    let one = 1f64.to_bits();
+    // RC(0, -4) is +0, RC(1, 0) is refused with 4, RC(0, 1) is pi / 2
+    let list = [[0, (-4f64).to_bits()], [one, 0], [0, one]].map(|[x, y]| Job { function: 2, arguments: [x, y, 0, 0] });
+    let mut bytes = [0; 3 * Job::LONGEST];
+    let place = list.iter().fold(0, |place, job| job.write(&mut bytes, place).unwrap());
+    let table = |claims: &[Claim], tolerance| check_table(&bytes[..place], claims, tolerance);
+    let ours = [rc(0.0, -4.0), rc(1.0, 0.0), rc(0.0, 1.0)].map(Claim::from);
+    assert_eq!(table(&ours, 0), Checked::Accepted);
+    let with = |row: usize, claim| {
+        let mut claims = ours;
+        claims[row] = claim;
+        claims
+    };
+    // both zeros are one; the smallest numbers of both signs lie a step from it, two from each other
+    assert_eq!(table(&with(0, Claim::value(-0.0)), 0), Checked::Accepted);
+    for bits in [1, (1 << 63) + 1] {
+        assert_eq!(table(&with(0, Claim::value(f64::from_bits(bits))), 0), Checked::BadRow(0));
+        assert_eq!(table(&with(0, Claim::value(f64::from_bits(bits))), 1), Checked::Accepted);
+    }
+    for claim in [Claim::refused(3), Claim::value(4.0), Claim::value(0.0)] {
+        assert_eq!(table(&with(1, claim), u64::MAX), Checked::BadRow(1));
+    }
+    for claim in [Claim::refused(0), Claim::value(NAN), Claim::value(INF), Claim::value(-INF)] {
+        assert_eq!(table(&with(2, claim), u64::MAX), Checked::BadRow(2));
+    }
+    assert_eq!(table(&[Claim::refused(1); 3], 0), Checked::BadRow(0));
+    assert_eq!(table(&[Claim::refused(1); 2], 0), Checked::Refused(Refusal::NumbersDiffer));
+    assert_eq!(check_table(&bytes[..place - 1], &[], 0), Checked::Refused(Refusal::ListCut));
+    assert_eq!(check_table(&[2, 0x81, 0], &ours, 0), Checked::Refused(Refusal::NumberBad));
+    assert_eq!(check_table(&[], &[], 0), Checked::Accepted);
 }

@@ -1,5 +1,4 @@
-// Standard input and standard output, for every program: a block is read, bytes are written, and where that fails it is said on standard
-// error.
+// What a program reads and writes: a block is read, bytes are written, and where that fails it is said on standard error.
 use libc::STDERR_FILENO;
 use libc::STDIN_FILENO;
 use libc::STDOUT_FILENO;
@@ -18,10 +17,10 @@ pub enum Got {
 }
 
 // Reads once, into the start of the block.
-pub fn read_block(block: &mut [u8]) -> Got
+pub fn read_from(file: i32, block: &mut [u8]) -> Got
     ensures { λ r. ⌜ Within r (now (block .exit)) ⌝ }
 {
-    let got = libc::read(STDIN_FILENO, block);
+    let got = libc::read(file, block);
     if got < 0 {
         io::write_all(STDERR_FILENO, b"gatewren: cannot read\n");
         return Got::Failed;
@@ -30,6 +29,13 @@ pub fn read_block(block: &mut [u8]) -> Got
         return Got::End;
     }
     Got::Bytes(io::count(got, block))
+}
+
+// The same of standard input.
+pub fn read_block(block: &mut [u8]) -> Got
+    ensures { λ r. ⌜ Within r (now (block .exit)) ⌝ }
+{
+    read_from(STDIN_FILENO, block)
 }
 
 fn written_from(out: &[u8], used: usize) -> bool {

@@ -6,4 +6,5 @@ mod power_leaf;
 mod profile_entries;
 mod series_leaf;
 mod swing_layer;
+mod tables;
 mod work_lists;

@@ -49,7 +49,7 @@ fn argument(line: &[u8], at: usize) -> Word
     Word::Is(value)
 }
 
-fn is_name(text: &[u8], name: &[u8]) -> bool
+pub fn is_name(text: &[u8], name: &[u8]) -> bool
     ensures { λ r. ⌜ r ≡ same (now (text .entry)) (now (name .entry)) ⌝ }
 {
     check::same(text, name)

@@ -1,6 +1,7 @@
-// The rows of standard input, one after the other: each is held without its end, as much of it as there is room for.
+// The rows of a file or of standard input, one after the other: each is held without its end, as much of it as there is room for.
 use console::Got;
-use console::read_block;
+use console::read_from;
+use libc::STDIN_FILENO;
 use writing::least;
 use writing::push;
 ghost use mathlib.Core.Path.{_≡_};
@@ -13,12 +14,14 @@ pub const ROW: usize = 128;
 
 pub const BLOCK: usize = 2048;
 
-// The next byte's place in the block, how many bytes of the block came, how many are held of a row, and whether it is whole.
+// The next byte's place in the block, how many bytes of the block came, how many are held of a row, whether it is whole, and
+// whether a read failed.
 pub struct Rows {
     pub at: usize,
     pub size: usize,
     pub row: usize,
     pub whole: bool,
+    pub failed: bool,
 }
 
 // Before the first row.
@@ -30,6 +33,7 @@ pub fn begin() -> Rows
         size: 0,
         row: 0,
         whole: false,
+        failed: false,
     }
 }
 
@@ -50,6 +54,7 @@ fn scan(rows: Rows, block: &[u8], held: &mut [u8]) -> Rows
                 size,
                 row,
                 whole: true,
+                failed: false,
             };
         }
         row = push(held, row, b);
@@ -59,32 +64,41 @@ fn scan(rows: Rows, block: &[u8], held: &mut [u8]) -> Rows
         size,
         row,
         whole: false,
+        failed: false,
     }
 }
 
 // Reads on in the middle of a row. It is whole where the input has ended, if anything is held of it.
-fn read_on(row: usize, block: &mut [u8]) -> Rows
+fn read_on(file: i32, row: usize, block: &mut [u8]) -> Rows
     ensures { λ r. ⌜ r .row ≤ row ⌝ }
 {
-    match read_block(block) {
+    match read_from(file, block) {
         Got::Bytes(size) => Rows {
             at: 0,
             size,
             row,
             whole: false,
+            failed: false,
         },
         Got::End => Rows {
             at: 0,
             size: 0,
             row,
             whole: row > 0,
+            failed: false,
         },
-        Got::Failed => begin(),
+        Got::Failed => Rows {
+            at: 0,
+            size: 0,
+            row: 0,
+            whole: false,
+            failed: true,
+        },
     }
 }
 
 // The next row, at the start of `held`; there is none where it is not whole. A read that fails ends the rows.
-pub fn next(rows: Rows, block: &mut [u8; BLOCK], held: &mut [u8; ROW]) -> Rows
+pub fn next_of(file: i32, rows: Rows, block: &mut [u8; BLOCK], held: &mut [u8; ROW]) -> Rows
     ensures { λ r. ⌜ Counts (r .row) (now (held .exit)) ⌝ }
 {
     let mut so_far = Rows {
@@ -92,6 +106,7 @@ pub fn next(rows: Rows, block: &mut [u8; BLOCK], held: &mut [u8; ROW]) -> Rows
         size: rows.size,
         row: 0,
         whole: false,
+        failed: false,
     };
     // A proved loop has to end, and nothing says that a row does: so many turns no run uses up.
     let mut turns = u64::MAX;
@@ -100,11 +115,18 @@ pub fn next(rows: Rows, block: &mut [u8; BLOCK], held: &mut [u8; ROW]) -> Rows
         if so_far.whole {
             return so_far;
         }
-        so_far = read_on(so_far.row, block);
+        so_far = read_on(file, so_far.row, block);
         if so_far.size == 0 {
             return so_far;
         }
         turns -= 1;
     }
     begin()
+}
+
+// The same of standard input.
+pub fn next(rows: Rows, block: &mut [u8; BLOCK], held: &mut [u8; ROW]) -> Rows
+    ensures { λ r. ⌜ Counts (r .row) (now (held .exit)) ⌝ }
+{
+    next_of(STDIN_FILENO, rows, block, held)
 }

@@ -7,3 +7,4 @@ pub use crate::stream::HELD;
 pub use crate::stream::Progress;
 pub use crate::stream::feed;
 pub use crate::stream::left_over;
+pub use crate::text::letter;

@@ -11,7 +11,7 @@ ghost use Rattle.writing.specs.Written.{Put};
 ghost use Rattle.unpack_stream.specs.Text.{letterOf, nameText, argumentText, jobText, argumentRoom, lineRoom};
 
 // The second letter of the function's name; all but cel's begin with R.
-fn letter(function: u64) -> u8
+pub fn letter(function: u64) -> u8
     ensures { λ r. ⌜ r ≡ letterOf function ⌝ }
 {
     if function == 1 {

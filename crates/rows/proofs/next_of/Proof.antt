@@ -1,4 +1,4 @@
--- `next` meets its contract, and ends: the measure is the number of turns that are left. Assumes nothing.
+-- `next_of` meets its contract, and ends: the measure is the number of turns that are left. Assumes nothing.
 use Prim.Native.Nat.{ℕ, _≤_}
 use mathlib.Core.Path.{sym}
 use mathlib.Core.List.{List}
@@ -7,20 +7,20 @@ use borrow.Author.Needs.{needs}
 use lib.ListN.{length}
 use lib.Seq.{length-take-le}
 use Rattle.io.specs.Counts.{Counts}
-use Rattle.rows.proofs.next.Statement.{statement}
-use Rattle.rows.proofs.next.Tie as tie
+use Rattle.rows.proofs.next_of.Statement.{statement}
+use Rattle.rows.proofs.next_of.Tie as tie
 
 abbrev Inv-loop : tie.InvT-loop
-Inv-loop block₀ held₀ so-far₀ turns₀ block held so-far turns = so-far .row ≤ length held
+Inv-loop file block₀ held₀ so-far₀ turns₀ block held so-far turns = so-far .row ≤ length held
 
 abbrev μ-loop : tie.MeasureT-loop
-μ-loop block₀ held₀ so-far₀ turns₀ block held so-far turns = turns
+μ-loop file block₀ held₀ so-far₀ turns₀ block held so-far turns = turns
 
 counted : (n : ℕ) (l : List ℕ) → n ≤ length l → Counts n l
 counted n l h = (h, sym (length-take-le _ _ h))
 
-pub next-spec : {M : Type 1} → statement M
-next-spec =
+pub next-of-spec : {M : Type 1} → statement M
+next-of-spec =
     tie.close
     (tie.spec
     Inv-loop

@@ -1,0 +1,4 @@
+pub mod Line
+pub mod FieldLaws
+pub mod StepLaws
+pub mod HeldLaws

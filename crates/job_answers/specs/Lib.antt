@@ -1,0 +1,2 @@
+pub mod JobAnswers
+pub mod JobLaws

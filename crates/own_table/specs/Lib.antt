@@ -1,0 +1,4 @@
+pub mod OwnAnswers
+pub mod OwnLine
+pub mod JobLine
+pub mod OwnTable
