@@ -1,7 +1,7 @@
 -- n * 2 ^ 52 against c * (c + 1), by products of the halves h and l of c = h * 2 ^ 26 + l. Assumes nothing.
 use Prim.Native.Nat.{ℕ, _+_, _-_, _*_, _/_, _%_, _^_, _≤_, _<_}
 use mathlib.Core.Path.{_≡_, ap, _∙_, subst}
-use native.Mathlib.Nat.{mul-le-mul, mul-le-mul-left}
+use native.Mathlib.Nat.{mul-le-mul}
 use native.Mathlib.Omega.{arith}
 use lib.Dec.{ltb}
 use lib.Pow.{pow-add, pow-mono}
@@ -38,19 +38,6 @@ by-halves n h l c e =
     let d = h * 2 ^ 26 + l in
     let k : h * h * 2 ^ 52 + (2 * h * l + h) * 2 ^ 26 + (l * l + l) ≡ d * (d + 1) = omega (arith, squared h l, square-up d) in
     nested n (h * h) (2 * h * l + h) (l * l + l) ∙ ap (λ (z : ℕ). ltb z (n * 2 ^ 52)) (k ∙ ap (λ (z : ℕ). z * (z + 1)) e)
-
--- what `is_root` has tested (x, y and z are h * h, 2 * h * l and l * l)
-from-products : (n h l x y z : ℕ) → h ≤ y → l ≤ z → x * 2 ^ 52 + y * 2 ^ 26 + z ≡ (h * 2 ^ 26 + l) * (h * 2 ^ 26 + l)
-    → x + (y - h + (z - l) / 2 ^ 26) / 2 ^ 26 < n → n ≤ x + (y + h + (z + l) / 2 ^ 26) / 2 ^ 26 → RootDigits n (h * 2 ^ 26 + l)
-from-products n h l x y z p q e a b = record { above = omega arith; within = omega arith }
-
-pub tested : (n h l c : ℕ) → 0 < l → h * 2 ^ 26 + l ≡ c
-    → h * h + (2 * h * l - h + (l * l - l) / 2 ^ 26) / 2 ^ 26 < n → n ≤ h * h + (2 * h * l + h + (l * l + l) / 2 ^ 26) / 2 ^ 26
-    → RootDigits n c
-tested n h l c L e a b =
-    let p : h * 1 ≤ 2 * h * l = mul-le-mul (omega arith) L in
-    let q : l * 1 ≤ l * l = mul-le-mul-left l L in
-    subst (λ (z : ℕ). RootDigits n z) e (from-products n h l (h * h) (2 * h * l) (l * l) (omega arith) (omega arith) (squared h l) a b)
 
 -- ---- the root is the first c with n * 2 ^ 52 ≤ c * (c + 1)
 square-suc : (a : ℕ) → (a + 1) * (a + 1) ≡ a * (a + 1) + (a + 1)

@@ -20,3 +20,8 @@ pub record Scaled (b n y : ℕ) : Type 0 where
 pub record RootDigits (n c : ℕ) : Type 0 where
   pub above : c * c < n * 2 ^ 52 + c
   pub within : n * 2 ^ 52 ≤ c * c + c
+
+-- The same of the digits at the left end of a word: C is c * 2 ^ 11, and T is n * 2 ^ 10.
+pub record Held (T C : ℕ) : Type 0 where
+  pub above : C * C < T * 2 ^ 64 + C * 2 ^ 11
+  pub within : T * 2 ^ 64 ≤ C * C + C * 2 ^ 11

@@ -1,7 +1,6 @@
 // The rounded root of n * 2 ^ 52: the whole number c with c * (c - 1) < n * 2 ^ 52 ≤ c * (c + 1).
 // A product is formed by the halves of c, c = h * 2 ^ 26 + l, so that it fits 64 bits.
 use crate::way::Way;
-use root_guess::guess;
 ghost use mathlib.Core.Path.{_≡_};
 ghost use mathlib.Core.Bool.{true};
 ghost use Prim.Native.Nat.{_+_, _*_, _^_, _≤_, _<_};
@@ -16,25 +15,6 @@ const TWO: u64 = 0x3fe0_0000_0000_0000; // with the 53 digits, the pattern of a 
 
 const FOUR: u64 = 0x3ff0_0000_0000_0000; // and from 2 to 4
 
-// Whether c is the root: the products of the halves are formed once for both tests, and l is 1 at least, so that no difference
-// is below zero.
-pub fn is_root(n: u64, c: u64) -> bool
-    ensures { λ r. ⌜ (r ≡ true → RootDigits n c) ⌝ }
-{
-    if c / ONE != 1 {
-        return false;
-    }
-    let h = (c - 1) / HALF;
-    let l = (c - 1) % HALF + 1;
-    let hh = h * h;
-    let hl = 2 * h * l;
-    let ll = l * l;
-    if n <= hh + (hl - h + (ll - l) / HALF) / HALF {
-        return false;
-    }
-    n <= hh + (hl + h + (ll + l) / HALF) / HALF
-}
-
 // Whether n * 2 ^ 52 is above c * (c + 1), so that the root is above c.
 fn above(n: u64, c: u64) -> bool
     requires { ⌜ c ≤ 2 ^ 53 ⌝ }
@@ -43,6 +23,19 @@ fn above(n: u64, c: u64) -> bool
     let h = c / HALF;
     let l = c % HALF;
     h * h + (2 * h * l + h + (l * l + l) / HALF) / HALF < n
+}
+
+// Whether c is the root, where it has 53 digits.
+fn is_root(n: u64, c: u64) -> bool
+    ensures { λ r. ⌜ (r ≡ true → RootDigits n c) ⌝ }
+{
+    if c / ONE != 1 {
+        return false;
+    }
+    if above(n, c) {
+        return false;
+    }
+    above(n, c - 1)
 }
 
 // The root, by halving the range that it lies in: 52 turns, whatever n is.
@@ -62,15 +55,24 @@ fn bisect(n: u64) -> u64
     low + 1
 }
 
-// A guess at the root from n alone, any number where the guess is no number.
+// Heron's rule: the mean of r and v / r is nearer to the root of v than r is. h is half of v.
+fn nearer(h: f64, r: f64) -> f64 {
+    r * 0.5 + h / r
+}
+
+// A guess at the root from n alone, any number where the guess is no number. With v from 1 to 4, the first r is at most 0.6 %
+// off, and three steps leave no more than their own rounding.
 fn near(n: u64) -> u64
     requires { ⌜ n < 2 ^ 54 ⌝ }
 {
-    let s = if n < 2 * ONE {
-        guess(n + TWO)
+    let v = if n < 2 * ONE {
+        f64::from_bits(n + TWO)
     } else {
-        guess(n / 2 + FOUR)
+        f64::from_bits(n / 2 + FOUR)
     };
+    let h = v * 0.5;
+    let r = 0.5186 + v * (0.526 - v * 0.0395);
+    let s = nearer(h, nearer(h, nearer(h, r)));
     if s > 0.0 {
         return std::num::wrapping_sub_u64(f64::to_bits(s), TWO);
     }

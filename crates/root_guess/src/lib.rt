@@ -1,12 +1,13 @@
 // A guess at a root, by plain f64 arithmetic, for `root`, which certifies it. Nothing is proved of it but that it is safe. In
-// tests it was the rounded root at all but one number of 400, and there its neighbour.
+// tests it was the rounded root at all but one number of 320, and there its neighbour.
 //
 // x is m * scale * scale with 1/2 ≤ m < 2, and r near √m has few digits, so that r * r and d = m - r * r are exact. With
 // w = d / (4 * r * r), √m is r + d / (2 * r) * p(w), where p(w) = (√(1 + 4 * w) - 1) / (2 * w), which is
-// 1 - w + 2 * w * w - 5 * w * w * w + .. , and |w| is at most 2 ^ -8. A polynomial of degree 6 gives the sum to 2 ^ -60. It is
+// 1 - w + 2 * w * w - 5 * w * w * w + .. , and |w| is at most 2 ^ -8. A polynomial of degree 6 gives the sum to 2 ^ -61. It is
 // written as a product of three factors, which a processor works out side by side. So that no number stands before them, the
-// quotients are 1.456 times as large: 1.456 / (2 * r), and its square for w. The sum with r comes last, so that the only
-// rounding that counts is its own.
+// quotients are 1.456 times as large: 1.456 / (2 * r), and its square for w. The factors take u = m * 1.456² / (4 * r * r), which
+// is w * 1.456² and 1.456² / 4 more, so that they need not wait for d. The sum with r comes last, so that the only rounding that
+// counts is its own.
 mod start;
 
 use crate::start::slope;
@@ -26,12 +27,13 @@ pub fn guess(b: u64) -> f64 {
     let near = start(piece);
     let by = slope(piece);
     let scale = f64::from_bits((b / TWO + 512) * ONE);
-    let d = f64::from_bits(b % TWO + HALF) - near.1;
-    let w = d * by.1;
-    let e = w + 0.660882053792521;
-    let f = w - 0.13324170812948444;
-    let g = w - 0.8646944230901928;
-    let left = d * (by.0 * scale) * (e * e + 0.3642654054909283);
-    let right = (f * f + 0.8884543015832698) * (g * g + 0.19848538453708137);
+    let m = f64::from_bits(b % TWO + HALF);
+    let d = m - near.1;
+    let u = m * by.1;
+    let e = u + 0.13092316879844296;
+    let f = u - 0.6632040417534174;
+    let g = u - 1.3946590464812034;
+    let left = d * (by.0 * scale) * (e * e + 0.36426702543150663);
+    let right = (f * f + 0.8884544985790055) * (g * g + 0.19848527717193246);
     near.0 * scale + left * right
 }

@@ -21,11 +21,11 @@ mul-scale c = search needs
 float-from-bits-scale : tie.Need-float-from-bits-scale
 float-from-bits-scale c = bits-number ((c .before .before .args .b / 2 ^ 53 + 512) * 2 ^ 52) (omega arith)
 
-add-d : tie.Need-add-d
-add-d c = search needs
+add-m : tie.Need-add-m
+add-m c = search needs
 
-float-from-bits-d : tie.Need-float-from-bits-d
-float-from-bits-d c = bits-number (c .before .before .args .b % 2 ^ 53 + 1022 * 2 ^ 52) (omega arith)
+float-from-bits-m : tie.Need-float-from-bits-m
+float-from-bits-m c = bits-number (c .before .before .args .b % 2 ^ 53 + 1022 * 2 ^ 52) (omega arith)
 
 returns : tie.Need-returns
 returns c = search needs
@@ -39,6 +39,6 @@ guess-spec =
     add-scale
     mul-scale
     float-from-bits-scale
-    add-d
-    float-from-bits-d
+    add-m
+    float-from-bits-m
     returns)
