@@ -1,15 +1,16 @@
 // A report's words (document 02, 2026-05): a block for each of the six functions that the work lists know, in the order of their
 // numbers. Zero words are the report of no list.
 mod add;
+mod both;
 mod calls;
 mod join;
 mod parts;
 mod place;
 
 pub use crate::add::add_counted;
-pub use crate::calls::Room;
-pub use crate::calls::room_after;
-pub use crate::join::join_words;
+pub use crate::both::join_reports;
+pub use crate::both::judge_list;
+pub use crate::both::room_for;
 pub use crate::parts::calls_of;
 pub use crate::parts::most_of;
 pub use crate::parts::refused_of;
