@@ -50,7 +50,7 @@ same-length c = search needs
 
 -- src/add.rt:10:1
 returns : tie.Need-returns
-returns c = 
+returns c =
     let s = c .before .before .before .before in
     let a = s .before .before .before .args in
     added (a .report .now) (c .before .before .add-to-block .last .0) (a .function) (a .counted) (s .before .stands .ensures) (s .if1 .taken)

@@ -38,7 +38,7 @@ shared-slice-read-calls c = search needs
 
 -- src/calls.rt:29:13
 returns-2 : tie.Need-returns-2 Inv-loop μ-loop
-returns-2 c = 
+returns-2 c =
     let l = c .before .before .before in
     calls-over _ (l .loop .left) (l .loop .k) _ (l .loop .inv .2) (omega arith) (l .loop .inv .1) (omega arith)
 
@@ -52,13 +52,13 @@ loop-less c = omega arith
 
 -- src/calls.rt:26:5
 loop-again : tie.Need-loop-again Inv-loop μ-loop
-loop-again c = 
+loop-again c =
     let l = c .before .before .before in
     (omega arith, calls-on _ (l .loop .left) (l .loop .k) _ (l .loop .inv .1) (omega arith), l .loop .inv .2)
 
 -- src/calls.rt:18:1
 returns-3 : tie.Need-returns-3 Inv-loop μ-loop
-returns-3 c = 
+returns-3 c =
     let l = c .before in
     calls-left _ (l .loop .left) (l .loop .k) _ (l .loop .inv .2) (omega arith) (omega arith) (l .loop .inv .1)
 

@@ -85,9 +85,13 @@ loop-less c = omega arith
 loop-again : tie.Need-loop-again Inv-loop μ-loop
 loop-again c =
     let l = c .before .before .before .before .before .before in
-    let o = l .before .before .before .before .before .args .other .now in
-    (omega arith, omega arith, l .loop .inv .2, joined-on (l .loop .k) (l .loop .report) o (c .before .before .join-blocks .last .0) (omega arith)
-    (c .before .before .join-blocks .ensures) ∙ l .loop .inv .3)
+    let o = l .before .before .before .before .before .args .other .now in (
+      omega arith,
+      omega arith,
+      l .loop .inv .2,
+      joined-on (l .loop .k) (l .loop .report) o (c .before .before .join-blocks .last .0) (omega arith)
+          (c .before .before .join-blocks .ensures) ∙ l .loop .inv .3,
+    )
 
 -- src/join.rt:12:1
 same-length : tie.Need-same-length Inv-loop μ-loop

@@ -22,7 +22,7 @@ word-at-requires c κs = search needs
 
 -- src/parts.rt:39:1
 returns-3 : tie.Need-returns-3
-returns-3 c = 
+returns-3 c =
     let a = c .before .before .before .before .args in c .word-at .ensures ∙ refused-there (a .report .now) (a .function) (a .number) (omega arith) (omega arith)
 
 pub refused-of-spec : {M : Type 1} → statement M

@@ -51,7 +51,7 @@ rounded-requires c κs = search needs
 
 -- src/parts.rt:70:9
 returns : tie.Need-returns
-returns c = 
+returns c =
     let s = c .before .before in
     let a = s .before .before .before .args in c .rounded .ensures ∙ sum-there (a .report .now) (a .function) (s .before .stands .ensures) (s .if1 .taken)
 
