@@ -1,0 +1,69 @@
+-- A report's text read back: a line is taken if it is just the line that would be written of what it says. Definitions only.
+use Prim.Native.Nat.{ℕ, zero, suc, _+_, _-_, _*_, _%_, _^_}
+use mathlib.Core.Bool.{Bool, true, false, not, _&&_, cond}
+use mathlib.Core.List.{List, [], _∷_, _++_}
+use lib.Dec.{eqb, leb, ltb}
+use lib.ListN.{getD, take, drop, set, replicate}
+use Rattle.limbs.specs.Value.{limbsOf}
+use Rattle.exact.specs.Exact.{sumWords, turn}
+use Rattle.digits.specs.Digits.{digitOf}
+use Rattle.tally.specs.Tally.{blockWords, sumPlace}
+use Rattle.report_words.specs.Words.{reportWords}
+use Rattle.report_text.specs.Text.{blockAt, slotAt, placeAt, lineAt, lineCount, tallyAt, leftOut}
+
+-- the number at a line's end, modulo m: every byte that is no digit begins it anew
+unfoldable pub trailing : ℕ → ℕ → ℕ → List ℕ → ℕ
+trailing base m v [] = v
+trailing base m v (b ∷ bs) = trailing base m (cond (ltb (digitOf b) base) ((v * base + digitOf b) % m) 0) bs
+
+-- whether a line has a minus in it
+unfoldable pub hasMinus : List ℕ → Bool
+hasMinus [] = false
+hasMinus (b ∷ bs) = cond (eqb b 45) true (hasMinus bs)
+
+-- a sum's number as it is held
+unfoldable pub heldFrom : Bool → ℕ → ℕ
+heldFrom minus n = cond minus ((turn - n) % turn) n
+
+-- the words with 34 others in the place of a block's sum
+unfoldable pub withSum : List ℕ → ℕ → List ℕ → List ℕ
+withSum ws q ss =
+    take (blockAt q * blockWords + sumPlace) ws ++ (ss ++ drop sumWords (drop (blockAt q * blockWords + sumPlace) ws))
+
+-- the words with what a line says in the place of its line q
+unfoldable pub placed : List ℕ → ℕ → List ℕ → List ℕ
+placed ws q line =
+    cond (ltb (slotAt q) sumPlace) (set ws (placeAt q) (trailing 10 (2 ^ 64) 0 line))
+    (cond (eqb (slotAt q) sumPlace) (withSum ws q (limbsOf sumWords (heldFrom (hasMinus line) (trailing 16 turn 0 line)))) ws)
+
+-- the same bytes
+unfoldable pub sameBytes : List ℕ → List ℕ → Bool
+sameBytes [] [] = true
+sameBytes [] (c ∷ cs) = false
+sameBytes (b ∷ bs) [] = false
+sameBytes (b ∷ bs) (c ∷ cs) = cond (eqb b c) (sameBytes bs cs) false
+
+-- it is the line q
+unfoldable pub fitsAt : List ℕ → ℕ → List ℕ → Bool
+fitsAt ws q line = not (leftOut (placed ws q line) q) && sameBytes (lineAt (placed ws q line) q) line
+
+-- ---- after a line: the number of the line that may come next, and the words; or that it is none
+pub data Taken : Type 0 where
+  took : ℕ → List ℕ → Taken
+  bad : Taken
+
+-- the line q, or one after it that comes where tallies of 0 are left out
+unfoldable pub takeLine : ℕ → ℕ → List ℕ → List ℕ → Taken
+takeLine q zero ws line = bad
+takeLine q (suc left) ws line =
+    cond (fitsAt ws q line) (took (suc q) (placed ws q line)) (cond (tallyAt q) (takeLine (suc q) left ws line) bad)
+
+-- lines one after the other
+unfoldable pub takeLines : Taken → List (List ℕ) → Taken
+takeLines t [] = t
+takeLines bad (l ∷ ls) = bad
+takeLines (took q ws) (l ∷ ls) = takeLines (takeLine q (lineCount - q) ws l) ls
+
+-- no word yet
+abbrev pub noWords : List ℕ
+noWords = replicate reportWords 0
