@@ -2,10 +2,10 @@
 use Prim.Native.Nat.{ℕ, zero, suc, _+_, _%_, _^_}
 use mathlib.Core.Bool.{cond}
 use mathlib.Core.List.{List, [], _∷_, _++_}
-use lib.Dec.{eqb, ltb}
+use lib.Dec.{eqb, leb}
 use Rattle.limbs.specs.Value.{limbsOf}
 use Rattle.exact.specs.Exact.{heldSum, finitePattern, sumWords}
-use Rattle.tally.specs.Tally.{roundsPlace, mostPlace, sumPlace, larger}
+use Rattle.tally.specs.Tally.{lastNumber, roundsPlace, sumPlace, larger}
 use Rattle.tally.specs.declared.counted.Counted.{Counted}
 
 -- ---- "for each function, the calls, each refusal number's tally, rounds in all, the most rounds in one call, and the exact sum of
@@ -31,11 +31,11 @@ unfoldable pub valuesOf : List Counted → List ℕ
 valuesOf [] = []
 valuesOf (c ∷ cs) = cond (finitePattern (c .bits)) (c .bits ∷ valuesOf cs) (valuesOf cs)
 
--- ---- its words: each of them modulo 2 ^ 64, which never acts where there are fewer than 2 ^ 32 answers (TallyLaws, `words-plain`)
+-- ---- its words: each of them modulo 2 ^ 64, which never acts where there are fewer than 2 ^ 32 answers (MeaningLaws, `plain`)
 unfoldable pub wordOf : ℕ → List Counted → ℕ
 wordOf i cs =
     cond (eqb i 0) (callsOf cs % 2 ^ 64)
-    (cond (ltb i roundsPlace) (refusedOf i cs % 2 ^ 64)
+    (cond (leb i lastNumber) (refusedOf i cs % 2 ^ 64)
     (cond (eqb i roundsPlace) (roundsOf cs % 2 ^ 64) (mostOf cs)))
 
 -- so many of them from a place on
