@@ -17,7 +17,7 @@ use Rattle.tally.specs.declared.counted.Counted.{Counted}
 use Rattle.report_words.specs.Words.{standsIn, blockIn, withBlock, countedAdded, blocksJoined, wordsJoined}
 
 -- ---- a word of a block
-block-word : (ws : List ℕ) (k i : ℕ) → i < 64 → getD (blockIn ws k) i 0 ≡ getD ws (k * 64 + i) 0
+pub block-word : (ws : List ℕ) (k i : ℕ) → i < 64 → getD (blockIn ws k) i 0 ≡ getD ws (k * 64 + i) 0
 block-word ws k i h = getD-take 64 (drop (k * 64) ws) i 0 h ∙ getD-drop (k * 64) ws i 0
 
 pub block-long : (ws : List ℕ) (k : ℕ) → length ws ≡ 384 → k < 6 → length (blockIn ws k) ≡ 64

@@ -88,8 +88,12 @@ module _ (ws os : List ℕ) (h : length ws ≡ 64) (k : length os ≡ 64) where
   pub joined-length : length (blockJoined ws os) ≡ 64
   joined-length =
       ap length is-joined
-      ∙ rw (length-append, front-length, slots-rest 30 0 ws os (omega arith),
-      sums-length (drop 30 ws) (drop 30 os) (rest-long ws h) (rest-long os k))
+      ∙ rw (
+        length-append,
+        front-length,
+        slots-rest 30 0 ws os (omega arith),
+        sums-length (drop 30 ws) (drop 30 os) (rest-long ws h) (rest-long os k),
+      )
 
 rest-of : (l : List ℕ) → length l ≡ 64 → length (drop 30 l) ≡ 34
 rest-of l e = rw (length-drop, e)
