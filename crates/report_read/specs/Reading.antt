@@ -8,8 +8,9 @@ use Rattle.limbs.specs.Value.{limbsOf}
 use Rattle.exact.specs.Exact.{sumWords, turn}
 use Rattle.digits.specs.Digits.{digitOf}
 use Rattle.tally.specs.Tally.{blockWords, sumPlace}
+use Rattle.listing_read.specs.Lines.{same}
 use Rattle.report_words.specs.Words.{reportWords}
 use Rattle.report_text.specs.Text.{blockAt, slotAt, placeAt, lineAt, lineCount, tallyAt, leftOut}
 
 -- the number at a line's end, modulo m: every byte that is no digit begins it anew
 unfoldable pub trailing : ℕ → ℕ → ℕ → List ℕ → ℕ
@@ -36,16 +37,9 @@ placed ws q line =
     cond (ltb (slotAt q) sumPlace) (set ws (placeAt q) (trailing 10 (2 ^ 64) 0 line))
     (cond (eqb (slotAt q) sumPlace) (withSum ws q (limbsOf sumWords (heldFrom (hasMinus line) (trailing 16 turn 0 line)))) ws)
 
--- the same bytes
-unfoldable pub sameBytes : List ℕ → List ℕ → Bool
-sameBytes [] [] = true
-sameBytes [] (c ∷ cs) = false
-sameBytes (b ∷ bs) [] = false
-sameBytes (b ∷ bs) (c ∷ cs) = cond (eqb b c) (sameBytes bs cs) false
-
 -- it is the line q
 unfoldable pub fitsAt : List ℕ → ℕ → List ℕ → Bool
-fitsAt ws q line = not (leftOut (placed ws q line) q) && sameBytes (lineAt (placed ws q line) q) line
+fitsAt ws q line = not (leftOut (placed ws q line) q) && same (lineAt (placed ws q line) q) line
 
 -- ---- after a line: the number of the line that may come next, and the words; or that it is none
 pub data Taken : Type 0 where
