@@ -7,11 +7,16 @@ use jobs_in::begin;
 use jobs_in::place;
 use jobs_in::pull;
 use libc::STDIN_FILENO;
+use packed::Job;
 use report::add_job;
 use report_say::say_report;
 use report_words::judge_list;
 use worklist::Count;
 use writing::OUT;
+
+fn add(words: &mut [u64; 384], job: Job) {
+    add_job(words, job);
+}
 
 // After the list's last job: 18 where there were too many, else the report.
 fn end(words: &[u64; 384], calls: u64, at: u64, out: &mut [u8; OUT]) {
@@ -34,7 +39,7 @@ fn report_all(out: &mut [u8; OUT]) {
     while turns > 0 {
         match pull(STDIN_FILENO, &mut window, stands) {
             Pulled::Job(job, next) => {
-                add_job(&mut words, job);
+                add(&mut words, job);
                 stands = next;
             }
             Pulled::More => {

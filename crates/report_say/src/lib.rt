@@ -1,9 +1,10 @@
 // A report's text on standard output.
 use console::written;
-use report_text::LINES;
 use report_text::put_header;
 use report_text::put_line;
 use writing::OUT;
+
+const LINES: usize = 192;
 
 // All its lines go into one buffer: they are some twelve thousand bytes at most.
 pub fn say_report(words: &[u64; 384], out: &mut [u8; OUT]) -> bool {
