@@ -289,8 +289,8 @@ class Answers(unittest.TestCase):
             rf(-1, 1, 1).value = 1.0
 
     def test_every_number_has_a_meaning(self):
-        self.assertEqual([refusal.value for refusal in Refusal], [*range(1, 18), *range(19, 24)])
-        for number in (0, 18):
+        self.assertEqual([refusal.value for refusal in Refusal], list(range(1, 24)))
+        for number in (0, 24):
             with self.assertRaises(ValueError):
                 Refused(number)
 

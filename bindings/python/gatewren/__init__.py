@@ -55,6 +55,7 @@ class Refusal(enum.Enum):
     NUMBER_BAD = 15  # a work list has a number over 64 bits or not in its shortest form
     UNKNOWN_FUNCTION = 16  # a job's function is none of those that work lists know
     NO_ROOM = 17  # a job is longer than what is left of the buffer
+    TOO_MANY = 18  # more than 2^32 - 1 calls in all, in a report's list or in two reports joined
     SEVERAL_INFINITE = 19  # more than one of cel's arguments is infinite
     A_OR_B_INFINITE = 20  # cel's a or b is infinite
     WRONG_SIGN = 21  # RJ's p has the wrong sign for this entry
