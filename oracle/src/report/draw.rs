@@ -144,7 +144,7 @@ fn border(random: &mut Random) -> Vec<Call> {
         _ => {
             let at = random.below(14) as usize;
             calls.remove(at);
-            let to = random.between(-340, 322);
+            let to = if random.below(20) == 0 { random.between(-340, 322) } else { random.between(300, 322) };
             calls.extend((to..323).flat_map(|j| vec![power(3 * j); 7]));
             if random.coin() {
                 calls.push(power(3 * to));
