@@ -237,7 +237,7 @@ class Examples(unittest.TestCase):
             ("RC refused 4 1", "RC refused 4 0", 8),
             ("RC refused 4 1", "RC refused 28 1", 8),
             ("RC refused 4 1", "RC refused 4 1\nRC refused 4 1", 9),
-            ("RC most 0", f"RC most {2**32}", 10),
+            ("RC most 0", f"RC most {2**64}", 10),
             ("RC exact ", "RC exact 0", 11),
             ("RC exact ", "RC exact -", 12),
             ("RD exact 0", "RD exact -0", 16),

@@ -118,7 +118,7 @@ impl Report {
                 at += 1;
             }
             part.rounds = number(at, "rounds").ok_or(at)?;
-            part.most = number(at + 1, "most").filter(|&most| most < 1 << 32).ok_or(at + 1)?;
+            part.most = number(at + 1, "most").ok_or(at + 1)?;
             part.sum = word(at + 2, "exact").and_then(Exact::parse).ok_or(at + 2)?;
             if word(at + 3, "sum") != Some(&format!("{:016X}", part.sum.rounded())) {
                 return Err(at + 3);

@@ -596,12 +596,12 @@ class Report:
         lines, words = _Lines(text), _REPORT()
         lines.take("report 1")
         for first, name in zip(range(0, len(words), cls._BLOCK), cls._NAMES):
-            words[first] = lines.number(f"{name} calls", 64)
+            words[first] = lines.number(f"{name} calls")
             last = 0
             while tally := lines.tally(name, range(last + 1, cls._LAST + 1)):
                 last, words[first + tally[0]] = tally
-            words[first + cls._ROUNDS] = lines.number(f"{name} rounds", 64)
-            words[first + cls._MOST] = lines.number(f"{name} most", 32)
+            words[first + cls._ROUNDS] = lines.number(f"{name} rounds")
+            words[first + cls._MOST] = lines.number(f"{name} most")
             words[first + cls._SUM : first + cls._BLOCK] = lines.exact(f"{name} exact", cls._SUM_WORDS)
             lines.take(list(cls._of(words)._lines_of(first // cls._BLOCK + 1))[-1])
         lines.end()
@@ -632,9 +632,9 @@ class _Lines:
         self.at += 1
         return line
 
-    def number(self, words: str, bits: int) -> int:
-        """A whole number of so many bits, in its shortest form."""
-        return int(self.take(f"{words} (0|[1-9][0-9]*)", lambda line: int(line[1]) < 2**bits)[1])
+    def number(self, words: str) -> int:
+        """A whole number of 64 bits, in its shortest form."""
+        return int(self.take(f"{words} (0|[1-9][0-9]*)", lambda line: int(line[1]) < 2**64)[1])
 
     def tally(self, name: str, numbers: range) -> tuple[int, int] | None:
         """A number for no and how often it was given, if the next line has that."""
