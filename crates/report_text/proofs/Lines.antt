@@ -1,18 +1,16 @@
 -- The lines by their numbers. Assumes nothing.
 use Prim.Native.Nat.{ℕ, _+_, _-_, _*_, _/_, _%_, _≤_, _<_}
-use mathlib.Core.Path.{_≡_, refl, sym, ap, _∙_}
+use mathlib.Core.Path.{_≡_, refl, sym, _∙_}
 use mathlib.Core.Bool.{Bool, true, false, cond}
 use mathlib.Core.List.{List, [], _∷_, _++_}
-use mathlib.Core.Logic.{inl, inr}
 use native.Mathlib.Nat.{add-zero}
 use native.Mathlib.Omega.{arith}
 use borrow.Author.Tests.{le-leb, lt-leb, lt-ltb, le-ltb, eq-eqb, ne-eqb}
 use borrow.Rule.Slice.PartMut.{midOf, mid-len}
 use lib.Dec.{eqb, leb}
-use lib.ListN.{length, getD, take, drop, set}
-use Rattle.limbs.specs.Value.{valueOf}
+use lib.ListN.{length, getD}
 use Rattle.exact.specs.Exact.{heldBy}
-use Rattle.writing.specs.Written.{Put, Tried, tried-put, put-more, put-byte}
+use Rattle.writing.specs.Written.{Tried}
 use Rattle.report_text.specs.Text.{slotLine, exactLine, sumLine, heldAt, lineAt, leftOut, tallyAt, written, lineText}
 
 -- ---- left out

@@ -10,7 +10,6 @@ use writing::has_room;
 use writing::put_decimal;
 use writing::put_text;
 use writing::put_word;
-ghost use mathlib.Core.Path.{_≡_};
 ghost use Prim.Native.Nat.{_+_, _≤_};
 ghost use lib.ListN.{length};
 ghost use Rattle.exact.specs.Exact.{heldBy};

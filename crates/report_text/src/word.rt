@@ -2,7 +2,6 @@
 use unpack_stream::letter;
 use writing::put_decimal;
 use writing::put_text;
-ghost use mathlib.Core.Path.{_≡_};
 ghost use Prim.Native.Nat.{_+_, _≤_};
 ghost use lib.ListN.{length};
 ghost use Rattle.writing.specs.Written.{Put};
