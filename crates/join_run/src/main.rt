@@ -3,7 +3,8 @@
 // report then.
 mod texts;
 
-use crate::texts::Standing;
+use crate::texts::BLOCK;
+use crate::texts::LINE;
 use crate::texts::begin;
 use crate::texts::ended;
 use crate::texts::feed;
@@ -11,10 +12,6 @@ use console::Got;
 use console::read_block;
 use report_say::say_report;
 use writing::OUT;
-
-const BLOCK: usize = 2048;
-
-const LINE: usize = 640; // so much is held of a line; a report's has 556 bytes at most, with its end
 
 // Joins what comes until it ends or a line is bad.
 fn join_all(out: &mut [u8; OUT]) {

@@ -8,6 +8,11 @@ use report_words::join_reports;
 use writing::least;
 use writing::push;
 
+pub const BLOCK: usize = 2048;
+
+// So much is held of a line; a report's has 556 bytes at most, with its end.
+pub const LINE: usize = 640;
+
 const LINES: usize = 192;
 
 // Which line may come next, 0 a header and 1 more than its number else; how many lines came, how much is held of the next, and whether
@@ -53,7 +58,7 @@ fn whole(total: &mut [u64; 384], words: &mut [u64; 384]) -> Step {
     Step::Refused(number)
 }
 
-fn step(total: &mut [u64; 384], words: &mut [u64; 384], next: usize, line: &[u8]) -> Step {
+fn line_taken(total: &mut [u64; 384], words: &mut [u64; 384], next: usize, line: &[u8]) -> Step {
     if next == 0 {
         if is_header(line) {
             return Step::Next(1);
@@ -80,7 +85,7 @@ fn line_end(
 ) -> Standing {
     let lines = std::num::wrapping_add_u64(stands.lines, 1);
     let size = least(held.len(), stands.held);
-    match step(total, words, stands.next, &held[..size]) {
+    match line_taken(total, words, stands.next, &held[..size]) {
         Step::Next(next) => Standing {
             next,
             lines,
@@ -111,7 +116,7 @@ fn line_end(
 // One byte more.
 fn byte(
     b: u8,
-    held: &mut [u8],
+    held: &mut [u8; LINE],
     total: &mut [u64; 384],
     words: &mut [u64; 384],
     stands: Standing,
@@ -130,9 +135,9 @@ fn byte(
 
 // The bytes of a block, until something is wrong.
 pub fn feed(
-    block: &[u8],
+    block: &[u8; BLOCK],
     size: usize,
-    held: &mut [u8],
+    held: &mut [u8; LINE],
     total: &mut [u64; 384],
     words: &mut [u64; 384],
     stands: Standing,
@@ -152,7 +157,7 @@ pub fn feed(
 
 // At the input's end: whether it is so many whole texts. A last line may lack its end.
 pub fn ended(
-    held: &[u8],
+    held: &[u8; LINE],
     total: &mut [u64; 384],
     words: &mut [u64; 384],
     stands: Standing,
