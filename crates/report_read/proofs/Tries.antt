@@ -53,7 +53,8 @@ missed : (ws : List ℕ) (q : ℕ) (line : List ℕ) → fitsAt ws q line ≡ fa
 unfolding triedAt
 missed ws q line e = (sym e, rw e)
 
-hit : (ws : List ℕ) (q : ℕ) (line after : List ℕ) → fitsAt ws q line ≡ true → after ≡ placed ws q line → Tries ws q line true after
+hit : (ws : List ℕ) (q : ℕ) (line after : List ℕ) → fitsAt ws q line ≡ true → after ≡ placed ws q line
+    → Tries ws q line true after
 unfolding triedAt
 hit ws q line after e f = (sym e, rw e f)
 
@@ -123,13 +124,15 @@ module _ (q : ℕ) (ws line : List ℕ) where
   no-report h = rw (ne-eqb (length ws) 384 h)
 
   module _ (k : ℕ) (l : length ws ≡ 384) (i : takeLine k (192 - k) ws line ≡ takeLine q (192 - q) ws line) where
-    pub take-found : {t : Bool} → k < 192 → t ≡ fitsAt ws k line → t ≡ true → lineTaken q ws line ≡ took (k + 1) (placed ws k line)
+    pub take-found : {t : Bool} → k < 192 → t ≡ fitsAt ws k line → t ≡ true → lineTaken q ws line
+        ≡ took (k + 1) (placed ws k line)
     unfolding lineTaken takeLine
     take-found h e f =
         let s : 192 - k ≡ suc (192 - (k + 1)) = omega arith in
         rw (eq-eqb (length ws) 384 l) (sym i ∙ rw (s, sym e ∙ f, add-one))
 
-    pub take-stop : {t u : Bool} → k < 192 → t ≡ fitsAt ws k line → t ≡ false → u ≡ tallyAt k → u ≡ false → lineTaken q ws line ≡ bad
+    pub take-stop : {t u : Bool} → k < 192 → t ≡ fitsAt ws k line → t ≡ false → u ≡ tallyAt k → u ≡ false → lineTaken q ws line
+        ≡ bad
     unfolding lineTaken takeLine
     take-stop h e f g j =
         let s : 192 - k ≡ suc (192 - (k + 1)) = omega arith in
@@ -148,7 +151,8 @@ module _ (q : ℕ) (ws line : List ℕ) where
         let s : 192 - k ≡ 0 = omega arith in
         rw (eq-eqb (length ws) 384 l) (sym i ∙ rw s)
 
-pub tried-hit : {t : Bool} (ws : List ℕ) (q : ℕ) (line : List ℕ) → t ≡ fitsAt ws q line → t ≡ true → triedAt ws q line ≡ placed ws q line
+pub tried-hit : {t : Bool} (ws : List ℕ) (q : ℕ) (line : List ℕ) → t ≡ fitsAt ws q line → t ≡ true → triedAt ws q line
+    ≡ placed ws q line
 unfolding triedAt
 tried-hit ws q line e f = rw (sym e ∙ f)
 
@@ -170,7 +174,8 @@ module _ (q : ℕ) (ws line : List ℕ) where
   takes-line k vs after f e = rw e (refl, f)
 
   module _ {t : Bool} (k : ℕ) (vs after : List ℕ) (v : vs ≡ ws) (l : length ws ≡ 384) (h : k < 192)
-      (i : takeLine k (192 - k) ws line ≡ takeLine q (192 - q) ws line) (e : t ≡ fitsAt vs k line) (f : after ≡ triedAt vs k line) where
+      (i : takeLine k (192 - k) ws line ≡ takeLine q (192 - q) ws line) (e : t ≡ fitsAt vs k line)
+      (f : after ≡ triedAt vs k line) where
     fits-too : t ≡ fitsAt ws k line
     fits-too = e ∙ ap (λ (us : List ℕ). fitsAt us k line) v
 

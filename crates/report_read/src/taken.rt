@@ -24,8 +24,8 @@ pub fn is_header(line: &[u8]) -> bool
     is_name(b"report 1", line)
 }
 
-// The line q, or one after it that comes where tallies of 0 are left out: what it says goes into the words. A line that is none of
-// these leaves the words as they were.
+// The line q, or one after it that comes where tallies of 0 are left out: what it says goes into the words. A line that is none
+// of these leaves the words as they were.
 pub fn take_line(words: &mut [u64], q: usize, line: &[u8]) -> Taken
     ensures { λ r. ⌜ r ≡ answerOf (lineTaken q (now (words .entry)) (now (line .entry))) ⌝ }
     ensures { λ _. ⌜ now (words .exit) ≡ wordsOf (now (words .entry)) (lineTaken q (now (words .entry)) (now (line .entry))) ⌝ }

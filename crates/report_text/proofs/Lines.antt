@@ -68,7 +68,8 @@ module _ (ws : List ℕ) (q : ℕ) where
   in-line l h e k = rw (eq-eqb (length ws) 384 l, lt-ltb q 192 h, sym e ∙ k)
 
 pub tried-none : (room : ℕ) (o text : List ℕ) (at : ℕ) → text ≡ [] → Tried room o at text o at
-tried-none room o text at e = record { bytes = rw e (same (leb (at + room) (length o))); place = rw (e, add-zero) (place (leb (at + room) (length o))) }
+tried-none room o text at e = record
+    { bytes = rw e (same (leb (at + room) (length o))); place = rw (e, add-zero) (place (leb (at + room) (length o))) }
   where
     same : (t : Bool) → o ≡ cond t o o
     same true = refl

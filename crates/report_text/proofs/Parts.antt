@@ -1,12 +1,11 @@
 -- The parts of a line, one after the other, and the room that they take. Assumes nothing.
-use Prim.Native.Nat.{ℕ, _+_, _-_, _/_, _≤_, _<_}
+use Prim.Native.Nat.{ℕ, _+_, _≤_, _<_}
 use mathlib.Core.Path.{_≡_, refl, sym, ap, _∙_}
 use mathlib.Core.Bool.{Bool, true, false, _&&_, cond}
 use mathlib.Core.List.{List, [], _∷_}
-use native.Mathlib.Bridge.{le-by-compare, IsLe}
 use native.Mathlib.Omega.{arith}
-use borrow.Author.Tests.{leb-true, eqb-true, eq-eqb}
-use lib.Dec.{eqb, leb}
+use borrow.Author.Tests.{eqb-true, eq-eqb}
+use lib.Dec.{eqb}
 use lib.Ieee.{Float, binary64, toBits}
 use lib.ListN.{length, set, replicate, length-set}
 use Rattle.limbs.specs.Value.{valueOf, limbsOf, room, Words, length-limbs, value-held, value-lt}
@@ -15,6 +14,7 @@ use Rattle.digits.specs.Digits.{digits}
 use Rattle.writing.specs.Decimal.{decimal}
 use Rattle.writing.specs.Written.{Put, Tried, tried-put, put-more, put-byte, put-none, put-length}
 use Rattle.unpack_stream.specs.Text.{nameText}
+use Rattle.report_text.specs.HexLaws.{size-lt}
 use Rattle.report_text.specs.RoomLaws.{decimal-most, name-most, key-most, sign-most}
 use Rattle.report_text.specs.Text.{refusedKey, slotKey, slotLine, hexText, signText, exactLine, sumLine}
 
@@ -87,18 +87,6 @@ unfolding signText
 sign-not o at w e h = rw (sym e ∙ h) (put-none o at)
 
 -- the size that stands in the words
-half-turn : 1 ≤ turn / 2
-unfolding turn IsLe
-half-turn = le-by-compare 1 (turn / 2) tt
-
-size-lt : (w : ℕ) → w < turn → sizeHeld w < turn
-unfolding sizeHeld belowZero
-size-lt w h = go (leb (turn / 2) w) refl
-  where
-    go : (t : Bool) → leb (turn / 2) w ≡ t → cond t (turn - w) w < turn
-    go true e = omega (arith, half-turn, leb-true (turn / 2) w e)
-    go false e = h
-
 nothing-held : sizeHeld 0 ≡ 0
 unfolding sizeHeld belowZero turn
 nothing-held = refl
@@ -116,6 +104,9 @@ size-is ws out after w l z e = go (eqb (length ws) 34) refl (e ∙ rw (eq-eqb (l
         → (length after ≡ 34) × (valueOf after ≡ sizeHeld (cond t (valueOf ws) 0))
     go true k f =
         let n : length ws ≡ 34 = eqb-true (length ws) 34 k in
-        let h : valueOf ws < room 34 = rw n at (value-lt ws w) in
-        (ap length f ∙ length-limbs 34 (sizeHeld (valueOf ws)), ap valueOf f ∙ value-held 34 (sizeHeld (valueOf ws)) (size-lt (valueOf ws) h))
+        let h : valueOf ws < room 34 = rw n at (value-lt ws w) in (
+          ap length f ∙ length-limbs 34 (sizeHeld (valueOf ws)),
+          ap valueOf f
+              ∙ value-held 34 (sizeHeld (valueOf ws)) (size-lt (valueOf ws) h),
+        )
     go false k f = (ap length f ∙ l, ap valueOf f ∙ z ∙ sym nothing-held)

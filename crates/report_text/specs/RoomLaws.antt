@@ -39,7 +39,8 @@ key-most i = go (eqb i 0) (leb i 27) (eqb i 28)
     go : (s t u : Bool)
         → length
         (cond s (32 ∷ 99 ∷ 97 ∷ 108 ∷ 108 ∷ 115 ∷ 32 ∷ [])
-        (cond t (refusedKey i) (cond u (32 ∷ 114 ∷ 111 ∷ 117 ∷ 110 ∷ 100 ∷ 115 ∷ 32 ∷ []) (32 ∷ 109 ∷ 111 ∷ 115 ∷ 116 ∷ 32 ∷ []))))
+        (cond t (refusedKey i)
+        (cond u (32 ∷ 114 ∷ 111 ∷ 117 ∷ 110 ∷ 100 ∷ 115 ∷ 32 ∷ []) (32 ∷ 109 ∷ 111 ∷ 115 ∷ 116 ∷ 32 ∷ []))))
         ≤ 12
     go true t u = omega arith
     go false true u = refused-most i

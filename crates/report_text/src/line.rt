@@ -47,7 +47,8 @@ fn put_sign(sum: &[u64], out: &mut [u8], at: usize) -> usize
 
 // An exact sum's. Words in another number than a sum's hold nothing.
 pub fn put_exact(function: u64, sum: &[u64], out: &mut [u8], at: usize) -> usize
-    ensures { λ r. ⌜ Tried exactRoom (now (out .entry)) at (exactLine function (heldBy (now (sum .entry)))) (now (out .exit)) r ⌝ }
+    ensures { λ r. ⌜ Tried exactRoom (now (out .entry)) at (exactLine function (heldBy (now (sum .entry))))
+        (now (out .exit)) r ⌝ }
 {
     if has_room(out.len(), at, EXACT) {
         let name = put_name(function, out, at);

@@ -34,7 +34,8 @@ same-sum-requires c κs = search needs
 returns : tie.Need-returns
 returns c =
     let s = c .before .before .before .before in
-    sum-tried (s .args .words .now) (s .args .q) (s .args .line .now) (s .pre .0) (s .pre .1 .0) (s .pre .1 .1) (c .same-sum .ensures)
+    sum-tried (s .args .words .now) (s .args .q) (s .args .line .now) (s .pre .0) (s .pre .1 .0) (s .pre .1 .1)
+    (c .same-sum .ensures)
 
 pub try-sum-spec : {M : Type 1} → statement M
 try-sum-spec =

@@ -33,8 +33,11 @@ loop-less c = omega arith
 loop-again : tie.Need-loop-again Inv-loop μ-loop
 loop-again c =
     let l = c .before .before .before .loop in
-    let a = c .before .before .before .before .before .args .line .now in
-    (omega arith, trailing-on 10 (2 ^ 64) (l .v) a (l .i) (c .decimal-step .result) (omega arith) (c .decimal-step .ensures) ∙ l .inv .1)
+    let a = c .before .before .before .before .before .args .line .now in (
+      omega arith,
+      trailing-on 10 (2 ^ 64) (l .v) a (l .i) (c .decimal-step .result) (omega arith) (c .decimal-step .ensures)
+          ∙ l .inv .1,
+    )
 
 returns : tie.Need-returns Inv-loop μ-loop
 returns c =

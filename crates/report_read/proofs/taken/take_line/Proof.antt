@@ -41,7 +41,8 @@ returns-2 c =
     let l = i .before .loop in
     let a = i .before .before .before .before .before .args in
     takes-found (a .q) (a .words .now) (a .line .now) (l .k) (l .words) (v .try-line .last .0) (l .inv .0)
-    (sym (ap length (l .inv .0)) ∙ l .inv .1) (omega arith) (l .inv .2) (v .try-line .ensures .0) (v .try-line .ensures .1) (c .if2 .taken)
+    (sym (ap length (l .inv .0)) ∙ l .inv .1) (omega arith) (l .inv .2) (v .try-line .ensures .0) (v .try-line .ensures .1)
+    (c .if2 .taken)
 
 is-tally-requires : tie.Need-is-tally-requires Inv-loop μ-loop
 is-tally-requires c κs = search needs
@@ -65,7 +66,8 @@ loop-again c =
       stays (a .q) (a .words .now) (a .line .now) (l .k) (l .words) (v .try-line .last .0) (l .inv .0) m (omega arith) (l .inv .2)
           (e .0) (e .1) f,
       omega arith,
-      goes-on (a .q) (a .words .now) (a .line .now) (l .k) (l .words) (v .try-line .last .0) (l .inv .0) m (omega arith) (l .inv .2)
+      goes-on (a .q) (a .words .now) (a .line .now) (l .k) (l .words) (v .try-line .last .0) (l .inv .0) m (omega arith)
+          (l .inv .2)
           (e .0) (e .1) f (t .is-tally .ensures) (c .if3 .taken),
     )
 

@@ -29,7 +29,8 @@ put-sign-requires c κs =
     let p = k .before .before .before .before .before in
     let t = p .before .before in
     let a = t .before .before .before .before .args in
-    let r = after-key (a .function) (there (t .before .has-room .ensures) (t .if1 .taken)) (p .put-name .ensures) (k .put-text .ensures) in
+    let r = after-key (a .function) (there (t .before .has-room .ensures) (t .if1 .taken)) (p .put-name .ensures)
+    (k .put-text .ensures) in
     omega (arith, r .0)
 
 slice-aggregate-size-into : tie.Need-slice-aggregate-size-into
@@ -49,9 +50,11 @@ put-hex-requires c κs =
     let p = k .before .before .before .before .before in
     let t = p .before .before in
     let a = t .before .before .before .before .args in
-    let r = after-key (a .function) (there (t .before .has-room .ensures) (t .if1 .taken)) (p .put-name .ensures) (k .put-text .ensures) in
+    let r = after-key (a .function) (there (t .before .has-room .ensures) (t .if1 .taken)) (p .put-name .ensures)
+    (k .put-text .ensures) in
     let w = t .before .before .before in
-    let i = size-is (a .sum .now) _ (z .size-into .last .1 .0) (λ j. w .shared-slice-known .given j .fits) refl zeros (z .size-into .ensures) in
+    let i = size-is (a .sum .now) _ (z .size-into .last .1 .0) (λ j. w .shared-slice-known .given j .fits) refl zeros
+    (z .size-into .ensures) in
     (i .0, after-sign _ (r .0) (s .put-sign .ensures))
 
 same-length : tie.Need-same-length
@@ -67,8 +70,10 @@ returns c =
     let t = p .before .before in
     let a = t .before .before .before .before .args in
     let w = t .before .before .before in
-    let r = after-key (a .function) (there (t .before .has-room .ensures) (t .if1 .taken)) (p .put-name .ensures) (k .put-text .ensures) in
-    let i = size-is (a .sum .now) _ (z .size-into .last .1 .0) (λ j. w .shared-slice-known .given j .fits) refl zeros (z .size-into .ensures) in
+    let r = after-key (a .function) (there (t .before .has-room .ensures) (t .if1 .taken)) (p .put-name .ensures)
+    (k .put-text .ensures) in
+    let i = size-is (a .sum .now) _ (z .size-into .last .1 .0) (λ j. w .shared-slice-known .given j .fits) refl zeros
+    (z .size-into .ensures) in
     tried-there (t .before .has-room .ensures) (t .if1 .taken)
     (exact-whole (a .function) _ _ (p .put-name .ensures) (r .1) (s .put-sign .ensures) (i .1) (x .put-hex .ensures))
 

@@ -10,7 +10,8 @@ use Rattle.report_text.proofs.report.put_line.Statement.{statement}
 use Rattle.report_text.proofs.report.put_line.Tie as tie
 
 -- there is room for the line's end
-room : (c : tie.After-slice-known2) → (let w = c .before .before in w .write-line .result + 1 ≤ length (w .write-line .last .1 .1 .0))
+room : (c : tie.After-slice-known2)
+    → (let w = c .before .before in w .write-line .result + 1 ≤ length (w .write-line .last .1 .1 .0))
 room c =
     let w = c .before .before in
     let t = w .before .before in

@@ -32,7 +32,8 @@ returns : tie.Need-returns
 returns c =
     let d = c .before .before in
     let s = d .before .before .before .before .before .before in
-    rw (sym (slot-line (s .args .words .now) (s .args .q) (omega arith))) (tried-put {room = 35} (omega arith) (d .put-slot .ensures))
+    rw (sym (slot-line (s .args .words .now) (s .args .q) (omega arith)))
+    (tried-put {room = 35} (omega arith) (d .put-slot .ensures))
 
 add-from : tie.Need-add-from
 add-from c = search needs

@@ -13,8 +13,10 @@ use Rattle.report_text.proofs.word.put_refused.Tie as tie
 whole : (c : tie.After-slice-known3)
     → (let d = c .before .before in
     let s = d .before .before .before .before .before .before .before .before in
-    (d .put-decimal .result + 1 ≤ length (d .put-decimal .last .1 .1 .0)) × (length (set (d .put-decimal .last .1 .1 .0) (d .put-decimal .result) 32) ≡ length (s .args .out .now))
-    × (Put (s .args .out .now) (s .args .at) (refusedKey (s .args .number)) (set (d .put-decimal .last .1 .1 .0) (d .put-decimal .result) 32) (d .put-decimal .result + 1)))
+    (d .put-decimal .result + 1 ≤ length (d .put-decimal .last .1 .1 .0))
+    × (length (set (d .put-decimal .last .1 .1 .0) (d .put-decimal .result) 32) ≡ length (s .args .out .now))
+    × (Put (s .args .out .now) (s .args .at) (refusedKey (s .args .number))
+    (set (d .put-decimal .last .1 .1 .0) (d .put-decimal .result) 32) (d .put-decimal .result + 1)))
 whole c =
     let d = c .before .before in
     let t = d .before .before .before .before in
