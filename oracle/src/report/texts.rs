@@ -58,19 +58,49 @@ fn texts(random: &mut Random) -> Vec<u8> {
     (0..1 + random.below(5)).flat_map(|_| report_of(&jobs(random)).text().into_bytes()).collect()
 }
 
-/// Two texts whose calls are together 2^32 - 1, or one or two more or less, whatever else they hold.
+/// Two texts whose calls are together 2^32 - 1, or one or two more or less, whatever else they hold; in some the first has them all. What
+/// comes after too many is not read.
 fn many(random: &mut Random) -> Vec<u8> {
     let mut reports = [report_of(&jobs(random)), report_of(&jobs(random))];
     let all = MOST_CALLS as u64 + random.below(4) - 1;
-    let first = random.below(all + 1).min(MOST_CALLS as u64);
-    for (report, calls) in reports.iter_mut().zip([first, (all - first).min(MOST_CALLS as u64)]) {
+    let first = if random.below(4) == 0 { all } else { random.below(all + 1) };
+    for (report, calls) in reports.iter_mut().zip([first, all - first]) {
         report.0.iter_mut().for_each(|part| part.calls = 0);
         report.0[random.below(6) as usize].calls = calls / 2;
         report.0[random.below(6) as usize].calls += calls - calls / 2;
         let missing = calls - report.calls() as u64;
         report.0[0].calls += missing;
     }
-    reports.iter().flat_map(|report| report.text().into_bytes()).collect()
+    let after: &[u8] = if random.coin() { b"" } else { b"no line of a report\n" };
+    reports.iter().flat_map(|report| report.text().into_bytes()).chain(after.iter().copied()).collect()
+}
+
+/// A text with a number at the end of what words can hold, or past it, in the place of one of its own.
+fn ends(random: &mut Random) -> Vec<u8> {
+    let text = report_of(&jobs(random)).text();
+    let mut all: Vec<String> = text.lines().map(str::to_string).collect();
+    let i = 1 + random.below(all.len() as u64 - 1) as usize;
+    let (words, _) = all[i].rsplit_once(' ').expect("every line but the first has a number");
+    let words = words.to_string();
+    if !words.ends_with("exact") && !words.ends_with("sum") {
+        let number =
+            random.pick(&["18446744073709551615", "18446744073709551616", "18446744073709551621", "100000000000000000000"]);
+        all[i] = format!("{words} {number}");
+    } else if words.ends_with("exact") {
+        let zeros = "0".repeat(543);
+        let (number, sum) = match random.below(6) {
+            0 => (format!("7{}", "F".repeat(543)), "7FF0000000000000"),
+            1 => (format!("8{zeros}"), "7FF0000000000000"),
+            2 => (format!("-8{zeros}"), "FFF0000000000000"),
+            3 => (format!("-8{}1", "0".repeat(542)), "FFF0000000000000"),
+            4 => (format!("1{zeros}0"), "0000000000000000"),
+            _ => (format!("1{zeros}{zeros}"), "7FF0000000000000"),
+        };
+        let name = words.split(' ').next().expect("a name").to_string();
+        all[i] = format!("{words} {number}");
+        all[i + 1] = format!("{name} sum {sum}");
+    }
+    all.iter().flat_map(|line| format!("{line}\n").into_bytes()).collect()
 }
 
 const SPOILT: [&str; 8] = [
@@ -168,6 +198,8 @@ pub fn run(n: u64, seed: u64) -> bool {
         counts.same("join: no last newline", "join_run", &text[..text.len() - 1], &joined(&text), &mut random);
         let text = many(&mut random);
         counts.same("join: about 2^32 calls", "join_run", &text, &joined(&text), &mut random);
+        let text = ends(&mut random);
+        counts.same("join: numbers at their ends", "join_run", &text, &joined(&text), &mut random);
         for (kind, name) in SPOILT.into_iter().enumerate() {
             let text = faulty(&mut random, kind);
             counts.same(name, "join_run", &text, &joined(&text), &mut random);
@@ -203,6 +235,13 @@ mod tests {
     fn about_the_border() {
         let mut random = Random::new(1);
         let said: Vec<bool> = (0..12).map(|_| joined(&many(&mut random)).1 == b"refused 18\n").collect();
+        assert!(said.contains(&true) && said.contains(&false));
+    }
+
+    #[test]
+    fn at_the_ends() {
+        let mut random = Random::new(4);
+        let said: Vec<bool> = (0..60).map(|_| joined(&ends(&mut random)).1.is_empty()).collect();
         assert!(said.contains(&true) && said.contains(&false));
     }
 
