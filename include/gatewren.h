@@ -1,6 +1,7 @@
 /*
  * Gatewren: Carlson's elliptic integrals RC, RF, RD, RG and RJ and Bulirsch's cel on doubles, proved to the last bit, the leaves they
- * stand on, the swing time of the knee bench, the work lists of its controller, and the check of other laboratories' tables.
+ * stand on, the swing time of the knee bench, the work lists of its controller with their reports, and the check of other
+ * laboratories' tables.
  *
  * Link libgatewren.a (rt staticlib gatewren) or libgatewren.so (./gatewren shared). Neither wants the C maths library.
  * The code counts on what IEEE 754 and C start with: rounding to nearest, and subnormal numbers kept.
@@ -40,6 +41,7 @@ enum gatewren_outcome {
     GATEWREN_NUMBER_BAD = 15,   /* a work list has a number over 64 bits or not in its shortest form */
     GATEWREN_UNKNOWN_FUNCTION = 16, /* a job's function is none of those that work lists know */
     GATEWREN_NO_ROOM = 17,      /* a job is longer than what is left of the buffer */
+    GATEWREN_TOO_MANY = 18,     /* more than 2^32 - 1 calls in all, in a report's list or in two reports joined */
     GATEWREN_SEVERAL_INFINITE = 19, /* more than one of cel's arguments is infinite */
     GATEWREN_A_OR_B_INFINITE = 20, /* cel's a or b is infinite */
     GATEWREN_WRONG_SIGN = 21,   /* RJ's p has the wrong sign for this entry */
@@ -238,6 +240,44 @@ uint32_t gatewren_write_job(uint8_t *bytes, size_t length, size_t *place, const 
 /* Reads the job at *place and moves *place past it. Returns 0; or 14, 15 or 16, or GATEWREN_NOTHING_LEFT where no byte is left, and
    then *place and *job are as they were. The same of the pointers as above. */
 uint32_t gatewren_read_job(const uint8_t *bytes, size_t length, size_t *place, gatewren_job *job);
+
+/*
+ * Reports of work lists: for each function the calls, how often each number for no was given, the rounds of the values in all and the
+ * most in one call, and the exact sum of the values. The same jobs in another order, or cut into lists whose reports are joined in any
+ * order, give the same report, word for word.
+ *
+ * A report is GATEWREN_REPORT_WORDS words that a program owns. Words that are all zero are the report of no list; else a report is
+ * what gatewren_report_list and gatewren_report_join leave, and no other words are one. What stands in which word is not promised.
+ * No pointer to a report is null, and each points to that many words.
+ */
+#define GATEWREN_REPORT_WORDS 384
+
+/* Adds the answers to a whole work list. Returns 0; or the list's own 14, 15 or 16; or 18 where the list is sound and its jobs and
+   the report's calls are more than 2^32 - 1 together. Unless 0 is returned the report is as it was.
+   list may be null only where length is 0; the two lie apart. */
+uint32_t gatewren_report_list(uint64_t *report, const uint8_t *list, size_t length);
+
+/* Adds another report, so that the first is that of both lists. Returns 0; or 18 where the calls of both are more than 2^32 - 1, and
+   then the report is as it was. other lies apart from report: a report is not joined to itself, but to a copy. */
+uint32_t gatewren_report_join(uint64_t *report, const uint64_t *other);
+
+/* What stands in it, by the function's number in work lists (RF 1, RC 2, RD 3, RG 4, RJ 5, cel 6). Any other function has none of
+   it: 0, and +0 as its sum. */
+
+/* The calls, refused ones too. */
+uint64_t gatewren_report_calls(const uint64_t *report, uint32_t function);
+
+/* How many of them were refused with this number; 0 for what is no number for no. */
+uint64_t gatewren_report_refused(const uint64_t *report, uint32_t function, uint32_t number);
+
+/* The rounds of its values in all. */
+uint64_t gatewren_report_rounds(const uint64_t *report, uint32_t function);
+
+/* The most rounds of one value. */
+uint32_t gatewren_report_most(const uint64_t *report, uint32_t function);
+
+/* The exact sum of its values, rounded once: an infinity where that overflows, +0 for zero. */
+double gatewren_report_sum(const uint64_t *report, uint32_t function);
 
 /*
  * Checking the tables of others: a work list, and for each of its jobs a claim of two words: 0 and the value's bits, or 1 and the

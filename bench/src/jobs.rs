@@ -1,4 +1,5 @@
-//! Packed work lists (request 2026-03): reading and writing a list of jobs, one after the other, through the C interface.
+//! Packed work lists through the C interface: reading and writing a list of jobs, one after the other (request 2026-03), and the
+//! report of a list beside its answers alone (request 2026-05).
 
 use crate::inputs::moderate;
 use crate::random::Random;
@@ -22,26 +23,28 @@ pub fn rows() -> Vec<Row> {
     let any = |r: &mut Random| r.below(u64::MAX);
     let usual = |r: &mut Random| moderate(r).to_bits();
     let short = |r: &mut Random| (r.below(16) << 60) & 0x7FF0_0000_0000_0000;
-    [rows_of("moderate arguments", usual), rows_of("any arguments", any), rows_of("powers of two", short)]
-        .into_iter()
-        .flatten()
-        .flatten()
-        .collect()
+    let read_and_written = [rows_of("moderate arguments", usual), rows_of("any arguments", any), rows_of("powers of two", short)];
+    let reported = reports_of("moderate arguments", usual);
+    read_and_written.into_iter().flatten().flatten().chain(reported.into_iter().flatten()).collect()
 }
 
 /// Jobs of Carlson's five functions in turn.
-fn rows_of(what: &str, mut argument: impl FnMut(&mut Random) -> u64) -> Option<[Row; 2]> {
-    let (read, write) = (symbols::READ_JOB?, symbols::WRITE_JOB?);
+fn jobs_of(mut argument: impl FnMut(&mut Random) -> u64) -> Vec<[u64; 5]> {
     let mut random = Random::new(7);
     let arity = [0, 3, 2, 3, 3, 4];
-    let jobs: Vec<[u64; 5]> = (0..JOBS)
+    (0..JOBS)
         .map(|i| {
             let function = i % 5 + 1;
             let mut job = [function as u64, 0, 0, 0, 0];
             job[1..=arity[function]].iter_mut().for_each(|word| *word = argument(&mut random));
             job
         })
-        .collect();
+        .collect()
+}
+
+fn rows_of(what: &str, argument: impl FnMut(&mut Random) -> u64) -> Option<[Row; 2]> {
+    let (read, write) = (symbols::READ_JOB?, symbols::WRITE_JOB?);
+    let jobs = jobs_of(argument);
     let mut list = vec![0u8; LONGEST * JOBS];
     // Each call reads or writes what is lent to it, and that lives for the call.
     let put = move |list: &mut [u8]| {
@@ -67,6 +70,47 @@ fn rows_of(what: &str, mut argument: impl FnMut(&mut Random) -> u64) -> Option<[
     };
     let row = |name: &str, block: Box<dyn FnMut()>| Row { name: format!("{name}, {what}"), block, bytes, least: f64::INFINITY };
     Some([row("read a job", Box::new(reading)), row("write a job", Box::new(writing))])
+}
+
+/// A list's report, and beside it each job read and answered with nothing made of the answer: the difference is what counting and
+/// the exact sum take.
+fn reports_of(what: &str, argument: impl FnMut(&mut Random) -> u64) -> Option<[Row; 2]> {
+    let (read, write, report) = (symbols::READ_JOB?, symbols::WRITE_JOB?, symbols::REPORT_LIST?);
+    let (rf, rc, rd, rg) = (symbols::RF?, symbols::RC?, symbols::RD?, symbols::RG?);
+    let rj = symbols::RJ_POSITIVE?;
+    let mut list = vec![0u8; LONGEST * JOBS];
+    let mut length = 0;
+    // Each call reads or writes what is lent to it, and that lives for the call.
+    for job in jobs_of(argument) {
+        assert_eq!(unsafe { write(list.as_mut_ptr(), list.len(), &mut length, &job) }, 0);
+    }
+    list.truncate(length);
+    let bytes = length as f64 / JOBS as f64;
+    let same = list.clone();
+    let answering = move || {
+        let (mut place, mut job) = (0, [0; 5]);
+        let (mut value, mut rounds, mut road, mut rescalings) = (0.0, 0, 0, 0);
+        while unsafe { read(list.as_ptr(), list.len(), &mut place, &mut job) } == 0 {
+            let [function, bits @ ..] = job;
+            let [x, y, z, p] = bits.map(f64::from_bits);
+            let (v, n, r, s) = (&mut value, &mut rounds, &mut road, &mut rescalings);
+            let number = match function {
+                1 => unsafe { rf(x, y, z, v, n, r, s) },
+                2 => unsafe { rc(x, y, v, n, r, s) },
+                3 => unsafe { rd(x, y, z, v, n, r, s) },
+                4 => unsafe { rg(x, y, z, v, n, r, s) },
+                _ => unsafe { rj(x, y, z, p, v, n, r, s) },
+            };
+            black_box((number, value));
+        }
+    };
+    let reporting = move || {
+        let mut words = [0u64; 384];
+        assert_eq!(unsafe { report(words.as_mut_ptr(), same.as_ptr(), same.len()) }, 0);
+        black_box(words);
+    };
+    let row = |name: &str, block: Box<dyn FnMut()>| Row { name: format!("{name}, {what}"), block, bytes, least: f64::INFINITY };
+    Some([row("answer a job", Box::new(answering)), row("report a job", Box::new(reporting))])
 }
 
 impl Row {

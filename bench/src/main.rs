@@ -1,4 +1,5 @@
-//! Times each leaf and entry of the proved library beside what a Rust program would use in its place, the work lists and the listing.
+//! Times each leaf and entry of the proved library beside what a Rust program would use in its place, the work lists, their
+//! reports and the listing.
 
 mod clock;
 mod entries;

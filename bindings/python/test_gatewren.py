@@ -2,19 +2,22 @@
 
 import ctypes
 import doctest
+import fractions
+import functools
 import inspect
 import itertools
 import math
 import operator
 import os
 import pathlib
+import pickle
 import struct
 import subprocess
 import sys
 import unittest
 
 import gatewren
-from gatewren import Refusal, Refused, Road, Value, cel, rc, rd, rf, rg, rj_negative, rj_positive
+from gatewren import Refusal, Refused, Report, Road, Value, cel, rc, rd, rf, rg, rj_negative, rj_positive
 from gatewren import profile_rc, profile_rd, profile_rf, profile_rg, profile_rj
 
 INF, NAN = math.inf, math.nan
@@ -23,6 +26,10 @@ PARTED = (1, 2, 5)  # RF of these differs in the last place between the orders x
 
 def of_bits(bits):
     return struct.unpack("<d", struct.pack("<Q", bits))[0]
+
+
+def to_bits(value):
+    return struct.unpack("<Q", struct.pack("<d", value))[0]
 
 
 class Examples(unittest.TestCase):
@@ -154,6 +161,94 @@ class Examples(unittest.TestCase):
         self.assertEqual(gatewren.read_list(bytes([2, 0, 0, 0x81, 0])).place, 3)
         self.assertEqual(gatewren.read_list(bytes([7])), ([], 0, Refused(16)))
         self.assertEqual(gatewren.read_list(b""), ([], 0, None))
+
+    def test_reports(self):
+        def cel(a):
+            return gatewren.Job(6, tuple(map(to_bits, (1, 1, a, a))))
+
+        one = to_bits(1)
+        jobs = [cel((1.5 if k % 2 else -1.25) * 2.0**k) for k in range(-1074, 1023, 7)]
+        jobs += [gatewren.Job(2, (x, y, 0, 0)) for x, y in [(0, one), (one, 0), (to_bits(-1), one), (0, one), (one, to_bits(2))]]
+        jobs += [gatewren.Job(1, tuple(map(to_bits, (x, 0.5, 0.25, 0)))) for x in (1, 2, 5)]
+        data = gatewren.write_list(jobs)
+        report = Report().add(data)
+        self.assertEqual([report.calls(function) for function in range(8)], [0, 3, 5, 0, 0, 0, len(jobs) - 8, 0])
+        self.assertEqual((report.refused(2, Refusal.ZERO_GIVEN), report.refused(2, Refusal.BELOW_ZERO)), (1, 1))
+        rounds = [rf(x, 0.5, 0.25).rounds for x in (1, 2, 5)]
+        self.assertEqual((report.rounds(1), report.most(1)), (sum(rounds), max(rounds)))
+        # the exact sum by whole numbers, and rounded once by Python's division of them
+        cels = [gatewren.cel(*map(of_bits, job.arguments)) for job in jobs[:-8]]
+        for function, values in [(2, [rc(0, 1), rc(0, 1), rc(1, 2)]), (6, cels)]:
+            exact = sum(int(fractions.Fraction(float(value)) * 2**1074) for value in values)
+            self.assertEqual(report.exact(function), exact)
+            self.assertEqual(report.sum(function), exact / 2**1074)
+        self.assertEqual((report.exact(7), report.sum(0), report.refused(9, Refusal.NAN_GIVEN)), (0, 0, 0))
+        for parts in (1, 2, 3, 50):
+            size = -(-len(jobs) // parts)
+            each = [Report().add(gatewren.write_list(reversed(jobs[at : at + size]))) for at in range(0, len(jobs), size)]
+            self.assertEqual(functools.reduce(Report.join, reversed(each)), report)
+        self.assertEqual(functools.reduce(Report.join, [Report()] * 3), Report())
+        for bad, number in [(data[:-1], 14), (data + bytes([2, 0x81, 0]), 15), (data + bytes([7]), 16)]:
+            self.assertEqual(report.add(bad), Refused(number))
+        self.assertEqual(report.add(b""), report)
+        self.assertEqual(pickle.loads(pickle.dumps(report)), report)
+        self.assertNotEqual(report, Report())
+        with self.assertRaises(AttributeError):
+            report._words = b""
+        for bad in (-1, 2**32, 1.0):
+            self.assertRaises((TypeError, ValueError), report.calls, bad)
+        self.assertRaises(TypeError, report.join, b"")
+
+    def test_too_many_calls(self):
+        def with_calls(calls):
+            return Report.parse(str(Report()).replace("RD calls 0", f"RD calls {calls}"))
+
+        jobs = [gatewren.Job(2, (0, to_bits(1), 0, 0))] * 6
+        nearly = with_calls(2**32 - 6)
+        self.assertEqual(nearly.add(gatewren.write_list(jobs)), Refused(Refusal.TOO_MANY))
+        self.assertEqual(nearly.join(with_calls(6)), Refused(Refusal.TOO_MANY))
+        full = nearly.add(gatewren.write_list(jobs[:2])).join(with_calls(3))
+        self.assertEqual((full.calls(2), full.calls(3)), (2, 2**32 - 3))
+        self.assertEqual(full.join(with_calls(1)), Refused(Refusal.TOO_MANY))
+
+    def test_texts_of_reports(self):
+        names = ("RF", "RC", "RD", "RG", "RJ", "CEL")
+        zeros = "{0} calls 0\n{0} rounds 0\n{0} most 0\n{0} exact 0\n{0} sum 0000000000000000\n"
+        none = [zeros.format(name) for name in names]
+        self.assertEqual(str(Report()), "report 1\n" + "".join(none))
+        data = gatewren.write_list([gatewren.Job(2, (0, to_bits(1), 0, 0)), gatewren.Job(2, (0, 0, 0, 0))])
+        report = Report().add(data)
+        # pi / 2 is 3FF921FB54442D18: its digits times 2^1022, in units of 2^-1074
+        exact = f"{0x1921FB54442D18 << 1022:X}"
+        ours = f"RC calls 2\nRC refused 4 1\nRC rounds 0\nRC most 0\nRC exact {exact}\nRC sum 3FF921FB54442D18\n"
+        text = str(report)
+        self.assertEqual(text, "report 1\n" + none[0] + ours + "".join(none[2:]))
+        self.assertEqual(Report.parse(text.removesuffix("\n")), report)
+        below = Report().add(gatewren.write_list([gatewren.Job(6, tuple(map(to_bits, (1, 1, -(2.0**-1070), -(2.0**-1070)))))]))
+        self.assertIn("CEL exact -19\nCEL sum 8000000000000019\n", str(below))
+        self.assertEqual(Report.parse(str(below)), below)
+        lines = text.count("\n")
+        for old, new, line in [
+            ("report 1", "report 2", 1),
+            ("RF calls 0", "RF calls 00", 2),
+            ("RF calls 0", "RF calls +0", 2),
+            ("RF calls 0", "RF calls 0 ", 2),
+            ("RF calls 0", f"RF calls {2**64}", 2),
+            ("RC refused 4 1", "RC refused 4 0", 8),
+            ("RC refused 4 1", "RC refused 28 1", 8),
+            ("RC refused 4 1", "RC refused 4 1\nRC refused 4 1", 9),
+            ("RC most 0", f"RC most {2**64}", 10),
+            ("RC exact ", "RC exact 0", 11),
+            ("RC exact ", "RC exact -", 12),
+            ("RD exact 0", "RD exact -0", 16),
+            ("RD exact 0", f"RD exact {2**2175:X}", 16),
+            ("CEL sum 0000000000000000\n", "", lines),
+            ("CEL sum 0000000000000000\n", "CEL sum 0000000000000000\n\n", lines + 1),
+        ]:
+            with self.assertRaisesRegex(ValueError, f"^line {line}: bad line$", msg=(old, new)):
+                Report.parse(text.replace(old, new, 1))
+        with self.assertRaisesRegex(ValueError, "^line 1: bad line$"):
+            Report.parse("")
 
     def test_tables(self):
         one, minus_four = 0x3FF0000000000000, 0xC010000000000000
@@ -289,8 +384,8 @@ class Answers(unittest.TestCase):
             rf(-1, 1, 1).value = 1.0
 
     def test_every_number_has_a_meaning(self):
-        self.assertEqual([refusal.value for refusal in Refusal], [*range(1, 18), *range(19, 24)])
-        for number in (0, 18):
+        self.assertEqual([refusal.value for refusal in Refusal], list(range(1, 24)))
+        for number in (0, 24):
             with self.assertRaises(ValueError):
                 Refused(number)
 
@@ -314,6 +409,7 @@ class Interface(unittest.TestCase):
         text = header.read_text()
         names = ["rc", "rf", "rd", "rg", "rj_positive", "rj_negative", "sqrt", "mul_add", "pow_neg_3_2", "atan", "ln", "ln_1p", "swing", "steps"]
         names += [f"profile_{name}" for name in ("rc", "rf", "rd", "rg", "rj")]
+        names += [f"report_{name}" for name in ("list", "join", "calls", "refused", "rounds", "most", "sum")]
         for name in names:
             self.assertIn(f"gatewren_{name}(", text)
         for refusal in Refusal:

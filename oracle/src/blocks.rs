@@ -6,6 +6,7 @@ use crate::fuzz::{good, numbers, piece};
 use crate::lines::{root, Program};
 use crate::lists::runs::examples;
 use crate::random::Random;
+use crate::report::texts;
 use std::path::PathBuf;
 
 /// Those whose loops differ: the profile's is the listing's.
@@ -71,12 +72,12 @@ fn files() -> Vec<(String, Vec<u8>)> {
         let replies = program.replies(&text);
         (format!("{}.txt", program.name()), text, replies)
     });
-    let of_lists = examples().map(|(name, input, output)| (name.to_string(), input, output));
+    let others = examples().into_iter().chain(texts::examples()).map(|(name, input, output)| (name.to_string(), input, output));
     let both = |(name, input, output): (String, Vec<u8>, Vec<u8>)| {
         let stem = name.split('.').next().expect("a name").to_string();
         [(name, input), (format!("{stem}.expected"), output)]
     };
-    of_lines.into_iter().chain(of_lists).flat_map(both).collect()
+    of_lines.into_iter().chain(others).flat_map(both).collect()
 }
 
 fn path(name: &str) -> PathBuf {

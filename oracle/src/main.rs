@@ -20,6 +20,7 @@ mod lists;
 mod orders;
 mod profile;
 mod random;
+mod report;
 mod rescale;
 mod shapes;
 mod swing;
@@ -34,8 +35,8 @@ use std::process::ExitCode;
 
 const USAGE: &str = "oracle examples | make-list | check-list | call | diff N [SEED] | leaf NAME N [SEED] | cases NAME N [SEED] |
        answers NAME | compare N [SEED [THREADS]] | units N [SEED] | orders N [SEED] | profile N [SEED] | effect N [SEED] |
-       swing N [SEED] | fuzz SECONDS [SEED] | lists N [SEED] | round N [SEED] | tables N [SEED] | cel N [SEED] | make-units |
-       make-blocks";
+       swing N [SEED] | fuzz SECONDS [SEED] | lists N [SEED] | round N [SEED] | report N [SEED] | report-text N [SEED] |
+       tables N [SEED] | cel N [SEED] | make-units | make-blocks";
 
 fn main() -> ExitCode {
     let words: Vec<String> = std::env::args().skip(1).collect();
@@ -71,6 +72,10 @@ fn main() -> ExitCode {
         ["lists", n, seed] => lists::runs::run(number(n), number(seed)),
         ["round", n] => lists::runs::round(number(n), 1),
         ["round", n, seed] => lists::runs::round(number(n), number(seed)),
+        ["report", n] => report::runs::run(number(n), 1),
+        ["report", n, seed] => report::runs::run(number(n), number(seed)),
+        ["report-text", n] => report::texts::run(number(n), 1),
+        ["report-text", n, seed] => report::texts::run(number(n), number(seed)),
         ["tables", n] => tables::run(number(n), 1),
         ["tables", n, seed] => tables::run(number(n), number(seed)),
         ["cel", n] => cel::run(number(n), 1),

@@ -63,3 +63,14 @@ linked! {
 linked! {
     "lib-tables" CHECK_TABLE = gatewren_check_table(*const u8, usize, *const u64, usize, u64, *mut u64) -> u32;
 }
+
+// Request 2026-05: a report's words, a list's bytes and their length; and what stands in a report, by function.
+linked! {
+    "lib-report" REPORT_LIST = gatewren_report_list(*mut u64, *const u8, usize) -> u32;
+    "lib-report" REPORT_JOIN = gatewren_report_join(*mut u64, *const u64) -> u32;
+    "lib-report" REPORT_CALLS = gatewren_report_calls(*const u64, u32) -> u64;
+    "lib-report" REPORT_REFUSED = gatewren_report_refused(*const u64, u32, u32) -> u64;
+    "lib-report" REPORT_ROUNDS = gatewren_report_rounds(*const u64, u32) -> u64;
+    "lib-report" REPORT_MOST = gatewren_report_most(*const u64, u32) -> u32;
+    "lib-report" REPORT_SUM = gatewren_report_sum(*const u64, u32) -> f64;
+}

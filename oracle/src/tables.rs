@@ -59,12 +59,12 @@ fn own(answer: Answer) -> Claim {
 }
 
 /// A call as a list has it.
-fn job(call: &Call) -> Job {
+pub fn job(call: &Call) -> Job {
     let (function, _) = NAMES.into_iter().find(|&(_, entry)| entry == call.entry).expect("lists know every entry");
     (function, call.args().iter().map(|arg| arg.to_bits()).collect())
 }
 
-fn judged((function, arguments): &Job) -> Answer {
+pub fn judged((function, arguments): &Job) -> Answer {
     let entry = entry_of(*function).expect("a job that was read has a known function");
     let args: Vec<f64> = arguments.iter().map(|&bits| f64::from_bits(bits)).collect();
     Call::new(entry, &args).judged().answer
@@ -218,7 +218,7 @@ fn somewhere(random: &mut Random, len: usize) -> usize {
 
 /// The list's bytes with a fault at some job: cut inside it, a number not in its shortest form or too long, an unknown function, or
 /// a byte changed, which may leave a sound list.
-fn spoilt(random: &mut Random, jobs: &[Job]) -> (&'static str, Vec<u8>) {
+pub fn spoilt(random: &mut Random, jobs: &[Job]) -> (&'static str, Vec<u8>) {
     let mut numbers: Vec<Vec<Vec<u8>>> =
         jobs.iter().map(|(function, arguments)| [function].into_iter().chain(arguments).map(|&n| number(n)).collect()).collect();
     let row = somewhere(random, jobs.len());

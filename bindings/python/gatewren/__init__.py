@@ -1,6 +1,6 @@
 """Gatewren for Python: Carlson's elliptic integrals rc, rf, rd, rg, rj_positive, rj_negative, Bulirsch's cel, the bench's profile
 of them (profile_rf and its like), the leaves they stand on, the knee bench's swing time and step log, the packed work lists of
-its controller, and the check of others' tables.
+its controller, reports of such lists, and the check of others' tables.
 
 What is called is the proved library as a shared object, which `./gatewren shared` builds and `pip install` takes along;
 GATEWREN_SO may name another place.
@@ -23,13 +23,14 @@ import enum
 import operator
 import os
 import pathlib
+import re
 import struct
-from collections.abc import Callable, Iterable
+from collections.abc import Callable, Iterable, Iterator
 from typing import NamedTuple, NoReturn, SupportsFloat, SupportsIndex
 
 __all__ = ["Refusal", "Road", "Answer", "Value", "Total", "Refused", "rc", "rf", "rd", "rg", "rj_positive", "rj_negative", "cel"]
 __all__ += ["profile_rc", "profile_rf", "profile_rd", "profile_rg", "profile_rj"]
-__all__ += ["Job", "ReadList", "read_list", "write_list", "Checked", "check_table", "swing", "steps"]
+__all__ += ["Job", "ReadList", "read_list", "write_list", "Report", "Checked", "check_table", "swing", "steps"]
 __all__ += ["sqrt", "mul_add", "pow_neg_3_2", "atan", "ln", "ln_1p"]
 
 __version__ = "0.4.0"
@@ -55,6 +56,7 @@ class Refusal(enum.Enum):
     NUMBER_BAD = 15  # a work list has a number over 64 bits or not in its shortest form
     UNKNOWN_FUNCTION = 16  # a job's function is none of those that work lists know
     NO_ROOM = 17  # a job is longer than what is left of the buffer
+    TOO_MANY = 18  # more than 2^32 - 1 calls in all, in a report's list or in two reports joined
     SEVERAL_INFINITE = 19  # more than one of cel's arguments is infinite
     A_OR_B_INFINITE = 20  # cel's a or b is infinite
     WRONG_SIGN = 21  # RJ's p has the wrong sign for this entry
@@ -222,6 +224,15 @@ _WRITE_JOB = _symbol("write_job", [ctypes.c_char_p, ctypes.c_size_t, _SIZE, ctyp
 _READ_JOB = _symbol("read_job", [ctypes.c_char_p, ctypes.c_size_t, _SIZE, ctypes.POINTER(_JOB)], ctypes.c_uint32)
 _CHECKED = [ctypes.c_char_p, ctypes.c_size_t, ctypes.POINTER(ctypes.c_uint64), ctypes.c_size_t, ctypes.c_uint64]
 _CHECK_TABLE = _symbol("check_table", _CHECKED + [ctypes.POINTER(ctypes.c_uint64)], ctypes.c_uint32)
+_REPORT = ctypes.c_uint64 * 384
+_WORDS = ctypes.POINTER(_REPORT)
+_REPORT_LIST = _symbol("report_list", [_WORDS, ctypes.c_char_p, ctypes.c_size_t], ctypes.c_uint32)
+_REPORT_JOIN = _symbol("report_join", [_WORDS, _WORDS], ctypes.c_uint32)
+_REPORT_CALLS = _symbol("report_calls", [_WORDS, ctypes.c_uint32], ctypes.c_uint64)
+_REPORT_REFUSED = _symbol("report_refused", [_WORDS, ctypes.c_uint32, ctypes.c_uint32], ctypes.c_uint64)
+_REPORT_ROUNDS = _symbol("report_rounds", [_WORDS, ctypes.c_uint32], ctypes.c_uint64)
+_REPORT_MOST = _symbol("report_most", [_WORDS, ctypes.c_uint32], ctypes.c_uint32)
+_REPORT_SUM = _symbol("report_sum", [_WORDS, ctypes.c_uint32], _DOUBLE)
 _NOTHING_LEFT = _BAD_ROW = 2**32 - 1
 _LONGEST_JOB = 41
 _SQRT = _symbol("sqrt", [_DOUBLE], _DOUBLE)
@@ -238,6 +249,10 @@ def _whole(number: SupportsIndex, bits: int) -> int:
     if not 0 <= number < 2**bits:
         raise ValueError(f"{number} is no whole number of {bits} bits")
     return number
+
+
+def _bits(value: float) -> int:
+    return struct.unpack("<Q", struct.pack("<d", value))[0]
 
 
 # The entries. What is no number is no argument: c_double raises a TypeError.
@@ -450,6 +465,192 @@ def write_list(jobs: Iterable[Job]) -> bytes | Refused:
     return b"".join(held)
 
 
+# Reports of work lists.
+
+
+class Report:
+    """What the answers to work lists come to: for each function (RF 1, RC 2, RD 3, RG 4, RJ 5, cel 6; any other has none of it)
+    the calls, how often each number for no was given, the rounds, and the exact sum of the values. The same jobs in another
+    order, or in parts whose reports are joined in any order, make the same report.
+
+    A report does not change: add and join give another one, or a Refused. Report() is that of no list.
+
+    >>> data = write_list([Job(2, (0, 0x3FF0000000000000, 0, 0)), Job(2, (0, 0, 0, 0))])
+    >>> report = Report().add(data)
+    >>> report.calls(2), report.refused(2, Refusal.ZERO_GIVEN), report.sum(2)
+    (2, 1, 1.5707963267948966)
+    >>> report.add(data[:-1])
+    Refused(Refusal.LIST_CUT)
+    >>> report.join(report).sum(2)
+    3.141592653589793
+
+    Its text is that of `./gatewren report`, and parse reads it; so it is pickled.
+
+    >>> Report.parse(str(report)) == report
+    True
+    """
+
+    __slots__ = ("_words",)
+    _words: bytes
+
+    # What stands in which word is the library's own; here it is for the text and the exact sum.
+    _NAMES = ("RF", "RC", "RD", "RG", "RJ", "CEL")
+    _LAST, _ROUNDS, _MOST, _SUM, _SUM_WORDS, _BLOCK = 27, 28, 29, 30, 34, 64
+
+    def __init__(self) -> None:
+        object.__setattr__(self, "_words", bytes(_REPORT()))
+
+    @classmethod
+    def _of(cls, words: ctypes.Array[ctypes.c_uint64]) -> Report:
+        report = cls()
+        object.__setattr__(report, "_words", bytes(words))
+        return report
+
+    def _held(self) -> ctypes.Array[ctypes.c_uint64]:
+        """Its words, for the library to read or to change."""
+        return _REPORT.from_buffer_copy(self._words)
+
+    def __setattr__(self, name: str, value: object) -> NoReturn:
+        raise AttributeError("a report does not change: add and join give another one")
+
+    def __eq__(self, other: object) -> bool:
+        return self._words == other._words if isinstance(other, Report) else NotImplemented
+
+    def __hash__(self) -> int:
+        return hash(self._words)
+
+    def __reduce__(self) -> tuple[object, ...]:
+        return (Report.parse, (str(self),))
+
+    def add(self, data: bytes) -> Report | Refused:
+        """This report with the answers to a whole packed work list added."""
+        words, data = self._held(), bytes(data)
+        number = _REPORT_LIST(ctypes.byref(words), data, len(data))
+        return Report._of(words) if number == 0 else Refused(number)
+
+    def join(self, other: Report) -> Report | Refused:
+        """The report of both lists."""
+        if not isinstance(other, Report):
+            raise TypeError(f"a report is joined with a report, not with {other!r}")
+        words = self._held()
+        number = _REPORT_JOIN(ctypes.byref(words), ctypes.byref(other._held()))
+        return Report._of(words) if number == 0 else Refused(number)
+
+    def calls(self, function: SupportsIndex) -> int:
+        """The calls, refused ones too."""
+        return _REPORT_CALLS(ctypes.byref(self._held()), _whole(function, 32))
+
+    def refused(self, function: SupportsIndex, refusal: Refusal) -> int:
+        """How many of them were refused so."""
+        return _REPORT_REFUSED(ctypes.byref(self._held()), _whole(function, 32), Refusal(refusal).value)
+
+    def rounds(self, function: SupportsIndex) -> int:
+        """The rounds of its values in all."""
+        return _REPORT_ROUNDS(ctypes.byref(self._held()), _whole(function, 32))
+
+    def most(self, function: SupportsIndex) -> int:
+        """The most rounds of one value."""
+        return _REPORT_MOST(ctypes.byref(self._held()), _whole(function, 32))
+
+    def sum(self, function: SupportsIndex) -> float:
+        """The exact sum of its values, rounded once: an infinity where that overflows, +0 for zero."""
+        return _REPORT_SUM(ctypes.byref(self._held()), _whole(function, 32))
+
+    def exact(self, function: SupportsIndex) -> int:
+        """The exact sum of its values times 2^1074, a whole number.
+
+        >>> Report().add(write_list([Job(1, (0x4010000000000000,) * 3 + (0,))])).exact(1) == 2**1073
+        True
+        """
+        function = _whole(function, 32)
+        if not 1 <= function <= len(self._NAMES):
+            return 0
+        words = self._held()[(function - 1) * self._BLOCK + self._SUM : function * self._BLOCK]
+        return int.from_bytes(struct.pack(f"<{len(words)}Q", *words), "little", signed=True)
+
+    def _lines_of(self, function: int) -> Iterator[str]:
+        """Its text's lines of one function."""
+        name, block = self._NAMES[function - 1], self._held()[(function - 1) * self._BLOCK : function * self._BLOCK]
+        yield f"{name} calls {block[0]}"
+        yield from (f"{name} refused {number} {block[number]}" for number in range(1, self._LAST + 1) if block[number])
+        yield f"{name} rounds {block[self._ROUNDS]}"
+        yield f"{name} most {block[self._MOST]}"
+        yield f"{name} exact {self.exact(function):X}"
+        yield f"{name} sum {_bits(self.sum(function)):016X}"
+
+    def __str__(self) -> str:
+        lines = [line for function in range(1, len(self._NAMES) + 1) for line in self._lines_of(function)]
+        return "".join(f"{line}\n" for line in ["report 1", *lines])
+
+    def __repr__(self) -> str:
+        return f"Report.parse({str(self)!r})"
+
+    @classmethod
+    def parse(cls, text: str) -> Report:
+        """The report of a text, in the one form that it is written in. Any other text is a ValueError.
+
+        >>> Report.parse("report 2\\n")
+        Traceback (most recent call last):
+        ValueError: line 1: bad line
+        """
+        lines, words = _Lines(text), _REPORT()
+        lines.take("report 1")
+        for first, name in zip(range(0, len(words), cls._BLOCK), cls._NAMES):
+            words[first] = lines.number(f"{name} calls")
+            last = 0
+            while tally := lines.tally(name, range(last + 1, cls._LAST + 1)):
+                last, words[first + tally[0]] = tally
+            words[first + cls._ROUNDS] = lines.number(f"{name} rounds")
+            words[first + cls._MOST] = lines.number(f"{name} most")
+            words[first + cls._SUM : first + cls._BLOCK] = lines.exact(f"{name} exact", cls._SUM_WORDS)
+            lines.take(list(cls._of(words)._lines_of(first // cls._BLOCK + 1))[-1])
+        lines.end()
+        return cls._of(words)
+
+
+class _Lines:
+    """The lines of a text, gone through as far as they are good; the first that is not is a ValueError."""
+
+    def __init__(self, text: str) -> None:
+        self.all, self.at = text.removesuffix("\n").split("\n"), 0
+
+    def bad(self) -> ValueError:
+        return ValueError(f"line {self.at + 1}: bad line")
+
+    def end(self) -> None:
+        if self.at < len(self.all):
+            raise self.bad()
+
+    def met(self, form: str) -> re.Match[str] | None:
+        """The next line, if it is of this form."""
+        return re.fullmatch(form, self.all[self.at]) if self.at < len(self.all) else None
+
+    def take(self, form: str, good: Callable[[re.Match[str]], bool] = bool) -> re.Match[str]:
+        line = self.met(form)
+        if not line or not good(line):
+            raise self.bad()
+        self.at += 1
+        return line
+
+    def number(self, words: str) -> int:
+        """A whole number of 64 bits, in its shortest form."""
+        return int(self.take(f"{words} (0|[1-9][0-9]*)", lambda line: int(line[1]) < 2**64)[1])
+
+    def tally(self, name: str, numbers: range) -> tuple[int, int] | None:
+        """A number for no and how often it was given, if the next line has that."""
+        if not self.met(f"{name} refused .*"):
+            return None
+        form = f"{name} refused ([1-9][0-9]?) ([1-9][0-9]*)"
+        good = self.take(form, lambda line: int(line[1]) in numbers and int(line[2]) < 2**64)
+        return int(good[1]), int(good[2])
+
+    def exact(self, words: str, many: int) -> tuple[int, ...]:
+        """A whole number in hex as so many words, low first, in two's complement."""
+        top = 2 ** (64 * many - 1)
+        number = int(self.take(f"{words} (0|-?[1-9A-F][0-9A-F]*)", lambda line: -top <= int(line[1], 16) < top)[1], 16)
+        return struct.unpack(f"<{many}Q", number.to_bytes(8 * many, "little", signed=True))
+
+
 # Checking the tables of other laboratories.
 
 
@@ -467,7 +668,7 @@ class Checked(NamedTuple):
 def _claim(claim: SupportsFloat | Refused) -> tuple[int, int]:
     if isinstance(claim, Refused):
         return (1, claim.number)
-    return (0, struct.unpack("<Q", struct.pack("<d", float(claim)))[0])
+    return (0, _bits(float(claim)))
 
 
 def check_table(data: bytes, claims: Iterable[SupportsFloat | Refused], tolerance: SupportsIndex) -> Checked:

@@ -116,6 +116,7 @@ refusals! {
     NumberBad = 15, "a number over 64 bits or not in its shortest form";
     UnknownFunction = 16, "a job's function is none of those that work lists know";
     NoRoom = 17, "the job is longer than what is left";
+    TooMany = 18, "more than 2^32 - 1 calls in all, in a report's list or in two reports joined";
     SeveralInfinite = 19, "more than one of cel's arguments is infinite";
     AOrBInfinite = 20, "cel's a or b is infinite";
     WrongSign = 21, "p has the wrong sign for this entry";

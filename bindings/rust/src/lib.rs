@@ -1,7 +1,7 @@
 //! Gatewren for Rust: Carlson's elliptic integrals [`rc`], [`rf`], [`rd`], [`rg`] and RJ as [`rj_positive`] and
 //! [`rj_negative`], Bulirsch's [`cel`], the bench's [`profile`] of them, the [`leaf`] functions they stand on, the knee
-//! [`bench`]'s swing time and step log, the packed [`WorkList`] of its controller, and [`check_table`] for other laboratories'
-//! tables. What is called is the proved library, libgatewren.a; here is only its dress.
+//! [`bench`]'s swing time and step log, the packed [`WorkList`] of its controller and the [`Report`] over such lists, and
+//! [`check_table`] for other laboratories' tables. What is called is the proved library, libgatewren.a; here is only its dress.
 //!
 //! ```
 //! use gatewren::{rf, Answer, Refusal, Road};
@@ -15,12 +15,14 @@ pub mod bench;
 mod entries;
 pub mod leaf;
 pub mod profile;
+mod report;
 mod symbols;
 mod table;
 mod work_list;
 
 pub use answer::{Answer, Refusal, Road};
 pub use entries::{cel, rc, rd, rf, rg, rj_negative, rj_positive};
+pub use report::{BadLine, Report};
 pub use table::{check_table, Checked, Claim};
 pub use work_list::{Job, WorkList};
 

@@ -27,6 +27,13 @@ extern "C" {
     pub fn gatewren_steps(total: &mut u64, readings: *const u16, n: usize) -> u32;
     pub fn gatewren_write_job(bytes: *mut u8, length: usize, place: &mut usize, job: &Job) -> u32;
     pub fn gatewren_read_job(bytes: *const u8, length: usize, place: &mut usize, job: &mut Job) -> u32;
+    pub fn gatewren_report_list(report: *mut u64, list: *const u8, length: usize) -> u32;
+    pub fn gatewren_report_join(report: *mut u64, other: *const u64) -> u32;
+    pub fn gatewren_report_calls(report: *const u64, function: u32) -> u64;
+    pub fn gatewren_report_refused(report: *const u64, function: u32, number: u32) -> u64;
+    pub fn gatewren_report_rounds(report: *const u64, function: u32) -> u64;
+    pub fn gatewren_report_most(report: *const u64, function: u32) -> u32;
+    pub fn gatewren_report_sum(report: *const u64, function: u32) -> f64;
     pub fn gatewren_check_table(
         list: *const u8,
         length: usize,

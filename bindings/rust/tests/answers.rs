@@ -1,7 +1,7 @@
 //! Document 01's settled and printed examples, and the leaves at a few points, through the binding.
 
 use gatewren::{bench, cel, leaf, profile, rc, rd, rf, rg, rj_negative, rj_positive, Answer, Job, Refusal, Road, WorkList};
-use gatewren::{check_table, Checked, Claim};
+use gatewren::{check_table, BadLine, Checked, Claim, Report};
 
 const INF: f64 = f64::INFINITY;
 const NAN: f64 = f64::NAN;
@@ -91,10 +91,9 @@ fn roads_and_rescalings() {
 #[test]
 fn every_number_has_a_meaning() {
     let numbers: Vec<u32> = Refusal::ALL.iter().map(|refusal| refusal.number()).collect();
-    assert_eq!(numbers, (1..=17).chain(19..=23).collect::<Vec<u32>>());
+    assert_eq!(numbers, (1..=23).collect::<Vec<u32>>());
     assert!(Refusal::ALL.iter().all(|&refusal| Refusal::of(refusal.number()) == Some(refusal)));
     assert_eq!(Refusal::of(0), None);
-    assert_eq!(Refusal::of(18), None);
     assert_eq!(Refusal::of(24), None);
     assert_eq!(Refusal::TooDeep.to_string(), "refused 10: a fifth nested RJ call would be needed");
 }
@@ -286,4 +285,134 @@ fn tables_are_checked() {
     assert_eq!(check_table(&bytes[..place - 1], &[], 0), Checked::Refused(Refusal::ListCut));
     assert_eq!(check_table(&[2, 0x81, 0], &ours, 0), Checked::Refused(Refusal::NumberBad));
     assert_eq!(check_table(&[], &[], 0), Checked::Accepted);
+}
+
+/// A packed list of the jobs.
+fn packed(jobs: &[Job]) -> Vec<u8> {
+    let mut bytes = vec![0; jobs.len() * Job::LONGEST];
+    let place = jobs.iter().fold(0, |place, job| job.write(&mut bytes, place).unwrap());
+    bytes.truncate(place);
+    bytes
+}
+
+/// Jobs with values of both signs and every size, and refused ones: cel(1, 1, a, a) is about a times pi / 2.
+fn month() -> Vec<Job> {
+    let cel = |a: f64| Job { function: 6, arguments: [1.0, 1.0, a, a].map(f64::to_bits) };
+    let rc = |x: f64, y: f64| Job { function: 2, arguments: [x.to_bits(), y.to_bits(), 0, 0] };
+    let mut jobs: Vec<Job> = (-1074..1023).step_by(7).map(|k| cel(2f64.powi(k) * if k % 2 == 0 { 1.5 } else { -1.25 })).collect();
+    jobs.extend([rc(0.0, 1.0), rc(1.0, 0.0), rc(-1.0, 1.0), rc(0.0, 1.0), rc(1.0, 2.0)]);
+    jobs.extend([1.0, 2.0, 5.0].map(|x: f64| Job { function: 1, arguments: [x, 0.5, 0.25, 0.0].map(f64::to_bits) }));
+    jobs
+}
+
+/// Request 2026-05: the counts and sums are those of the answers, in any order and in parts.
+#[test]
+fn reports() {
+    let jobs = month();
+    let mut report = Report::new();
+    report.add(&packed(&jobs)).unwrap();
+    assert_eq!((report.calls(2), report.refused(2, Refusal::ZeroGiven), report.refused(2, Refusal::BelowZero)), (5, 1, 1));
+    assert_eq!((report.calls(1), report.calls(3), report.calls(6)), (3, 0, jobs.len() as u64 - 8));
+    let rounds = [1.0, 2.0, 5.0].map(|x| match rf(x, 0.5, 0.25) {
+        Answer::Value { rounds, .. } => rounds,
+        Answer::Refused(refusal) => panic!("{refusal}"),
+    });
+    assert_eq!((report.rounds(1), report.most(1)), (rounds.iter().sum::<u32>().into(), rounds.into_iter().max().unwrap()));
+    // two of the three are equal, and twice a number is exact
+    let (half_pi, other) = (rc(0.0, 1.0).value().unwrap(), rc(1.0, 2.0).value().unwrap());
+    assert_eq!(report.sum(2), (half_pi + half_pi) + other);
+    for function in [0, 7, u32::MAX] {
+        assert_eq!((report.calls(function), report.rounds(function), report.most(function)), (0, 0, 0));
+        assert_eq!((report.sum(function).to_bits(), report.refused(function, Refusal::NanGiven)), (0, 0));
+    }
+    for parts in [1, 2, 3, 50] {
+        let mut whole = Report::new();
+        for part in jobs.chunks(jobs.len().div_ceil(parts)).rev() {
+            let mut one = Report::new();
+            let backwards: Vec<Job> = part.iter().rev().copied().collect();
+            one.add(&packed(&backwards)).unwrap();
+            whole.join(&one).unwrap();
+        }
+        assert_eq!(whole, report);
+    }
+}
+
+#[test]
+fn a_refused_list_leaves_the_report() {
+    let mut report = Report::new();
+    let list = packed(&month());
+    report.add(&list).unwrap();
+    let before = report.clone();
+    assert_eq!(report.add(&list[..list.len() - 1]), Err(Refusal::ListCut));
+    assert_eq!(report.add(&[&list[..], &[2, 0x81, 0]].concat()), Err(Refusal::NumberBad));
+    assert_eq!(report.add(&[&list[..], &[7]].concat()), Err(Refusal::UnknownFunction));
+    assert_eq!(report.add(&[]), Ok(()));
+    assert_eq!(report, before);
+}
+
+/// Document 02: more than 2^32 - 1 calls in all, by texts that say so.
+#[test]
+fn too_many_calls() {
+    let with =
+        |calls: u64| Report::new().to_string().replace("RD calls 0", &format!("RD calls {calls}")).parse::<Report>().unwrap();
+    let mut nearly = with(u64::from(u32::MAX) - 5);
+    assert_eq!(nearly.add(&packed(&month()[..6])), Err(Refusal::TooMany));
+    assert_eq!(nearly.join(&with(6)), Err(Refusal::TooMany));
+    assert_eq!(nearly, with(u64::from(u32::MAX) - 5));
+    assert_eq!(nearly.add(&packed(&month()[..2])), Ok(()));
+    assert_eq!(nearly.join(&with(3)), Ok(()));
+    assert_eq!(nearly.join(&with(1)), Err(Refusal::TooMany));
+    assert_eq!((nearly.calls(3), nearly.calls(6)), (u64::from(u32::MAX) - 2, 2));
+}
+
+#[test]
+fn texts_of_reports() {
+    let mut report = Report::new();
+    let none = ["RF", "RC", "RD", "RG", "RJ", "CEL"]
+        .map(|name| format!("{name} calls 0\n{name} rounds 0\n{name} most 0\n{name} exact 0\n{name} sum 0000000000000000\n"));
+    assert_eq!(report.to_string(), format!("report 1\n{}", none.concat()));
+    report
+        .add(&packed(&[Job { function: 2, arguments: [0, 1f64.to_bits(), 0, 0] }, Job { function: 2, ..Job::default() }]))
+        .unwrap();
+    // pi / 2 is 3FF921FB54442D18: its digits times 2^1022, in units of 2^-1074
+    let exact = format!("{:X}{}", 0x19_21FB_5444_2D18u64 << 2, "0".repeat(255));
+    let rc = format!("RC calls 2\nRC refused 4 1\nRC rounds 0\nRC most 0\nRC exact {exact}\nRC sum 3FF921FB54442D18\n");
+    assert_eq!(report.to_string(), format!("report 1\n{}{rc}{}", none[0], none[2..].concat()));
+    report.add(&packed(&month())).unwrap();
+    let text = report.to_string();
+    assert_eq!(text.parse(), Ok(report.clone()));
+    assert_eq!(text.trim_end().parse(), Ok(report));
+    // what is below zero is its size with a sign
+    let minus = |k: i32| Job { function: 6, arguments: [1.0, 1.0, -(2f64.powi(k)), -(2f64.powi(k))].map(f64::to_bits) };
+    let (mut below, mut above) = (Report::new(), Report::new());
+    below.add(&packed(&[minus(900), minus(-900)])).unwrap();
+    above
+        .add(&packed(&[minus(900), minus(-900)].map(|job| Job { arguments: job.arguments.map(|bits| bits & !(1 << 63)), ..job })))
+        .unwrap();
+    assert_eq!(below.to_string(), above.to_string().replace("CEL exact ", "CEL exact -").replace("CEL sum 7", "CEL sum F"));
+    assert_eq!(below.to_string().parse(), Ok(below.clone()));
+    below.join(&above).unwrap();
+    assert!(below.to_string().ends_with("CEL exact 0\nCEL sum 0000000000000000\n"));
+}
+
+#[test]
+fn texts_of_no_report() {
+    let mut report = Report::new();
+    report.add(&packed(&month())).unwrap();
+    let text = report.to_string();
+    let bad = |from: &str, to: &str| text.replacen(from, to, 1).parse::<Report>().unwrap_err().line;
+    assert_eq!(bad("report 1", "report 2"), 1);
+    assert_eq!(bad("RF calls 3", "RF calls 03"), 2);
+    assert_eq!(bad("RF calls 3", "RF calls +3"), 2);
+    assert_eq!(bad("RC refused 2 1\n", "RC refused 2 0\n"), 8);
+    assert_eq!(bad("RC refused 2 1\n", "RC refused 28 1\n"), 8);
+    assert_eq!(bad("RC refused 2 1\n", "RC refused 5 1\n"), 9);
+    assert_eq!(bad("RD exact 0", "RD exact -0"), 17);
+    assert_eq!(bad("RD exact 0", "RD exact 00"), 17);
+    assert_eq!(bad("RD exact 0", "RD exact 1"), 18);
+    assert_eq!("".parse::<Report>(), Err(BadLine { line: 1 }));
+    let lines = text.lines().count();
+    assert_eq!(format!("{text}\n").parse::<Report>(), Err(BadLine { line: lines + 1 }));
+    assert_eq!(text.trim_end().rsplit_once('\n').unwrap().0.parse::<Report>(), Err(BadLine { line: lines }));
+    assert_eq!(BadLine { line: 3 }.to_string(), "line 3: bad line");
 }

@@ -1,4 +1,9 @@
 // What a program reads and writes: a block is read, bytes are written, and where that fails it is said on standard error.
+mod say;
+
+pub use crate::say::say_bad;
+pub use crate::say::say_number;
+pub use crate::say::say_refused;
 use libc::STDERR_FILENO;
 use libc::STDIN_FILENO;
 use libc::STDOUT_FILENO;

@@ -4,6 +4,7 @@ mod fused_leaf;
 mod leaves;
 mod power_leaf;
 mod profile_entries;
+mod reports;
 mod series_leaf;
 mod swing_layer;
 mod tables;

@@ -9,9 +9,10 @@ use writing::least;
 ghost use Prim.Native.Nat.{_≤_};
 ghost use lib.ListN.{length};
 
-// What stands in the window: the place of the next job and how many bytes came; whether the file has ended, and whether a read
-// failed.
+// What stands in the window: the file's place at which it begins, the place in it of the next job and how many bytes came; whether
+// the file has ended, and whether a read failed.
 pub struct Window {
+    pub from: u64,
     pub at: usize,
     pub size: usize,
     pub over: bool,
@@ -33,6 +34,7 @@ pub enum Pulled {
 // Before the first job.
 pub fn begin() -> Window {
     Window {
+        from: 0,
         at: 0,
         size: 0,
         over: false,
@@ -61,6 +63,7 @@ fn look(window: &[u8], w: Window) -> Pulled {
             Pulled::Job(
                 job,
                 Window {
+                    from: w.from,
                     at,
                     size,
                     over: w.over,
@@ -96,26 +99,35 @@ fn shift(window: &mut [u8], at: usize, size: usize) -> usize
 // Reads once more, behind what is not yet a job.
 fn refill(file: i32, window: &mut [u8], w: Window) -> Window {
     let kept = shift(window, w.at, w.size);
+    let from = std::num::wrapping_add_u64(w.from, w.at as u64);
     match read_from(file, &mut window[kept..]) {
         Got::Bytes(n) => Window {
+            from,
             at: 0,
             size: std::num::wrapping_add_usize(kept, n),
             over: false,
             failed: false,
         },
         Got::End => Window {
+            from,
             at: 0,
             size: kept,
             over: true,
             failed: false,
         },
         Got::Failed => Window {
+            from,
             at: 0,
             size: 0,
             over: true,
             failed: true,
         },
     }
+}
+
+// The file's place of the next job.
+pub fn place(w: Window) -> u64 {
+    std::num::wrapping_add_u64(w.from, w.at as u64)
 }
 
 // The next job; the window is read on as far as it takes.

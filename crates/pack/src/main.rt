@@ -2,28 +2,13 @@
 // line ends it, and its number, counted from 1, is said on standard error; what came before it is written.
 use console::Got;
 use console::read_block;
+use console::say_bad;
 use console::written;
-use libc::STDERR_FILENO;
 use pack_stream::BLOCK;
 use pack_stream::HELD;
 use pack_stream::feed;
 use pack_stream::finish;
 use writing::OUT;
-use writing::least;
-use writing::put_decimal;
-use writing::put_text;
-
-fn say(text: &[u8], used: usize) {
-    io::write_all(STDERR_FILENO, &text[..least(text.len(), used)]);
-}
-
-fn say_bad(line: u64) {
-    let mut text = [0u8; 64];
-    let name = put_text(b"line ", &mut text, 0);
-    let number = put_decimal(line, 19, &mut text, name);
-    let used = put_text(b": bad line\n", &mut text, number);
-    say(&text, used);
-}
 
 // Writes what comes until it ends or a line is bad.
 fn pack_all(out: &mut [u8; OUT]) {

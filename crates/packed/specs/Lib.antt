@@ -8,3 +8,4 @@ pub mod JobLaws
 pub mod ListLaws
 pub mod MoreLaws
 pub mod PlaceLaws
+pub mod RestLaws

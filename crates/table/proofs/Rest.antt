@@ -9,13 +9,11 @@ use native.Mathlib.Numerals.{add-one}
 use native.Mathlib.Omega.{arith}
 use borrow.Author.Tests.{le-leb, lt-leb, lt-ltb, le-ltb, ne-eqb}
 use lib.Dec.{eqb, leb, ltb, eqb·suc-suc, eqb·suc-zero}
-use lib.ListN.{length, getD, drop, length-append, length-drop}
+use lib.ListN.{length, getD, drop, length-drop}
 use lib.Seq.{drop-cons, drop-drop}
 use Rattle.algebra.specs.Order.{lt-or-le, same-ltb}
-use Rattle.packed.specs.Jobs.{jobBytes, jobLength}
-use Rattle.packed.specs.LengthLaws.{job-some}
 use Rattle.packed.specs.NumberLaws.{Bytes}
-use Rattle.packed.specs.JobLaws.{read-is}
+use Rattle.packed.specs.RestLaws.{found-later}
 use Rattle.packed.specs.Reading.{Jobs, jobs, stopped, withJob, readOn, readAt, readFrom, readAll}
 use Rattle.packed.specs.declared.jobs.Job.{Job}
 use Rattle.packed.specs.declared.read.Got.{Got}
@@ -121,22 +119,6 @@ rest-ended t row Accepted [] = refl
 rest-ended t row Accepted (w ∷ ws) = rw (eqb·suc-zero (length ws), lt-ltb 0 (suc (length ws)) (omega arith))
 
 -- ---- the loop
--- a slice of u8 has bytes
-pub bytes-all : (l : List ℕ) → ((k : ℕ) → getD l k 0 < 256) → Bytes l
-bytes-all [] h = tt
-bytes-all (b ∷ l) h = (h 0, bytes-all l (λ k. h (suc k)))
-
--- a job that was read ends later, and inside
-pub found-later : (l : List ℕ) (place : ℕ) (got : Got) → Bytes l → readAt l place ≡ Found got
-    → (place < got .next) × (got .next ≤ length l)
-unfolding jobLength
-found-later l place got b e =
-    let is = read-is l place b got e in
-    let p = is .1 .stands .place in
-    let all : length l - place ≡ length (jobBytes (got .job)) + length (drop (got .next) l) =
-    sym (length-drop place l) ∙ ap length (is .1 .stands .bytes) ∙ length-append (jobBytes (got .job)) (drop (got .next) l) in
-    (omega (arith, p, job-some (got .job)), omega (arith, p, all, is .0))
-
 -- after so many jobs, at a place in the list and one in the words
 pub record Standing (t : ℕ) (list words : List ℕ) (so : Checked) (row place at : ℕ) : Type 0 where
   pub inside : place ≤ length list

@@ -3,30 +3,13 @@
 // it are written.
 use console::Got;
 use console::read_block;
+use console::say_refused;
 use console::written;
-use libc::STDERR_FILENO;
 use unpack_stream::BLOCK;
 use unpack_stream::HELD;
 use unpack_stream::feed;
 use unpack_stream::left_over;
 use writing::OUT;
-use writing::least;
-use writing::put_decimal;
-use writing::put_text;
-
-fn say(text: &[u8], used: usize) {
-    io::write_all(STDERR_FILENO, &text[..least(text.len(), used)]);
-}
-
-fn say_refused(place: u64, number: u32) {
-    let mut text = [0u8; 64];
-    let byte = put_text(b"byte ", &mut text, 0);
-    let at = put_decimal(place, 19, &mut text, byte);
-    let refused = put_text(b": refused ", &mut text, at);
-    let told = put_decimal(number as u64, 9, &mut text, refused);
-    let used = put_text(b"\n", &mut text, told);
-    say(&text, used);
-}
 
 // Writes what comes until it ends or is refused.
 fn unpack_all(out: &mut [u8; OUT]) {

@@ -11,11 +11,11 @@ use std::process::Stdio;
 use std::time::{Duration, Instant};
 
 /// Standard output and standard error.
-type Printed = (Vec<u8>, Vec<u8>);
+pub type Printed = (Vec<u8>, Vec<u8>);
 
-/// Whether both programs were built.
-fn built() -> bool {
-    ["pack", "unpack"].into_iter().all(|program| {
+/// Whether the programs were built.
+pub fn there(programs: &[&str]) -> bool {
+    programs.iter().all(|program| {
         let there = root().join("target/bin").join(program).is_file();
         if !there {
             eprintln!("there is no target/bin/{program}: `./gatewren build` first");
@@ -25,7 +25,7 @@ fn built() -> bool {
 }
 
 /// What a program prints, fed in pieces of all sizes.
-fn printed(program: &str, input: &[u8], random: &mut Random) -> Printed {
+pub fn printed(program: &str, input: &[u8], random: &mut Random) -> Printed {
     let mut command = command(&root().join("target/bin").join(program));
     let mut child =
         command.stdin(Stdio::piped()).stdout(Stdio::piped()).stderr(Stdio::piped()).spawn().expect("the program runs");
@@ -157,7 +157,7 @@ impl Counts {
 
 /// N lists of each kind through `unpack`, N texts through `pack`, and one list cut at every byte.
 pub fn run(n: u64, seed: u64) -> bool {
-    if !built() {
+    if !there(&["pack", "unpack"]) {
         return false;
     }
     let mut random = Random::new(seed);
@@ -192,7 +192,7 @@ fn fixed(names: &Names) -> Vec<Job> {
 
 /// Long lists of every kind through `unpack`, so many seconds: `fuzz`'s part for the lists.
 pub fn fuzz(seconds: u64, seed: u64) -> bool {
-    if !built() {
+    if !there(&["pack", "unpack"]) {
         return false;
     }
     let mut random = Random::new(seed);
@@ -223,7 +223,7 @@ pub fn fuzz(seconds: u64, seed: u64) -> bool {
 /// N jobs there and back: their lines through `pack`, which must give the oracle's bytes, and these through `unpack`, which must
 /// give the lines back.
 pub fn round(n: u64, seed: u64) -> bool {
-    if !built() {
+    if !there(&["pack", "unpack"]) {
         return false;
     }
     let mut random = Random::new(seed);

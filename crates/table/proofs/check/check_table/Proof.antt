@@ -10,7 +10,8 @@ use Rattle.packed.specs.NumberLaws.{Bytes}
 use Rattle.packed.specs.ListLaws.{nothing-left}
 use Rattle.packed.specs.Reading.{readAt}
 use Rattle.packed.specs.declared.read.Read.the-variants.{Found}
-use Rattle.table.proofs.Rest.{Standing, bytes-all, found-later}
+use Rattle.packed.specs.RestLaws.{bytes-all, found-later}
+use Rattle.table.proofs.Rest.{Standing}
 use Rattle.table.proofs.Rest.{standing-begins, standing-more, standing-refused, standing-ended}
 use Rattle.table.proofs.check.check_table.Statement.{statement}
 use Rattle.table.proofs.check.check_table.Tie as tie

@@ -1,0 +1,2 @@
+-- `Adding`: a list's answers, job by job.
+mod Adding

@@ -1,0 +1,4 @@
+pub mod Text
+pub mod RoomLaws
+pub mod HexLaws
+pub mod Examples

@@ -1,0 +1,6 @@
+pub mod Words
+pub mod Room
+pub mod Meaning
+pub mod BlockLaws
+pub mod ReportLaws
+pub mod RoomLaws

@@ -1,0 +1,2 @@
+-- `Steps`: from what each function leaves to its definition.
+mod Steps

@@ -1,0 +1,2 @@
+-- `CountSteps`: the count of a list, job by job.
+mod CountSteps
