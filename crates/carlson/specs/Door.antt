@@ -8,7 +8,7 @@ use native.Mathlib.Omega.{arith}
 use borrow.Author.Tests.{ltb-true, le-ltb}
 use lib.Dec.{T, ltb}
 use lib.IntN.{ℤ}
-use lib.Ieee.{Float, nan, inf, fin, up, down, isNan, lt, eq, ofBits}
+use lib.Ieee.{Float, nan, inf, fin, up, down, isNan, lt, eq, le, ofBits}
 use lib.Ieee.Scale.{finite}
 use Rattle.binary64.specs.Leaves.{absolute, maximum, minimum}
 use Rattle.binary64.specs.Tests.{plus-zero, number, number-above, Zero, a-zero, is-zero}
@@ -106,6 +106,10 @@ unfolding moderate
 moderate-told x h =
     let b = both-true (lt reciprocal x) (lt x limit) h in
     form x (b .0) (b .1) (lt-turned reciprocal x (b .0)) (lt-turned x limit (b .1))
+
+pub not-le-zero : {x : Float} → Moderate x → le x plus-zero ≡ false
+unfolding le
+not-le-zero m = ap₂ _||_ (m .not-below) (m .not-zero)
 
 -- of two such, the smaller and the larger
 pub smaller : {x y : Float} → Moderate x → Moderate y → Moderate (minimum x y)

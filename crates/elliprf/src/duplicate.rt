@@ -157,7 +157,7 @@ pub fn series(x: f64, y: f64, a0: f64, an: f64, fnval: f64) -> f64
     factor(correction(a0, x, an, fnval), correction(a0, y, an, fnval)) / sqrt(an)
 }
 
-// From a state on, after n passes.
+// From a state on, after so many passes.
 fn onward(x: f64, y: f64, a0: f64, s: Round, from: u32) -> Found
     requires { ⌜ from ≤ rfCap ⌝ }
     ensures { λ r. ⌜ r ≡ capped rfStep rfClose (rfFound x y a0) rfSpent (rfCap - from) false s from ⌝ }
@@ -176,7 +176,7 @@ fn onward(x: f64, y: f64, a0: f64, s: Round, from: u32) -> Found
     }
 }
 
-// While the roots are told at once; the rest of the passes is made without a guess of ours, out of line.
+// While the roots are told at once; the rest of the passes is made out of line, root by root.
 pub fn duplicated(x: f64, y: f64, z: f64) -> Found
     ensures { λ r. ⌜ r ≡ rfDuplication x y z ⌝ }
 {
