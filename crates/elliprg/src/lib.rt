@@ -9,6 +9,7 @@ use carlson::checks::below3;
 use carlson::constants::BELOW_ZERO;
 use carlson::constants::PI;
 use carlson::constants::RG_NO_RESULT;
+use carlson::door::moderate3;
 use carlson::rescaling::rescales3;
 use carlson::rescaling::scale3;
 use elliprc::elliprc_unchecked;
@@ -142,6 +143,9 @@ fn settled(a: Answer, nan: bool) -> Answer
 pub fn elliprg(x: f64, y: f64, z: f64) -> Answer
     ensures { λ r. ⌜ r ≡ rg x y z ⌝ }
 {
+    if moderate3(x, y, z) {
+        return settled(steps(x, y, z), false);
+    }
     if below3(x, y, z) {
         return Answer::Refused(BELOW_ZERO);
     }
