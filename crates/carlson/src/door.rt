@@ -1,6 +1,7 @@
-// The door in front of an entry: arguments within the limits of rescaling. No check refuses them and nothing is rescaled
-// (specs/Door.antt), so that an entry may take its steps at once.
+// The door in front of an entry: arguments within the limits of rescaling, of which the first may be zero. No check refuses them
+// and nothing is rescaled (specs/Door.antt), so that an entry may take its steps at once.
 use crate::checks::both;
+use crate::checks::either;
 use crate::constants::LIMIT;
 use crate::constants::RECIPROCAL;
 ghost use mathlib.Core.Path.{_≡_};
@@ -15,7 +16,10 @@ pub fn moderate(x: f64) -> bool
 pub fn moderate3(x: f64, y: f64, z: f64) -> bool
     ensures { λ r. ⌜ r ≡ moderate3 x y z ⌝ }
 {
-    both(moderate(x), both(moderate(y), moderate(z)))
+    both(
+        either(moderate(x), x == 0.0),
+        both(moderate(y), moderate(z)),
+    )
 }
 
 pub fn moderate4(x: f64, y: f64, z: f64, p: f64) -> bool

@@ -17,8 +17,10 @@ use carlson::constants::NO_RESULT;
 use carlson::constants::TOO_DEEP;
 use carlson::constants::ZERO_GIVEN;
 use carlson::constants::ZEROS;
+use carlson::door::moderate4;
 use elliprd::over_scale;
 use rj_negative::carried;
+use rj_positive::positive::positive;
 ghost use Prim.Native.Nat.{_≤_};
 ghost use mathlib.Core.Path.{_≡_};
 ghost use Rattle.elliprj.specs.Rj.{
@@ -106,6 +108,9 @@ fn signed(wrong: bool, x: f64, y: f64, z: f64, p: f64) -> Answer
 pub fn elliprj_positive(x: f64, y: f64, z: f64, p: f64) -> Answer
     ensures { λ r. ⌜ r ≡ rjOfPositive x y z p ⌝ }
 {
+    if moderate4(x, y, z, p) {
+        return settled(positive(x, y, z, p));
+    }
     signed(p < 0.0, x, y, z, p)
 }
 

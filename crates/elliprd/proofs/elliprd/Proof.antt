@@ -4,7 +4,7 @@ use mathlib.Core.Path.{_≡_, sym, ap, _∙_}
 use mathlib.Core.Bool.{true, false}
 use lib.Ieee.{Float}
 use Rattle.carlson.specs.declared.answer.Answer.{Answer}
-use Rattle.carlson.specs.Door.{moderate3, inside3, smaller, not-le-zero, no-nan3, none-infinite3, unscaled3}
+use Rattle.carlson.specs.Door.{moderate3, inside3, not-le-zero, none-below2, no-zeros2, no-nan3, none-infinite3, unscaled3}
 use Rattle.elliprd.specs.Rd.{rdSteps, overScale, rdUnchecked, rdSettled, rd}
 use Rattle.elliprd.proofs.elliprd.Statement.{statement}
 use Rattle.elliprd.proofs.elliprd.Tie as tie
@@ -14,8 +14,8 @@ unfolding rd rdUnchecked
 within x y z h =
     let i = inside3 x y z h in
     rw (
-      smaller (i .one) (i .two) .not-below,
-      i .one .not-zero,
+      none-below2 i,
+      no-zeros2 i,
       not-le-zero (i .three),
       no-nan3 i,
       none-infinite3 i,

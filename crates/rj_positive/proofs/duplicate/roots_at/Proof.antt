@@ -22,13 +22,18 @@ returns c =
     let y = z .before .before in
     let x = y .before .before in
     let k = x .before .before .before in
-    let s = k .before .before .before .before .before .before .before .before .before .before in
-    (root-told _ _ (s .good .0 .1) (k .before .before .before .before .before .before .by-row .ok)
-    (x .certain .ensures (y .before .if3 .taken)),
-    (root-told _ _ (s .good .1 .0 .1) (k .before .before .before .before .by-row2 .ok)
-    (y .certain2 .ensures (z .before .if4 .taken)),
-    (root-told _ _ (s .good .1 .1 .0 .1) (k .before .before .by-row3 .ok) (z .certain3 .ensures (p .before .if5 .taken)),
-    root-told _ _ (s .good .1 .1 .1 .0 .1) (k .by-row4 .ok) (p .certain4 .ensures (c .if6 .taken)))))
+    let s = k .before .before .before .before .before .before .before .before .before .before in (
+      root-told _ _ (s .good .0 .1) (k .before .before .before .before .before .before .by-row .ok)
+          (x .certain .ensures (y .before .if3 .taken)),
+      (
+        root-told _ _ (s .good .1 .0 .1) (k .before .before .before .before .by-row2 .ok)
+            (y .certain2 .ensures (z .before .if4 .taken)),
+        (
+          root-told _ _ (s .good .1 .1 .0 .1) (k .before .before .by-row3 .ok) (z .certain3 .ensures (p .before .if5 .taken)),
+          root-told _ _ (s .good .1 .1 .1 .0 .1) (k .by-row4 .ok) (p .certain4 .ensures (c .if6 .taken)),
+        ),
+      ),
+    )
 
 pub roots-at-spec : {M : Type 1} → statement M
 roots-at-spec =
