@@ -13,4 +13,6 @@ beside-way-spec =
     (λ c. above-no-nan _ (c .if2 .taken))
     (λ c κs. tt)
     (λ c. tt)
+    (λ c. tt)
+    (λ c. tt)
     (λ c. tt))
