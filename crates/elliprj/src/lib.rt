@@ -18,6 +18,8 @@ use carlson::constants::TOO_DEEP;
 use carlson::constants::ZERO_GIVEN;
 use carlson::constants::ZEROS;
 use carlson::door::moderate4;
+use carlson::rescaling::rescales4;
+use carlson::rescaling::scale4;
 use elliprd::over_scale;
 use rj_negative::carried;
 use rj_positive::positive::positive;
@@ -56,11 +58,18 @@ fn call(x: f64, y: f64, z: f64, p: f64, left: u32) -> Answer
     }
 }
 
-// The inner part: any four f64s, any f64 back with its rounds, or no. 9 or 10.
+// The inner part: any four f64s, any f64 back with its rounds, or no. 9 or 10. Where `positive` answers at once, no plan is made,
+// which would hold a copy of that answer.
 pub fn elliprj_unchecked(x: f64, y: f64, z: f64, p: f64) -> Answer
     ensures { λ r. ⌜ r ≡ rjUnchecked x y z p ⌝ }
 {
-    call(x, y, z, p, ALLOWANCE)
+    if p <= 0.0 {
+        return call(x, y, z, p, ALLOWANCE);
+    }
+    if rescales4(x, y, z, p, scale4(x, y, z, p)) {
+        return call(x, y, z, p, ALLOWANCE);
+    }
+    positive(x, y, z, p)
 }
 
 fn settled(a: Answer) -> Answer
