@@ -2,6 +2,7 @@
 use carlson::answer::Answer;
 use carlson::answer::carried;
 use carlson::answer::closed;
+use carlson::answer::handed;
 use carlson::answer::rescaled;
 use carlson::answer::settle_late;
 use carlson::checks::any_nan3;
@@ -131,11 +132,12 @@ pub fn elliprg_unchecked(x: f64, y: f64, z: f64) -> Answer
     steps(x, y, z)
 }
 
+// What was found is put together anew, field by field: copied whole, the bytes between its fields are copied too, one by one.
 fn settled(a: Answer, nan: bool) -> Answer
     ensures { λ r. ⌜ r ≡ rgSettled a nan ⌝ }
 {
     match a {
-        Answer::Value(found) => settle_late(found, nan, false, RG_NO_RESULT),
+        Answer::Value(found) => settle_late(handed(found, found.value), nan, false, RG_NO_RESULT),
         Answer::Refused(n) => Answer::Refused(n),
     }
 }

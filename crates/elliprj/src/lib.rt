@@ -5,6 +5,7 @@ mod plan;
 use crate::plan::Plan;
 use crate::plan::planned;
 use carlson::answer::Answer;
+use carlson::answer::handed;
 use carlson::answer::infinite;
 use carlson::answer::settle;
 use carlson::checks::any_infinite4;
@@ -72,11 +73,12 @@ pub fn elliprj_unchecked(x: f64, y: f64, z: f64, p: f64) -> Answer
     positive(x, y, z, p)
 }
 
+// What was found is put together anew, field by field: copied whole, the bytes between its fields are copied too, one by one.
 fn settled(a: Answer) -> Answer
     ensures { λ r. ⌜ r ≡ rjSettled a ⌝ }
 {
     match a {
-        Answer::Value(found) => settle(found, NO_RESULT),
+        Answer::Value(found) => settle(handed(found, found.value), NO_RESULT),
         Answer::Refused(n) => Answer::Refused(n),
     }
 }
