@@ -48,6 +48,15 @@ impl Row {
         }
     }
 
+    /// The calls in throughput, once over.
+    pub fn once(&mut self, ours: bool) {
+        match (&mut self.ours, ours) {
+            (Some(timed), true) => bench_counted(&mut timed[0]),
+            (None, true) => {}
+            (_, false) => bench_counted(&mut self.reference[0]),
+        }
+    }
+
     pub fn print(&self) {
         print!("{:<32}", self.name);
         for (i, reference) in self.reference.iter().enumerate() {
@@ -58,6 +67,13 @@ impl Row {
         }
         println!();
     }
+}
+
+/// By its name callgrind knows what to count.
+#[inline(never)]
+#[no_mangle]
+fn bench_counted(timed: &mut Timed) {
+    timed.time();
 }
 
 fn both<const N: usize>(inputs: Vec<[f64; N]>, f: impl Fn([f64; N]) -> f64 + Copy + 'static) -> [Timed; 2] {

@@ -40,7 +40,7 @@ type Three = unsafe extern "C" fn(f64, f64, f64, *mut f64, *mut u32, *mut u32, *
 type Four = unsafe extern "C" fn(f64, f64, f64, f64, *mut f64, *mut u32, *mut u32, *mut u32) -> u32;
 
 /// The value of a call through the C interface; 0 for a refusal, which the stated inputs do not meet.
-fn value(call: impl FnOnce(*mut f64, *mut u32, *mut u32, *mut u32) -> u32) -> f64 {
+pub fn value(call: impl FnOnce(*mut f64, *mut u32, *mut u32, *mut u32) -> u32) -> f64 {
     let (mut value, mut count, mut road, mut rescalings) = (0.0, 0, 0, 0);
     call(&mut value, &mut count, &mut road, &mut rescalings);
     value

@@ -7,6 +7,7 @@ mod inputs;
 mod jobs;
 mod leaves;
 mod listing;
+mod peers;
 #[path = "../../oracle/src/random.rs"]
 #[allow(dead_code)]
 mod random;
@@ -26,7 +27,16 @@ fn main() {
     let chosen = |name: &str| wanted.is_empty() || wanted.iter().any(|word| name.starts_with(word.as_str()));
     let mut rows = leaves::rows();
     rows.extend(entries::rows());
+    rows.extend(peers::rows());
     rows.retain(|row| chosen(&row.name));
+    // For callgrind: one row's calls once over, ours or the reference's, by the variable's first word.
+    if let Ok(which) = std::env::var("BENCH_COUNT") {
+        match which.as_str() {
+            "names" => rows.iter().for_each(|row| println!("{}", row.name)),
+            which => wanted.iter().for_each(|name| rows.iter_mut().filter(|row| &row.name == name).for_each(|row| row.once(which == "ours"))),
+        }
+        return;
+    }
     let mut lists = jobs::rows();
     lists.retain(|row| chosen(&row.name));
     let mut listings = listing::rows();

@@ -6,3 +6,4 @@ pub mod Only
 pub mod Ways
 pub mod Loop
 pub mod Common
+pub mod Door

@@ -25,11 +25,14 @@ module _ {S A : Type 0} (step : S → S) (stop : S → Bool) (found spent : S �
   stopped zero s n = refl
   stopped (suc left) s n = refl
 
-  -- ---- the invariant of a loop in code: what is left of it gives what the whole loop gives. b₀ and b are what the tests of s₀
-  -- and s said.
-  pub record Left (cap : ℕ) (b₀ : Bool) (s₀ : S) (b : Bool) (s : S) (n : ℕ) : Type 0 where
+  -- ---- the invariant of a loop in code: what is left of it gives a. b is what the test of s said.
+  pub record Rest (cap : ℕ) (a : A) (b : Bool) (s : S) (n : ℕ) : Type 0 where
     pub few : n ≤ cap
-    pub gives : capped (cap - n) b s n ≡ capped cap b₀ s₀ 0
+    pub gives : capped (cap - n) b s n ≡ a
+
+  -- where a is what the whole loop gives: b₀ is what the test of s₀ said
+  abbrev pub Left : ℕ → Bool → S → Bool → S → ℕ → Type 0
+  Left cap b₀ s₀ b s n = Rest cap (capped cap b₀ s₀ 0) b s n
 
   -- ---- what holds of the first state and is kept by each pass holds of the state that the loop is left with: so a property of
   -- that state, after at most `cap` passes, is one of what the loop gives
@@ -70,15 +73,20 @@ module _ {S A B : Type 0} (step : S → S) (stop : S → Bool) (found spent : S 
   capped-both R cap f g (suc left) true s n h = f s n (omega arith)
   capped-both R cap f g (suc left) false s n h = capped-both R cap f g left (stop (step s)) (step s) (suc n) (omega arith)
 
-module _ {S A : Type 0} {step : S → S} {stop : S → Bool} {found spent : S → ℕ → A} {cap : ℕ} {b₀ : Bool} {s₀ : S} where
+module _ {S A : Type 0} {step : S → S} {stop : S → Bool} {found spent : S → ℕ → A} {cap : ℕ} where
   -- it begins
-  pub left-begins : Left step stop found spent cap b₀ s₀ b₀ s₀ 0
+  pub left-begins : {b₀ : Bool} {s₀ : S} → Left step stop found spent cap b₀ s₀ b₀ s₀ 0
   left-begins = record { few = omega arith; gives = let e : cap - 0 ≡ cap = omega arith in rw e }
 
-  module _ {b : Bool} {s : S} {n : ℕ} (l : Left step stop found spent cap b₀ s₀ b s n) where
+  -- it begins in the middle
+  pub rest-begins : {b : Bool} {s : S} {n : ℕ} → n ≤ cap
+      → Rest step stop found spent cap (capped step stop found spent (cap - n) b s n) b s n
+  rest-begins h = record { few = h; gives = refl }
+
+  module _ {a : A} {b : Bool} {s : S} {n : ℕ} (l : Rest step stop found spent cap a b s n) where
     -- another pass brings it to the state t, of which the test says d
     pub left-on : {d : Bool} {t : S} → b ≡ false → n < cap → t ≡ step s → d ≡ stop t
-        → Left step stop found spent cap b₀ s₀ d t (n + 1)
+        → Rest step stop found spent cap a d t (n + 1)
     left-on e h f g = record {
       few = omega arith;
       gives =
@@ -86,10 +94,10 @@ module _ {S A : Type 0} {step : S → S} {stop : S → Bool} {found spent : S �
     }
 
     -- the cap is spent
-    pub left-spent : b ≡ false → n ≡ cap → spent s n ≡ capped step stop found spent cap b₀ s₀ 0
+    pub left-spent : b ≡ false → n ≡ cap → spent s n ≡ a
     unfolding capped
     left-spent e h = let z : cap - n ≡ 0 = omega arith in rw (z, e) at (l .gives)
 
     -- the loop stops
-    pub left-found : b ≡ true → found s n ≡ capped step stop found spent cap b₀ s₀ 0
+    pub left-found : b ≡ true → found s n ≡ a
     left-found e = sym (stopped step stop found spent (cap - n) s n) ∙ (rw e at (l .gives))

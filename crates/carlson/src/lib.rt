@@ -3,4 +3,5 @@ pub mod answer;
 pub mod checks;
 pub mod common;
 pub mod constants;
+pub mod door;
 pub mod rescaling;

@@ -7,8 +7,14 @@ use carlson::common::Lambda;
 use carlson::common::lambda_with;
 use carlson::common::third_kind;
 use power::pow_neg_3_2;
+use root::certain;
 use root::sqrt;
+use root::together::numbers3;
+use root_guess::by_row;
+use root_guess::row;
 ghost use mathlib.Core.Path.{_≡_};
+ghost use Rattle.root.specs.Root.{root};
+ghost use Rattle.carlson.specs.Common.{lambdaWith};
 ghost use Rattle.elliprd.specs.Duplicate.{
   rdMean,
   rdStart,
@@ -82,10 +88,35 @@ fn moved(s: Round, l: Lambda) -> Round
     }
 }
 
+// The guesses first and then the tests, so that the processor makes the guesses side by side. This stands in each entry, since
+// LLVM compiles a function of this size into a loop only where it is called once.
+fn lambda_at(x: f64, y: f64, z: f64) -> Lambda
+    ensures { λ r. ⌜ r ≡ lambdaWith (root x) (root y) (root z) ⌝ }
+{
+    if numbers3(x, y, z) {
+        let a = f64::to_bits(x);
+        let b = f64::to_bits(y);
+        let c = f64::to_bits(z);
+        let rx = by_row(a, row(a));
+        let ry = by_row(b, row(b));
+        let rz = by_row(c, row(c));
+        if numbers3(rx, ry, rz) {
+            if certain(a, f64::to_bits(rx)) {
+                if certain(b, f64::to_bits(ry)) {
+                    if certain(c, f64::to_bits(rz)) {
+                        return lambda_with(rx, ry, rz);
+                    }
+                }
+            }
+        }
+    }
+    lambda_with(sqrt(x), sqrt(y), sqrt(z))
+}
+
 fn step(s: Round) -> Round
     ensures { λ r. ⌜ r ≡ rdStep s ⌝ }
 {
-    moved(s, lambda_with(sqrt(s.xn), sqrt(s.yn), sqrt(s.zn)))
+    moved(s, lambda_at(s.xn, s.yn, s.zn))
 }
 
 fn close(s: Round) -> bool

@@ -17,6 +17,7 @@ use carlson::constants::NO_RESULT;
 use carlson::constants::PI;
 use carlson::constants::Z_NOT_ABOVE;
 use carlson::constants::ZEROS;
+use carlson::door::moderate3;
 use carlson::rescaling::rescales3;
 use carlson::rescaling::scale3;
 use root::sqrt;
@@ -108,6 +109,9 @@ fn settled(a: Answer, nan: bool, unbounded: bool) -> Answer
 pub fn elliprd(x: f64, y: f64, z: f64) -> Answer
     ensures { λ r. ⌜ r ≡ rd x y z ⌝ }
 {
+    if moderate3(x, y, z) {
+        return settled(steps(x, y, z), false, false);
+    }
     if min(x, y) < 0.0 {
         return Answer::Refused(BELOW_ZERO);
     }

@@ -5,10 +5,23 @@ use carlson::answer::Found;
 use carlson::answer::duplication;
 use carlson::answer::not_a_number;
 use carlson::common::Lambda;
+use carlson::common::Trial;
 use carlson::common::lambda_with;
+use root::certain;
 use root::sqrt;
+use root::together::numbers3;
+use root_guess::by_row;
+use root_guess::row;
+ghost use Prim.Native.Nat.{_-_, _≤_};
 ghost use mathlib.Core.Path.{_≡_};
+ghost use mathlib.Core.Bool.{true, false};
+ghost use Rattle.root.specs.Root.{root};
+ghost use Rattle.carlson.specs.Common.{lambdaWith};
+ghost use Rattle.carlson.specs.Loop.{capped};
 ghost use Rattle.elliprf.specs.Duplicate.{
+  rfCap,
+  rfFound,
+  rfSpent,
   meanOf,
   rfStart,
   rfBegin,
@@ -77,6 +90,37 @@ fn moved(s: Round, l: Lambda) -> Round
     }
 }
 
+// The guesses first and then the tests, so that the processor makes the guesses side by side. This stands in each entry, since
+// LLVM compiles a function of this size into a loop only where it is called once.
+fn tried(x: f64, y: f64, z: f64) -> Trial
+    ensures { λ r. ⌜ (r .told ≡ true → r .by ≡ lambdaWith (root x) (root y) (root z)) ⌝ }
+{
+    if numbers3(x, y, z) {
+        let a = f64::to_bits(x);
+        let b = f64::to_bits(y);
+        let c = f64::to_bits(z);
+        let rx = by_row(a, row(a));
+        let ry = by_row(b, row(b));
+        let rz = by_row(c, row(c));
+        if numbers3(rx, ry, rz) {
+            if certain(a, f64::to_bits(rx)) {
+                if certain(b, f64::to_bits(ry)) {
+                    if certain(c, f64::to_bits(rz)) {
+                        return Trial {
+                            told: true,
+                            by: lambda_with(rx, ry, rz),
+                        };
+                    }
+                }
+            }
+        }
+    }
+    Trial {
+        told: false,
+        by: lambda_with(x, y, z),
+    }
+}
+
 fn step(s: Round) -> Round
     ensures { λ r. ⌜ r ≡ rfStep s ⌝ }
 {
@@ -113,12 +157,13 @@ pub fn series(x: f64, y: f64, a0: f64, an: f64, fnval: f64) -> f64
     factor(correction(a0, x, an, fnval), correction(a0, y, an, fnval)) / sqrt(an)
 }
 
-pub fn duplicated(x: f64, y: f64, z: f64) -> Found
-    ensures { λ r. ⌜ r ≡ rfDuplication x y z ⌝ }
+// From a state on, after so many passes.
+fn onward(x: f64, y: f64, a0: f64, s: Round, from: u32) -> Found
+    requires { ⌜ from ≤ rfCap ⌝ }
+    ensures { λ r. ⌜ r ≡ capped rfStep rfClose (rfFound x y a0) rfSpent (rfCap - from) false s from ⌝ }
 {
-    let mut at = begin(x, y, z);
-    let a0 = at.an;
-    let mut n: u32 = 0;
+    let mut at = s;
+    let mut n = from;
     loop {
         if n == CAP {
             break duplication(not_a_number(), n);
@@ -127,6 +172,30 @@ pub fn duplicated(x: f64, y: f64, z: f64) -> Found
         n += 1;
         if close(at) {
             break duplication(series(x, y, a0, at.an, at.fnval), n);
+        }
+    }
+}
+
+// While the roots are told at once; the rest of the passes is made out of line, root by root.
+pub fn duplicated(x: f64, y: f64, z: f64) -> Found
+    ensures { λ r. ⌜ r ≡ rfDuplication x y z ⌝ }
+{
+    let mut at = begin(x, y, z);
+    let a0 = at.an;
+    let mut n: u32 = 0;
+    loop {
+        if n == CAP {
+            break onward(x, y, a0, at, n);
+        }
+        let t = tried(at.xn, at.yn, at.zn);
+        if t.told {
+            at = moved(at, t.by);
+            n += 1;
+            if close(at) {
+                break duplication(series(x, y, a0, at.an, at.fnval), n);
+            }
+        } else {
+            break onward(x, y, a0, at, n);
         }
     }
 }

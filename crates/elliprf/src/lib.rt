@@ -18,6 +18,7 @@ use carlson::constants::NAN_GIVEN;
 use carlson::constants::NO_RESULT;
 use carlson::constants::PI;
 use carlson::constants::ZEROS;
+use carlson::door::moderate3;
 use carlson::rescaling::rescales3;
 use carlson::rescaling::scale3;
 use elliprc::elliprc_unchecked;
@@ -104,6 +105,9 @@ pub fn elliprf_unchecked(x: f64, y: f64, z: f64) -> Found
 pub fn elliprf(x: f64, y: f64, z: f64) -> Answer
     ensures { λ r. ⌜ r ≡ rf x y z ⌝ }
 {
+    if moderate3(x, y, z) {
+        return settle(steps(x, y, z), NO_RESULT);
+    }
     if any_nan3(x, y, z) {
         return Answer::Refused(NAN_GIVEN);
     }

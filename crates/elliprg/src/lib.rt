@@ -2,6 +2,7 @@
 use carlson::answer::Answer;
 use carlson::answer::carried;
 use carlson::answer::closed;
+use carlson::answer::handed;
 use carlson::answer::rescaled;
 use carlson::answer::settle_late;
 use carlson::checks::any_nan3;
@@ -9,6 +10,7 @@ use carlson::checks::below3;
 use carlson::constants::BELOW_ZERO;
 use carlson::constants::PI;
 use carlson::constants::RG_NO_RESULT;
+use carlson::door::moderate3;
 use carlson::rescaling::rescales3;
 use carlson::rescaling::scale3;
 use elliprc::elliprc_unchecked;
@@ -130,11 +132,12 @@ pub fn elliprg_unchecked(x: f64, y: f64, z: f64) -> Answer
     steps(x, y, z)
 }
 
+// What was found is put together anew, field by field: copied whole, the bytes between its fields are copied too, one by one.
 fn settled(a: Answer, nan: bool) -> Answer
     ensures { λ r. ⌜ r ≡ rgSettled a nan ⌝ }
 {
     match a {
-        Answer::Value(found) => settle_late(found, nan, false, RG_NO_RESULT),
+        Answer::Value(found) => settle_late(handed(found, found.value), nan, false, RG_NO_RESULT),
         Answer::Refused(n) => Answer::Refused(n),
     }
 }
@@ -142,6 +145,9 @@ fn settled(a: Answer, nan: bool) -> Answer
 pub fn elliprg(x: f64, y: f64, z: f64) -> Answer
     ensures { λ r. ⌜ r ≡ rg x y z ⌝ }
 {
+    if moderate3(x, y, z) {
+        return settled(steps(x, y, z), false);
+    }
     if below3(x, y, z) {
         return Answer::Refused(BELOW_ZERO);
     }

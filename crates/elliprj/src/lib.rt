@@ -5,6 +5,7 @@ mod plan;
 use crate::plan::Plan;
 use crate::plan::planned;
 use carlson::answer::Answer;
+use carlson::answer::handed;
 use carlson::answer::infinite;
 use carlson::answer::settle;
 use carlson::checks::any_infinite4;
@@ -17,8 +18,12 @@ use carlson::constants::NO_RESULT;
 use carlson::constants::TOO_DEEP;
 use carlson::constants::ZERO_GIVEN;
 use carlson::constants::ZEROS;
+use carlson::door::moderate4;
+use carlson::rescaling::rescales4;
+use carlson::rescaling::scale4;
 use elliprd::over_scale;
 use rj_negative::carried;
+use rj_positive::positive::positive;
 ghost use Prim.Native.Nat.{_≤_};
 ghost use mathlib.Core.Path.{_≡_};
 ghost use Rattle.elliprj.specs.Rj.{
@@ -54,18 +59,26 @@ fn call(x: f64, y: f64, z: f64, p: f64, left: u32) -> Answer
     }
 }
 
-// The inner part: any four f64s, any f64 back with its rounds, or no. 9 or 10.
+// The inner part: any four f64s, any f64 back with its rounds, or no. 9 or 10. Where `positive` answers at once, no plan is made,
+// which would hold a copy of that answer.
 pub fn elliprj_unchecked(x: f64, y: f64, z: f64, p: f64) -> Answer
     ensures { λ r. ⌜ r ≡ rjUnchecked x y z p ⌝ }
 {
-    call(x, y, z, p, ALLOWANCE)
+    if p <= 0.0 {
+        return call(x, y, z, p, ALLOWANCE);
+    }
+    if rescales4(x, y, z, p, scale4(x, y, z, p)) {
+        return call(x, y, z, p, ALLOWANCE);
+    }
+    positive(x, y, z, p)
 }
 
+// What was found is put together anew, field by field: copied whole, the bytes between its fields are copied too, one by one.
 fn settled(a: Answer) -> Answer
     ensures { λ r. ⌜ r ≡ rjSettled a ⌝ }
 {
     match a {
-        Answer::Value(found) => settle(found, NO_RESULT),
+        Answer::Value(found) => settle(handed(found, found.value), NO_RESULT),
         Answer::Refused(n) => Answer::Refused(n),
     }
 }
@@ -106,6 +119,9 @@ fn signed(wrong: bool, x: f64, y: f64, z: f64, p: f64) -> Answer
 pub fn elliprj_positive(x: f64, y: f64, z: f64, p: f64) -> Answer
     ensures { λ r. ⌜ r ≡ rjOfPositive x y z p ⌝ }
 {
+    if moderate4(x, y, z, p) {
+        return settled(positive(x, y, z, p));
+    }
     signed(p < 0.0, x, y, z, p)
 }
 

@@ -6,6 +6,9 @@ mod chance;
 use crate::chance::Range;
 use crate::chance::draw;
 use libc::STDOUT_FILENO;
+use root::certain;
+use root_guess::by_row;
+use root_guess::row;
 
 const NUMBERS: u64 = 20_000;
 
@@ -53,13 +56,29 @@ fn power_way(x: f64) -> usize {
     }
 }
 
+// Of the guess that is made beside others, which a loop tests itself: 1 where it was told to be the root, else 0.
+fn beside_way(x: f64) -> usize {
+    if x > 0.0 {
+        let b = f64::to_bits(x);
+        let s = by_row(b, row(b));
+        if s > 0.0 {
+            if certain(b, f64::to_bits(s)) {
+                return 1;
+            }
+        }
+    }
+    0
+}
+
 struct Tallies {
     root: Tally,
+    beside: Tally,
     power: Tally,
 }
 
 fn counted(range: Range) -> Tallies {
     let mut root = Tally { ways: [0; 5] };
+    let mut beside = Tally { ways: [0; 5] };
     let mut power = Tally { ways: [0; 5] };
     let mut seed: u64 = 1;
     let mut left: u64 = NUMBERS;
@@ -67,10 +86,15 @@ fn counted(range: Range) -> Tallies {
         let d = draw(range, seed);
         seed = d.seed;
         root = count(root, root_way(d.x));
+        beside = count(beside, beside_way(d.x));
         power = count(power, power_way(d.x));
         left -= 1;
     }
-    Tallies { root, power }
+    Tallies {
+        root,
+        beside,
+        power,
+    }
 }
 
 fn put(number: u64, what: &[u8]) {
@@ -86,6 +110,11 @@ fn report_root(t: Tally) {
     put(t.ways[0], b" by rule\n");
 }
 
+fn report_beside(t: Tally) {
+    put(t.ways[1], b" told at once, ");
+    put(t.ways[0], b" not\n");
+}
+
 fn report_power(t: Tally) {
     put(t.ways[1], b" by the bound, ");
     put(t.ways[2], b" by the exact product, ");
@@ -99,6 +128,10 @@ fn report(name: &[u8], t: Tallies) {
     io::write_all(STDOUT_FILENO, b", root: ");
     let root = t.root;
     report_root(root);
+    io::write_all(STDOUT_FILENO, name);
+    io::write_all(STDOUT_FILENO, b", root beside others: ");
+    let beside = t.beside;
+    report_beside(beside);
     io::write_all(STDOUT_FILENO, name);
     io::write_all(STDOUT_FILENO, b", power: ");
     let power = t.power;

@@ -10,8 +10,13 @@ use carlson::common::lambda_with;
 use carlson::common::third_kind;
 use elliprc::elliprc_unchecked;
 use power::pow_neg_3_2;
+use root::certain;
 use root::sqrt;
+use root::together::numbers4;
+use root_guess::by_row;
+use root_guess::row;
 ghost use mathlib.Core.Path.{_≡_};
+ghost use Rattle.root.specs.Root.{root};
 ghost use Rattle.rj_positive.specs.Duplicate.{
   rjMean,
   rjStart,
@@ -166,16 +171,48 @@ fn with_roots(s: Round, r: Roots) -> Round
     moved(s, lambda_with(r.x, r.y, r.z), added, rescalings_with(s, rc))
 }
 
+// The guesses first and then the tests, so that the processor makes the guesses side by side.
+fn roots_at(x: f64, y: f64, z: f64, p: f64) -> Roots
+    ensures { λ r. ⌜ (r .x ≡ root x) × ((r .y ≡ root y) × ((r .z ≡ root z) × (r .p ≡ root p))) ⌝ }
+{
+    if numbers4(x, y, z, p) {
+        let a = f64::to_bits(x);
+        let b = f64::to_bits(y);
+        let c = f64::to_bits(z);
+        let d = f64::to_bits(p);
+        let rx = by_row(a, row(a));
+        let ry = by_row(b, row(b));
+        let rz = by_row(c, row(c));
+        let rp = by_row(d, row(d));
+        if numbers4(rx, ry, rz, rp) {
+            if certain(a, f64::to_bits(rx)) {
+                if certain(b, f64::to_bits(ry)) {
+                    if certain(c, f64::to_bits(rz)) {
+                        if certain(d, f64::to_bits(rp)) {
+                            return Roots {
+                                x: rx,
+                                y: ry,
+                                z: rz,
+                                p: rp,
+                            };
+                        }
+                    }
+                }
+            }
+        }
+    }
+    Roots {
+        x: sqrt(x),
+        y: sqrt(y),
+        z: sqrt(z),
+        p: sqrt(p),
+    }
+}
+
 fn step(s: Round) -> Round
     ensures { λ r. ⌜ r ≡ rjStep s ⌝ }
 {
-    let r = Roots {
-        x: sqrt(s.xn),
-        y: sqrt(s.yn),
-        z: sqrt(s.zn),
-        p: sqrt(s.pn),
-    };
-    with_roots(s, r)
+    with_roots(s, roots_at(s.xn, s.yn, s.zn, s.pn))
 }
 
 fn close(s: Round, q: f64) -> bool

@@ -1,4 +1,7 @@
 // RJ for p above zero: the special cases (DLMF 19.20(iii)), else duplication.
+//
+// What another function answers is bound before it is returned. Else it is written where the formulas' answers stand too, and the
+// compiler puts these together in memory piece by piece and reads them back whole, for which the processor waits.
 use crate::duplicate::duplicated;
 use binary64::max;
 use binary64::min;
@@ -49,9 +52,11 @@ fn last(x: f64, y: f64, z: f64, p: f64) -> Answer
     ensures { λ r. ⌜ r ≡ rjLast x y z p ⌝ }
 {
     if z == p {
-        return elliprd_unchecked(x, y, z);
+        let a = elliprd_unchecked(x, y, z);
+        return a;
     }
-    Answer::Value(duplicated(x, y, z, p))
+    let found = duplicated(x, y, z, p);
+    Answer::Value(found)
 }
 
 // y = z. A large x makes the RC values nearly equal even when p and y differ, so both sources of cancellation are excluded.
@@ -59,15 +64,18 @@ fn pair(x: f64, y: f64, z: f64, p: f64) -> Answer
     ensures { λ r. ⌜ r ≡ rjPair x y z p ⌝ }
 {
     if y == p {
-        return elliprd_unchecked(x, y, y);
+        let a = elliprd_unchecked(x, y, y);
+        return a;
     }
     if well_apart(p, y) {
         if x <= max(y, p) {
             return two_equal(x, y, p);
         }
-        return last(x, y, z, p);
+        let a = last(x, y, z, p);
+        return a;
     }
-    last(x, y, z, p)
+    let a = last(x, y, z, p);
+    a
 }
 
 fn cases(x: f64, y: f64, z: f64, p: f64) -> Answer
@@ -76,7 +84,8 @@ fn cases(x: f64, y: f64, z: f64, p: f64) -> Answer
     if y == z {
         return pair(x, y, z, p);
     }
-    last(x, y, z, p)
+    let a = last(x, y, z, p);
+    a
 }
 
 pub fn positive(x: f64, y: f64, z: f64, p: f64) -> Answer
@@ -90,9 +99,12 @@ pub fn positive(x: f64, y: f64, z: f64, p: f64) -> Answer
             if well_apart(p, x) {
                 return three_equal(x, p);
             }
-            return cases(x, y, z, p);
+            let a = cases(x, y, z, p);
+            return a;
         }
-        return cases(z, y, x, p);
+        let a = cases(z, y, x, p);
+        return a;
     }
-    cases(x, y, z, p)
+    let a = cases(x, y, z, p);
+    a
 }

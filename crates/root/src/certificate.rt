@@ -11,6 +11,8 @@ ghost use Rattle.root.specs.Parts.{Held};
 
 const ONE: u64 = 0x10_0000_0000_0000; // 2 ^ 52
 
+const NORMAL: u64 = 2046; // how many exponents' fields, from 1 on, are those of normal numbers
+
 const UNIT: u64 = 0x20_0000_0000_0000; // 2 ^ 53
 
 const TOP: u64 = 0x8000_0000_0000_0000; // 2 ^ 63: the leading digit at the left end of a word
@@ -46,6 +48,17 @@ pub fn certified(b: u64, s: f64) -> bool
 {
     if s > 0.0 {
         return matches(b, f64::to_bits(s));
+    }
+    false
+}
+
+// Whether the number with the pattern s is the root of the normal number with the pattern b: for callers that guess several roots
+// and then test them, one after the other. It may refuse a root.
+pub fn certain(b: u64, s: u64) -> bool
+    ensures { λ r. ⌜ (r ≡ true → ofBits binary64 s ≡ root (ofBits binary64 b)) ⌝ }
+{
+    if std::num::wrapping_sub_u64(b / ONE, 1) < NORMAL {
+        return matches(b, s);
     }
     false
 }

@@ -7,8 +7,10 @@
 mod certificate;
 mod exact;
 pub mod parts;
+pub mod together;
 mod way;
 
+pub use crate::certificate::certain;
 use crate::certificate::certified;
 use crate::exact::search;
 use crate::parts::scaled;

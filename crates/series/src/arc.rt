@@ -30,33 +30,36 @@ const PARTS: u64 = 0x4000_0000_0000_0000; // 2 ^ 62: one in parts of 2 ^ -62
 
 const HALF_PI_PARTS: u64 = 0x6487_ed51_10b4_611a; // and π/2, rounded down
 
-// atan of tau parts of 2 ^ -(62 + j), in these parts.
-fn arc(j: u64, tau: u64) -> u64
+// atan of tau parts of 2 ^ -(62 + j), in these parts. For the quotient, unit is near 1 / (1 + t²), where t is that number.
+fn arc(j: u64, tau: u64, unit: f64) -> u64
     requires { ⌜ (j ≤ 31) × (tau ≤ 2 ^ 62) ⌝ }
     ensures { λ r. ⌜ r ≡ atan-answer j tau ⌝ }
 {
     let u = high(2 * tau, tau) >> (2 * j);
-    let f = quotient(u, PARTS / 2 + u);
+    let f = quotient(u, PARTS / 2 + u, unit);
     let front = high(2 * tau, 2 * (PARTS - f));
     high(2 * front, euler(4 * f))
 }
 
-// From 2 ^ -27 to 1, by the pattern a of the size; negative where s is 1.
-fn below_one(s: u64, a: u64) -> f64
+// From 2 ^ -27 to 1, by the pattern a of the size of x; negative where s is 1.
+fn below_one(s: u64, a: u64, x: f64) -> f64
     requires { ⌜ (s ≤ 1) × (tiny ≤ a) × (a < one) ⌝ }
     ensures { λ r. ⌜ r ≡ below-one (eqb s 1) a ⌝ }
 {
     let j = 1022 - a / FIELD;
-    scaled(arc(j, (a % FIELD + FIELD) * 512), 62 + j, s)
+    let unit = 1.0 / (1.0 + x * x);
+    scaled(arc(j, (a % FIELD + FIELD) * 512, unit), 62 + j, s)
 }
 
-// From 1 to 2 ^ 63, likewise: π/2 less atan of the inverse.
-fn above_one(s: u64, a: u64) -> f64
+// From 1 to 2 ^ 63, likewise: π/2 less atan of the inverse. Neither f64 division waits for the other, nor for the first quotient.
+fn above_one(s: u64, a: u64, x: f64) -> f64
     requires { ⌜ (s ≤ 1) × (one < a) × (a < far) ⌝ }
     ensures { λ r. ⌜ r ≡ above-one (eqb s 1) a ⌝ }
 {
-    let tau = quotient(PARTS / 2, (a % FIELD + FIELD) * 512) >> (a / FIELD - 1023);
-    scaled(HALF_PI_PARTS - arc(0, tau), 62, s)
+    let inverse = 1.0 / f64::from_bits(a % FIELD + ONE);
+    let tau = quotient(PARTS / 2, (a % FIELD + FIELD) * 512, inverse) >> (a / FIELD - 1023);
+    let unit = 1.0 - 1.0 / (1.0 + x * x);
+    scaled(HALF_PI_PARTS - arc(0, tau, unit), 62, s)
 }
 
 pub fn atan(x: f64) -> f64
@@ -69,13 +72,13 @@ pub fn atan(x: f64) -> f64
         return x;
     }
     if a < ONE {
-        return below_one(s, a);
+        return below_one(s, a, x);
     }
     if a == ONE {
         return f64::from_bits(QUARTER_PI + s * TOP);
     }
     if a < FAR {
-        return above_one(s, a);
+        return above_one(s, a, x);
     }
     if a <= INFINITY {
         return f64::from_bits(HALF_PI + s * TOP);

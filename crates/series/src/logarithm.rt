@@ -15,7 +15,7 @@ const FIELD: u64 = 0x10_0000_0000_0000; // the weight of the exponent's field, 2
 
 const FULL: u64 = 0x20_0000_0000_0000; // and 2 ^ 53
 
-const HALF: u64 = 0x3fe0_0000_0000_0000; // the patterns of 1/2,
+const HALF: u64 = 0x3fe0_0000_0000_0000; // the patterns of 1/2 (with 53 digits added to it, of a number from 1 to 2),
 
 const ONE: u64 = 0x3ff0_0000_0000_0000; // of 1,
 
@@ -30,7 +30,8 @@ fn from_two(e: u64, m: u64) -> f64
     requires { ⌜ Exponent e m ⌝ }
     ensures { λ r. ⌜ r ≡ ln-from-two e m ⌝ }
 {
-    multiple(e, (m - FIELD) * 512, (m + FIELD) * 256, 0)
+    let n = f64::from_bits(m + HALF);
+    multiple(e, (m - FIELD) * 512, (m + FIELD) * 256, 0, 2.0 / (n + 1.0))
 }
 
 // ln of m * 2 ^ -(e + 53).
@@ -38,16 +39,17 @@ fn below_half(e: u64, m: u64) -> f64
     requires { ⌜ Exponent e m ⌝ }
     ensures { λ r. ⌜ r ≡ ln-below-half e m ⌝ }
 {
-    multiple(e, (FULL - m) * 512, (FULL + m) * 256, 1)
+    let n = f64::from_bits(m + HALF);
+    multiple(e, (FULL - m) * 512, (FULL + m) * 256, 1, 2.0 / (2.0 + n))
 }
 
-// ln at n parts of 2 ^ -53 from 1; below it where s is 1.
-fn close(s: u64, n: u64) -> f64
+// ln at n parts of 2 ^ -53 from 1; below it where s is 1. a is the same distance with its sign.
+fn close(s: u64, n: u64, a: f64) -> f64
     requires { ⌜ (s ≤ 1) × Distance s n ⌝ }
     ensures { λ r. ⌜ r ≡ ln-close (eqb s 1) n ⌝ }
 {
     let j = u64::leading_zeros(n) as u64 - 11;
-    near_one(s, j, n << j)
+    near_one(s, j, n << j, a)
 }
 
 // ln by the pattern b of a number from 0 to 1/2. A subnormal number's digits are shifted up.
@@ -65,8 +67,8 @@ fn small(b: u64) -> f64
     below_half(1022 - b / FIELD, b % FIELD + FIELD)
 }
 
-// The same up to 2.
-fn below_two(b: u64) -> f64
+// The same up to 2; b is the pattern of x.
+fn below_two(b: u64, x: f64) -> f64
     requires { ⌜ b < two ⌝ }
     ensures { λ r. ⌜ r ≡ ln-below-two b ⌝ }
 {
@@ -74,12 +76,12 @@ fn below_two(b: u64) -> f64
         return small(b);
     }
     if b < ONE {
-        return close(1, ONE - b);
+        return close(1, ONE - b, x - 1.0);
     }
     if b == ONE {
         return 0.0;
     }
-    close(0, 2 * (b - ONE))
+    close(0, 2 * (b - ONE), x - 1.0)
 }
 
 pub fn ln(x: f64) -> f64
@@ -87,7 +89,7 @@ pub fn ln(x: f64) -> f64
 {
     let b = split(x);
     if b < TWO {
-        return below_two(b);
+        return below_two(b, x);
     }
     if b < INFINITY {
         return from_two(b / FIELD - 1023, b % FIELD + FIELD);

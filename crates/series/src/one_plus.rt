@@ -21,7 +21,7 @@ pub fn ln_1p(x: f64) -> f64
         return x;
     }
     if a <= LAST {
-        return near_one(b / TOP, 1022 - a / FIELD, a % FIELD + FIELD);
+        return near_one(b / TOP, 1022 - a / FIELD, a % FIELD + FIELD, x);
     }
     0.0 / 0.0
 }

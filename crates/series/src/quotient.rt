@@ -1,5 +1,10 @@
-// A quotient of words as a fraction of 62 binary digits, p * 2 ^ 62 / d, by two digits of 31 bits each.
+// A quotient of words as a fraction of 62 binary digits, p * 2 ^ 62 / d: a guess from an f64 that the caller has at hand,
+// certified by both words of its product with d; where that fails, by two digits of 31 bits each.
+use words::high;
+use words::product;
+use words::product_plus;
 ghost use mathlib.Core.Path.{_≡_};
+ghost use mathlib.Core.Bool.{true};
 ghost use Prim.Native.Nat.{_*_, _/_, _^_, _≤_, _<_};
 ghost use Rattle.series.specs.Quotient.{Divided, Nearer};
 
@@ -35,11 +40,54 @@ fn digit(p: u64, d: u64) -> WithRest
     settle(d, once.q, once.r)
 }
 
-pub fn quotient(p: u64, d: u64) -> u64
+// The quotient without a guess.
+fn exactly(p: u64, d: u64) -> u64
     requires { ⌜ (p ≤ d) × (2 ^ 61 ≤ d) × (d < 2 ^ 63) ⌝ }
     ensures { λ q. ⌜ q ≡ p * 2 ^ 62 / d ⌝ }
 {
     let first = digit(p, d);
     let second = digit(first.r, d);
     first.q * BASE + second.q
+}
+
+// Whether q is the quotient: what the lower word of q * d lacks of p * 2 ^ 62 is a rest, and together they make both words.
+fn certified(p: u64, d: u64, q: u64) -> bool
+    ensures { λ b. ⌜ (b ≡ true → q ≡ p * 2 ^ 62 / d) ⌝ }
+{
+    let lo = p << 62;
+    let rest = std::num::wrapping_sub_u64(lo, product(q, d).lo);
+    let both = product_plus(q, d, rest, 0);
+    if rest < d {
+        if both.hi == p / 4 {
+            return both.lo == lo;
+        }
+    }
+    false
+}
+
+// A guess at the quotient. unit is near 2 ^ 61 / d, so that the digits of 2 + unit, 12 places further to the left, are those of
+// 2 ^ 124 / d. They give 44 digits of the quotient, less 1 so that they are not too high, and with the rest that these leave,
+// which fits a word, the other 18. Nothing is proved of it. In tests it was the quotient but for an atan below 2 ^ -23 or above
+// 10 ^ 6, where p is so small that the quotient lies just below a whole number.
+fn guess(p: u64, d: u64, unit: f64) -> u64 {
+    let more = 2.0 + unit;
+    if more > 0.0 {
+        let inverse = f64::to_bits(more) << 12;
+        let upper = std::num::wrapping_sub_u64(high(p, inverse) >> 16, 1);
+        let rest = std::num::wrapping_sub_u64(p << 44, product(upper, d).lo);
+        return std::num::wrapping_add_u64(upper << 18, high(rest, inverse) >> 42);
+    }
+    0
+}
+
+// unit should be near 2 ^ 61 / d: the quotient is the same whatever it is, but comes later.
+pub fn quotient(p: u64, d: u64, unit: f64) -> u64
+    requires { ⌜ (p ≤ d) × (2 ^ 61 ≤ d) × (d < 2 ^ 63) ⌝ }
+    ensures { λ q. ⌜ q ≡ p * 2 ^ 62 / d ⌝ }
+{
+    let q = guess(p, d, unit);
+    if certified(p, d, q) {
+        return q;
+    }
+    exactly(p, d)
 }

@@ -27,13 +27,14 @@ fn t_sum(j: u64, sg: u64) -> u64
     high(2 * sg, odd(square))
 }
 
-// e ln 2 + 2 T(s), where s is p / 2d, negative where g is 1. Where e has b digits, e << z is e * 2 ^ (64 - b).
-pub fn multiple(e: u64, p: u64, d: u64, g: u64) -> f64
+// e ln 2 + 2 T(s), where s is p / 2d, negative where g is 1; unit is for the quotient. Where e has b digits, e << z is
+// e * 2 ^ (64 - b).
+pub fn multiple(e: u64, p: u64, d: u64, g: u64, unit: f64) -> f64
     requires { ⌜ (g ≤ 1) × Multiple e p d ⌝ }
     ensures { λ r. ⌜ r ≡ round binary64 (eqb g 1) (multiple (size e) e (T-answer 1 (p * 2 ^ 62 / d))) (2 ^ (63 - size e)) ⌝ }
 {
     let z = u64::leading_zeros(e) as u64;
-    let t = t_sum(1, quotient(p, d));
+    let t = t_sum(1, quotient(p, d, unit));
     scaled(high(e << z, LN_TWO) + (t >> (63 - z)), z - 1, g)
 }
 
@@ -48,11 +49,11 @@ fn divisor(s: u64, c: u64) -> u64
     FOUR + 2 * c
 }
 
-// ln_1p of m * 2 ^ -(53 + j), negative where s is 1.
-pub fn near_one(s: u64, j: u64, m: u64) -> f64
+// ln_1p of m * 2 ^ -(53 + j), negative where s is 1. a is the same number, for the quotient.
+pub fn near_one(s: u64, j: u64, m: u64, a: f64) -> f64
     requires { ⌜ (s ≤ 1) × Close s j m ⌝ }
     ensures { λ r. ⌜ r ≡ round binary64 (eqb s 1) (T-answer j (seed (eqb s 1) j m)) (2 ^ (61 + j)) ⌝ }
 {
-    let sg = quotient(m * 256, divisor(s, (m * 128) >> j));
+    let sg = quotient(m * 256, divisor(s, (m * 128) >> j), 1.0 / (2.0 + a));
     scaled(t_sum(j, sg), 61 + j, s)
 }

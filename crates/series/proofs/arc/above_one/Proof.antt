@@ -1,10 +1,11 @@
 -- `series::arc::above_one` meets its contract, by `Inverse`. Assumes nothing.
-use Prim.Native.Nat.{ℕ, _-_, _*_, _/_, _^_, _≤_, _<_}
+use Prim.Native.Nat.{ℕ, _+_, _-_, _*_, _/_, _%_, _^_, _≤_, _<_}
 use mathlib.Core.Path.{_≡_, sym, ap, _∙_, subst}
 use native.Mathlib.Omega.{arith}
 use borrow.Author.Needs.{needs}
 use lib.Dec.{eqb}
 use lib.Ieee.{binary64, round}
+use Rattle.binary64.specs.Tests.{bits-number}
 use Rattle.enclosure.specs.Rules.{atan-answer, half-pi, steep-answer}
 use Rattle.series.specs.Pattern.{field, digits}
 use Rattle.series.specs.Atan.{one}
@@ -55,6 +56,8 @@ pub above-one-spec : {M : Type 1} → statement M
 above-one-spec =
     tie.close
     (tie.spec
+    (λ c. search needs)
+    (λ c. bits-number (c .args .a % 2 ^ 52 + one) (omega arith))
     (λ c. search needs)
     (λ c. search needs)
     (λ c κs. search needs)

@@ -1,10 +1,11 @@
 -- `series::logarithm::below_half` meets its contract, by `Seeds`. Assumes nothing.
-use Prim.Native.Nat.{ℕ, _-_, _^_}
+use Prim.Native.Nat.{ℕ, _+_, _-_, _*_, _^_}
 use mathlib.Core.Path.{ap, _∙_}
 use mathlib.Core.Bool.{true}
 use native.Mathlib.Omega.{arith}
 use borrow.Author.Needs.{needs}
 use lib.Ieee.{binary64, size, round}
+use Rattle.binary64.specs.Tests.{bits-number}
 use Rattle.enclosure.specs.Rules.{T-answer, multiple, ln-below-answer}
 use Rattle.series.proofs.Seeds.{inverse-seed-is, below-asked}
 use Rattle.series.proofs.logarithm.below_half.Statement.{statement}
@@ -25,6 +26,8 @@ pub below-half-spec : {M : Type 1} → statement M
 below-half-spec =
     tie.close
     (tie.spec
+    (λ c. search needs)
+    (λ c. bits-number (c .args .m + 1022 * 2 ^ 52) (omega arith))
     (λ c. search needs)
     (λ c. search needs)
     (λ c. search needs)

@@ -1,10 +1,11 @@
 -- `series::logarithm::from_two` meets its contract, by `Seeds`. Assumes nothing.
-use Prim.Native.Nat.{ℕ, _-_, _^_}
+use Prim.Native.Nat.{ℕ, _+_, _-_, _*_, _^_}
 use mathlib.Core.Path.{ap, _∙_}
 use mathlib.Core.Bool.{false}
 use native.Mathlib.Omega.{arith}
 use borrow.Author.Needs.{needs}
 use lib.Ieee.{binary64, size, round}
+use Rattle.binary64.specs.Tests.{bits-number}
 use Rattle.enclosure.specs.Rules.{T-answer, multiple, ln-answer}
 use Rattle.series.proofs.Seeds.{ln-seed-is, ln-asked}
 use Rattle.series.proofs.logarithm.from_two.Statement.{statement}
@@ -25,6 +26,8 @@ pub from-two-spec : {M : Type 1} → statement M
 from-two-spec =
     tie.close
     (tie.spec
+    (λ c. search needs)
+    (λ c. bits-number (c .args .m + 1022 * 2 ^ 52) (omega arith))
     (λ c. search needs)
     (λ c. search needs)
     (λ c. search needs)
