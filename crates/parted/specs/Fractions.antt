@@ -20,13 +20,13 @@ pub data Lies (n d q k : ℕ) : Type 0 where
   half : k ≡ 2 → (q * 2 + 1) * d ≡ n * 2 → Lies n d q k
   more : k ≡ 3 → (q * 2 + 1) * d < n * 2 → n * 2 < (q * 2 + 2) * d → Lies n d q k
 
-even-is : (q d : ℕ) → q * 2 * d ≡ q * d * 2
+pub even-is : (q d : ℕ) → q * 2 * d ≡ q * d * 2
 even-is = ring 2 (λ q d. q :* con 2 :* d ≈ q :* d :* con 2) tt
 
-odd-is : (q d : ℕ) → (q * 2 + 1) * d ≡ q * d * 2 + d
+pub odd-is : (q d : ℕ) → (q * 2 + 1) * d ≡ q * d * 2 + d
 odd-is = ring 2 (λ q d. (q :* con 2 :+ con 1) :* d ≈ q :* d :* con 2 :+ d) tt
 
-next-is : (q d : ℕ) → (q * 2 + 2) * d ≡ q * d * 2 + d * 2
+pub next-is : (q d : ℕ) → (q * 2 + 2) * d ≡ q * d * 2 + d * 2
 next-is = ring 2 (λ q d. (q :* con 2 :+ con 2) :* d ≈ q :* d :* con 2 :+ d :* con 2) tt
 
 -- ---- so they lie

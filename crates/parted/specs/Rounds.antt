@@ -80,7 +80,7 @@ module _ (x : Float) (unit : ℕ) (fit : T (fits binary64 x)) (t : T (measured x
       ∷ (con (2 ^ 60 * 2 ^ 1074 - 1000000000000 * 2 ^ 1094) times con 1 ≼ d) ∷ []
       ⊩ nxt (N :* U :* con (2 ^ 1074)) ≈ con (2 ^ 60) :* d :* con (2 ^ 1074)) tt
 
-  few : num x * unit / den x < 2 ^ 60
+  pub few : num x * unit / den x < 2 ^ 60
   few =
       let n = toBits binary64 x % 2 ^ 63 in
       let v : value n < 2 ^ 1094 = subst (λ (k : ℕ). value n < k) border (value-lt n (1043 * 2 ^ 52) size-small) in
