@@ -1,21 +1,19 @@
 // What is answered to a knee.
-use crate::places::put_fixed;
-use crate::places::put_refusal;
+use crate::numbers::put_count;
+use crate::numbers::put_fixed;
 use binary64::split;
 use drag::Judged;
 use drag::Verdict;
-use drag::judge;
 use writing::has_room;
+use writing::least;
 use writing::put_text;
 use writing::put_word;
 ghost use mathlib.Core.Path.{_≡_};
 ghost use Prim.Native.Nat.{_+_, _≤_};
 ghost use lib.ListN.{length};
-ghost use lib.Dec.{leb};
 ghost use Rattle.writing.specs.Written.{Put, Tried};
-ghost use Rattle.drag.specs.Verdict.{dragOf};
 ghost use Rattle.bench_write.specs.Texts.{wordText, signOf, excessText, weighedText, judgedText, kneeText};
-ghost use Rattle.bench_write.specs.Texts.{longestExcess, longestWeighed, longestName, longestKnee};
+ghost use Rattle.bench_write.specs.Texts.{longestWord, longestExcess, longestWeighed, longestKnee};
 
 // How many nanoseconds a second has.
 const BILLION: u64 = 1_000_000_000;
@@ -23,11 +21,10 @@ const BILLION: u64 = 1_000_000_000;
 // No answer to a knee is longer, and no name.
 pub const LONGEST_KNEE: usize = 88;
 
-const LONGEST_NAME: usize = 32;
+const NAME: usize = 32;
 
-// The word.
 fn put_passes(passes: bool, out: &mut [u8], at: usize) -> usize
-    requires { ⌜ at + 7 ≤ length (now out) ⌝ }
+    requires { ⌜ at + longestWord ≤ length (now out) ⌝ }
     ensures { λ r. ⌜ Put (now (out .entry)) at (wordText passes) (now (out .exit)) r ⌝ }
 {
     if passes {
@@ -75,7 +72,26 @@ fn put_judged(judged: Judged, out: &mut [u8], at: usize) -> usize
         Judged::Weighed(verdict) => put_weighed(verdict, out, at),
         Judged::Refused(number) => {
             out[at] = b' ';
-            put_refusal(number, out, at + 1)
+            put_count(b"refused ", number as u64, out, at + 1)
         }
     }
+}
+
+// The name, then the rest.
+fn put_named(name: &[u8], judged: Judged, out: &mut [u8], at: usize) -> usize
+    requires { ⌜ at + longestKnee ≤ length (now out) ⌝ }
+    ensures { λ r. ⌜ Put (now (out .entry)) at (kneeText (now (name .entry)) judged) (now (out .exit)) r ⌝ }
+{
+    let after = put_text(&name[..least(name.len(), NAME)], out, at);
+    put_judged(judged, out, after)
+}
+
+// What is said of a knee, if there is room for the longest; the place after it.
+pub fn put_knee(name: &[u8], judged: Judged, out: &mut [u8], at: usize) -> usize
+    ensures { λ r. ⌜ Tried longestKnee (now (out .entry)) at (kneeText (now (name .entry)) judged) (now (out .exit)) r ⌝ }
+{
+    if has_room(out.len(), at, LONGEST_KNEE) {
+        return put_named(name, judged, out, at);
+    }
+    at
 }
