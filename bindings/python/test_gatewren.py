@@ -320,7 +320,7 @@ class Answers(unittest.TestCase):
             rf(-1, 1, 1).value = 1.0
 
     def test_every_number_has_a_meaning(self):
-        self.assertEqual([refusal.value for refusal in Refusal], [*range(1, 18), *range(19, 24)])
+        self.assertEqual([refusal.value for refusal in Refusal], [*range(1, 18), *range(19, 25)])
         for number in (0, 18):
             with self.assertRaises(ValueError):
                 Refused(number)
