@@ -96,7 +96,7 @@ fn every_number_has_a_meaning() {
     assert!(Refusal::ALL.iter().all(|&refusal| Refusal::of(refusal.number()) == Some(refusal)));
     assert_eq!(Refusal::of(0), None);
     assert_eq!(Refusal::of(18), None);
-    assert_eq!(Refusal::of(24), None);
+    assert_eq!(Refusal::of(26), None);
     assert_eq!(Refusal::TooDeep.to_string(), "refused 10: a fifth nested RJ call would be needed");
 }
 
