@@ -1,7 +1,7 @@
 /*
  * Gatewren: Carlson's elliptic integrals RC, RF, RD, RG and RJ and Bulirsch's cel on doubles, proved to the last bit, the leaves they
- * stand on, the swing time of the knee bench, the work lists of its controller with their reports, and the check of other
- * laboratories' tables.
+ * stand on, the swing time and the verdict of the knee bench, the work lists of its controller with their reports, and the check of
+ * other laboratories' tables.
  *
  * Link libgatewren.a (rt staticlib gatewren) or libgatewren.so (./gatewren shared). Neither wants the C maths library.
  * The code counts on what IEEE 754 and C start with: rounding to nearest, and subnormal numbers kept.
@@ -46,7 +46,8 @@ enum gatewren_outcome {
     GATEWREN_A_OR_B_INFINITE = 20, /* cel's a or b is infinite */
     GATEWREN_WRONG_SIGN = 21,   /* RJ's p has the wrong sign for this entry */
     GATEWREN_NUMBERS_DIFFER = 22, /* a table's claims and its work list's jobs differ in number */
-    GATEWREN_OUTSIDE_PROFILE = 23 /* an argument of a profile's entry is neither zero nor of size from 2^-64 to 2^64 */
+    GATEWREN_OUTSIDE_PROFILE = 23, /* an argument of a profile's entry is neither zero nor of size from 2^-64 to 2^64 */
+    GATEWREN_AMPLITUDE = 24     /* a peak is not from 1 to 2^53 */
 };
 
 /* Which formula gave a value. A call that rescales, or hands its whole answer to another function, has that one's road. */
@@ -138,6 +139,21 @@ uint32_t gatewren_swing(uint64_t length, uint64_t height, uint64_t gravity,
    none or one adds 0. Right if fewer than 65,536 steps lie between two readings. Returns 0; or 13, and *total is as it was.
    total is not null and points to none of the readings; readings may be null only where n is 0. */
 uint32_t gatewren_steps(uint64_t *total, const uint16_t *readings, size_t n);
+
+/* What gatewren_drag writes as its verdict. */
+enum gatewren_verdict {
+    GATEWREN_PASSES = 1,        /* at most the limit above the ideal swing, or on it */
+    GATEWREN_DRAGS = 2          /* more */
+};
+
+/* The verdict on a knee: the swing's three numbers, the time of one whole swing and the excess that is allowed, both in nanoseconds.
+   0 with the four written: the verdict, decided by the exact fractions; whether time less the ideal period is below zero, 1 or 0; its
+   size in nanoseconds, rounded half to even; and the ideal period in seconds. Or gatewren_swing's 11 or 12 with none touched. */
+uint32_t gatewren_drag(uint64_t length, uint64_t height, uint64_t gravity, uint64_t time, uint64_t limit,
+                       uint32_t *verdict, uint32_t *below, uint64_t *excess, double *period);
+
+/* The logarithmic decrement ln(a/b) of two successive peaks, the quotient rounded once. 0 with it written, or 24 with it untouched. */
+uint32_t gatewren_decay(uint64_t a, uint64_t b, double *decrement);
 
 /*
  * The same with one struct for the four places, where the compiler has `inline` (C99, C++): nothing is added to the library. The

@@ -300,6 +300,37 @@ class Examples(unittest.TestCase):
         with self.assertRaises(TypeError):
             gatewren.swing(1.5, 1, 1)
 
+    def test_the_verdict_and_the_decrement(self):
+        period = of_bits(0x3FF07A114C26A24A)
+        def knee(time, limit):
+            return gatewren.drag(250_000, 50_000, 9_806_650, time, limit)
+        self.assertEqual(knee(1_047_000_000, 20_000_000), gatewren.Verdict(True, False, 17_198_348, period))
+        self.assertEqual(knee(1_029_801_652, 0), gatewren.Verdict(True, True, 0, period))
+        self.assertEqual(knee(1_029_801_653, 0), gatewren.Verdict(False, False, 1, period))
+        self.assertTrue(knee(1_029_801_653, 1).passes)
+        self.assertEqual(gatewren.drag(0, 1, 1, 1, 1), Refused(Refusal.OUT_OF_RANGE))
+        self.assertEqual(gatewren.drag(250_000, 500_000, 9_806_650, 1, 1), Refused(Refusal.HEIGHT))
+        self.assertEqual(gatewren.decay(7, 7).hex(), (0.0).hex())
+        self.assertEqual(gatewren.decay(90, 100), of_bits(0xBFBAF8E8210A415C))
+        self.assertEqual(gatewren.decay(1, 2**53 + 1), Refused(Refusal.AMPLITUDE))
+        for bad in (-1, 2**64):
+            with self.assertRaises(ValueError):
+                knee(bad, 1)
+            with self.assertRaises(ValueError):
+                gatewren.decay(bad, 1)
+
+    def test_the_days_file(self):
+        examples = pathlib.Path(__file__).resolve().parents[2] / "examples"
+        answered = ""
+        for line in (examples / "knees.txt").read_text().splitlines():
+            name, *numbers = line.split(" ")
+            if len(numbers) != 5 or not all(number.isdecimal() for number in numbers):
+                answered += "bad line\n"
+                continue
+            told = gatewren.drag(*map(int, numbers))
+            answered += f"{name} refused {told.refusal.value}\n" if isinstance(told, Refused) else f"{name} {told}\n"
+        self.assertEqual(answered, (examples / "knees.expected").read_text().split("knees ")[0])
+
     def test_the_step_log(self):
         self.assertEqual(gatewren.steps(7, []), gatewren.Total(7))
         self.assertEqual(gatewren.steps(7, [65535, 0]), gatewren.Total(8))
@@ -384,8 +415,8 @@ class Answers(unittest.TestCase):
             rf(-1, 1, 1).value = 1.0
 
     def test_every_number_has_a_meaning(self):
-        self.assertEqual([refusal.value for refusal in Refusal], list(range(1, 24)))
-        for number in (0, 24):
+        self.assertEqual([refusal.value for refusal in Refusal], list(range(1, 25)))
+        for number in (0, 25):
             with self.assertRaises(ValueError):
                 Refused(number)
 
@@ -408,6 +439,7 @@ class Interface(unittest.TestCase):
         header = pathlib.Path(__file__).resolve().parents[2] / "include" / "gatewren.h"
         text = header.read_text()
         names = ["rc", "rf", "rd", "rg", "rj_positive", "rj_negative", "sqrt", "mul_add", "pow_neg_3_2", "atan", "ln", "ln_1p", "swing", "steps"]
+        names += ["drag", "decay"]
         names += [f"profile_{name}" for name in ("rc", "rf", "rd", "rg", "rj")]
         names += [f"report_{name}" for name in ("list", "join", "calls", "refused", "rounds", "most", "sum")]
         for name in names:

@@ -6,6 +6,7 @@ mod call;
 mod cel;
 mod compare;
 mod diff;
+mod drag;
 mod effect;
 mod examples;
 mod families;
@@ -36,7 +37,7 @@ use std::process::ExitCode;
 const USAGE: &str = "oracle examples | make-list | check-list | call | diff N [SEED] | leaf NAME N [SEED] | cases NAME N [SEED] |
        answers NAME | compare N [SEED [THREADS]] | units N [SEED] | orders N [SEED] | profile N [SEED] | effect N [SEED] |
        swing N [SEED] | fuzz SECONDS [SEED] | lists N [SEED] | round N [SEED] | report N [SEED] | report-text N [SEED] |
-       tables N [SEED] | cel N [SEED] | make-units | make-blocks";
+       tables N [SEED] | cel N [SEED] | make-units | make-blocks | drag N [SEED] | drag-files N | make-bench";
 
 fn main() -> ExitCode {
     let words: Vec<String> = std::env::args().skip(1).collect();
@@ -80,6 +81,10 @@ fn main() -> ExitCode {
         ["tables", n, seed] => tables::run(number(n), number(seed)),
         ["cel", n] => cel::run(number(n), 1),
         ["cel", n, seed] => cel::run(number(n), number(seed)),
+        ["drag", n] => drag::run(number(n), 1),
+        ["drag", n, seed] => drag::run(number(n), number(seed)),
+        ["drag-files", n] => drag::files(number(n), 1),
+        ["make-bench"] => drag::make(),
         ["swing", n] => swing::run(number(n), 1),
         ["swing", n, seed] => swing::run(number(n), number(seed)),
         _ => {

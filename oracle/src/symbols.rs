@@ -51,6 +51,8 @@ linked! {
 linked! {
     "lib-swing" SWING = gatewren_swing(u64, u64, u64, *mut f64, *mut u32, *mut u32, *mut u32) -> u32;
     "lib-swing" STEPS = gatewren_steps(*mut u64, *const u16, usize) -> u32;
+    "lib-drag" DRAG = gatewren_drag(u64, u64, u64, u64, u64, *mut u32, *mut u32, *mut u64, *mut f64) -> u32;
+    "lib-drag" DECAY = gatewren_decay(u64, u64, *mut f64) -> u32;
 }
 
 // Request 2026-03: bytes and their length, a place, and a job as five words.

@@ -31,6 +31,7 @@ from typing import NamedTuple, NoReturn, SupportsFloat, SupportsIndex
 __all__ = ["Refusal", "Road", "Answer", "Value", "Total", "Refused", "rc", "rf", "rd", "rg", "rj_positive", "rj_negative", "cel"]
 __all__ += ["profile_rc", "profile_rf", "profile_rd", "profile_rg", "profile_rj"]
 __all__ += ["Job", "ReadList", "read_list", "write_list", "Report", "Checked", "check_table", "swing", "steps"]
+__all__ += ["Verdict", "drag", "decay"]
 __all__ += ["sqrt", "mul_add", "pow_neg_3_2", "atan", "ln", "ln_1p"]
 
 __version__ = "0.4.0"
@@ -62,6 +63,7 @@ class Refusal(enum.Enum):
     WRONG_SIGN = 21  # RJ's p has the wrong sign for this entry
     NUMBERS_DIFFER = 22  # a table's claims and its work list's jobs differ in number
     OUTSIDE_PROFILE = 23  # an argument of a profile's entry is neither zero nor of size from 2^-64 to 2^64
+    AMPLITUDE = 24  # a peak is not from 1 to 2^53
 
 
 class Road(enum.Enum):
@@ -149,6 +151,35 @@ class Total(Answer):
         return f"Total(steps={self.steps!r})"
 
 
+class Verdict(Answer):
+    """A verdict on a knee. `excess` is the time less the ideal period in nanoseconds, rounded half to even, without its sign; `below`
+    says that it is below zero. As text it is what ./gatewren drag prints after the name."""
+
+    __slots__ = ("passes", "below", "excess", "period")
+    __match_args__ = ("passes", "below", "excess", "period")
+    passes: bool
+    below: bool
+    excess: int
+    period: float
+
+    def __init__(self, passes: bool, below: bool, excess: int, period: float) -> None:
+        object.__setattr__(self, "passes", passes)
+        object.__setattr__(self, "below", below)
+        object.__setattr__(self, "excess", excess)
+        object.__setattr__(self, "period", period)
+
+    def _parts(self) -> tuple[object, ...]:
+        return (self.passes, self.below, self.excess, self.period.hex())
+
+    def __str__(self) -> str:
+        seconds, rest = divmod(self.excess, 10**9)
+        bits = struct.pack(">d", self.period).hex().upper()
+        return f"{'pass' if self.passes else 'drags'} {'-' if self.below else '+'}{seconds}.{rest:09} {bits}"
+
+    def __repr__(self) -> str:
+        return f"Verdict(passes={self.passes!r}, below={self.below!r}, excess={self.excess!r}, period={self.period!r})"
+
+
 class Refused(Answer):
     """No value, and why. It has no __float__ and no arithmetic."""
 
@@ -218,6 +249,9 @@ _PROFILE_RG = _entry("profile_rg", [_DOUBLE] * 3)
 _PROFILE_RJ = _entry("profile_rj", [_DOUBLE] * 4)
 _SWING = _entry("swing", [ctypes.c_uint64] * 3)
 _STEPS = _symbol("steps", [ctypes.POINTER(ctypes.c_uint64), ctypes.POINTER(ctypes.c_uint16), ctypes.c_size_t], ctypes.c_uint32)
+_DRAG = _symbol("drag", [ctypes.c_uint64] * 5 + [ctypes.POINTER(kind) for kind in (ctypes.c_uint32, ctypes.c_uint32, ctypes.c_uint64, _DOUBLE)],
+                ctypes.c_uint32)
+_DECAY = _symbol("decay", [ctypes.c_uint64, ctypes.c_uint64, ctypes.POINTER(_DOUBLE)], ctypes.c_uint32)
 _JOB = ctypes.c_uint64 * 5
 _SIZE = ctypes.POINTER(ctypes.c_size_t)
 _WRITE_JOB = _symbol("write_job", [ctypes.c_char_p, ctypes.c_size_t, _SIZE, ctypes.POINTER(_JOB)], ctypes.c_uint32)
@@ -397,6 +431,37 @@ def swing(length: SupportsIndex, height: SupportsIndex, gravity: SupportsIndex) 
     Refused(Refusal.HEIGHT)
     """
     return _SWING(_whole(length, 64), _whole(height, 64), _whole(gravity, 64))
+
+
+def drag(
+    length: SupportsIndex, height: SupportsIndex, gravity: SupportsIndex, time: SupportsIndex, limit: SupportsIndex
+) -> Verdict | Refused:
+    """The verdict on a knee: the swing's three numbers, the time of one whole swing and the allowed excess, both in nanoseconds.
+
+    >>> drag(250_000, 50_000, 9_806_650, 1_047_000_000, 20_000_000)
+    Verdict(passes=True, below=False, excess=17198348, period=1.0298016523976394)
+    >>> print(drag(250_000, 50_000, 9_806_650, 1_047_000_000, 20_000_000))
+    pass +0.017198348 3FF07A114C26A24A
+    >>> drag(250_000, 500_000, 9_806_650, 1, 1)
+    Refused(Refusal.HEIGHT)
+    """
+    verdict, below, excess, period = ctypes.c_uint32(), ctypes.c_uint32(), ctypes.c_uint64(), _DOUBLE()
+    places = (verdict, below, excess, period)
+    number = _DRAG(*(_whole(n, 64) for n in (length, height, gravity, time, limit)), *map(ctypes.byref, places))
+    return Verdict(verdict.value == 1, below.value == 1, excess.value, period.value) if number == 0 else Refused(number)
+
+
+def decay(a: SupportsIndex, b: SupportsIndex) -> float | Refused:
+    """The logarithmic decrement ln(a/b) of two successive peaks, each from 1 to 2^53.
+
+    >>> decay(100, 90)
+    0.10536051565782635
+    >>> decay(0, 1)
+    Refused(Refusal.AMPLITUDE)
+    """
+    decrement = _DOUBLE()
+    number = _DECAY(_whole(a, 64), _whole(b, 64), ctypes.byref(decrement))
+    return decrement.value if number == 0 else Refused(number)
 
 
 def steps(total: SupportsIndex, readings: Iterable[SupportsIndex]) -> Total | Refused:

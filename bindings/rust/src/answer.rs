@@ -122,6 +122,7 @@ refusals! {
     WrongSign = 21, "p has the wrong sign for this entry";
     NumbersDiffer = 22, "a table's claims and its work list's jobs differ in number";
     OutsideProfile = 23, "an argument is neither zero nor of size from 2^-64 to 2^64";
+    Amplitude = 24, "a peak is not from 1 to 2^53";
 }
 
 impl Refusal {

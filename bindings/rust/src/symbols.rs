@@ -25,6 +25,18 @@ extern "C" {
     entry!(gatewren_profile_rj(x: f64, y: f64, z: f64, p: f64));
     entry!(gatewren_swing(length: u64, height: u64, gravity: u64));
     pub fn gatewren_steps(total: &mut u64, readings: *const u16, n: usize) -> u32;
+    pub fn gatewren_drag(
+        length: u64,
+        height: u64,
+        gravity: u64,
+        time: u64,
+        limit: u64,
+        verdict: &mut u32,
+        below: &mut u32,
+        excess: &mut u64,
+        period: &mut f64,
+    ) -> u32;
+    pub fn gatewren_decay(a: u64, b: u64, decrement: &mut f64) -> u32;
     pub fn gatewren_write_job(bytes: *mut u8, length: usize, place: &mut usize, job: &Job) -> u32;
     pub fn gatewren_read_job(bytes: *const u8, length: usize, place: &mut usize, job: &mut Job) -> u32;
     pub fn gatewren_report_list(report: *mut u64, list: *const u8, length: usize) -> u32;

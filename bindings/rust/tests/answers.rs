@@ -1,6 +1,7 @@
 //! Document 01's settled and printed examples, and the leaves at a few points, through the binding.
 
 use gatewren::{bench, cel, leaf, profile, rc, rd, rf, rg, rj_negative, rj_positive, Answer, Job, Refusal, Road, WorkList};
+use gatewren::bench::Verdict;
 use gatewren::{check_table, BadLine, Checked, Claim, Report};
 
 const INF: f64 = f64::INFINITY;
@@ -91,10 +92,10 @@ fn roads_and_rescalings() {
 #[test]
 fn every_number_has_a_meaning() {
     let numbers: Vec<u32> = Refusal::ALL.iter().map(|refusal| refusal.number()).collect();
-    assert_eq!(numbers, (1..=23).collect::<Vec<u32>>());
+    assert_eq!(numbers, (1..=24).collect::<Vec<u32>>());
     assert!(Refusal::ALL.iter().all(|&refusal| Refusal::of(refusal.number()) == Some(refusal)));
     assert_eq!(Refusal::of(0), None);
-    assert_eq!(Refusal::of(24), None);
+    assert_eq!(Refusal::of(25), None);
     assert_eq!(Refusal::TooDeep.to_string(), "refused 10: a fifth nested RJ call would be needed");
 }
 
@@ -415,4 +416,42 @@ fn texts_of_no_report() {
     assert_eq!(format!("{text}\n").parse::<Report>(), Err(BadLine { line: lines + 1 }));
     assert_eq!(text.trim_end().rsplit_once('\n').unwrap().0.parse::<Report>(), Err(BadLine { line: lines }));
     assert_eq!(BadLine { line: 3 }.to_string(), "line 3: bad line");
+}
+
+/// The bench's file of knees, line by line, is what ./gatewren drag answers.
+#[test]
+fn the_days_file() {
+    let root = concat!(env!("CARGO_MANIFEST_DIR"), "/../../examples/");
+    let read = |name: &str| std::fs::read_to_string(format!("{root}{name}")).unwrap();
+    let answered: String = read("knees.txt")
+        .lines()
+        .map(|line| {
+            let fields: Vec<&str> = line.split(' ').collect();
+            let numbers: Vec<u64> = fields[1..].iter().filter_map(|field| field.parse().ok()).collect();
+            let ([length, height, gravity, time, limit], 6) = (&numbers[..], fields.len()) else { return "bad line\n".to_string() };
+            match bench::drag(*length, *height, *gravity, *time, *limit) {
+                Ok(verdict) => format!("{} {verdict}\n", fields[0]),
+                Err(refusal) => format!("{} refused {}\n", fields[0], refusal.number()),
+            }
+        })
+        .collect();
+    assert_eq!(answered, read("knees.expected").split("knees ").next().unwrap());
+}
+
+#[test]
+fn the_verdict_and_the_decrement() {
+    let period = f64::from_bits(0x3FF0_7A11_4C26_A24A);
+    let knee = |time, limit| bench::drag(250_000, 50_000, 9_806_650, time, limit);
+    assert_eq!(knee(1_047_000_000, 20_000_000), Ok(Verdict { passes: true, below: false, excess: 17_198_348, period }));
+    assert_eq!(knee(1_029_801_652, 0), Ok(Verdict { passes: true, below: true, excess: 0, period }));
+    assert_eq!(knee(1_029_801_653, 0), Ok(Verdict { passes: false, below: false, excess: 1, period }));
+    assert_eq!(knee(1_029_801_653, 1).map(|verdict| verdict.passes), Ok(true));
+    assert_eq!(knee(u64::MAX, u64::MAX).map(|verdict| verdict.passes), Ok(true));
+    assert_eq!(bench::drag(0, 1, 1, 1, 1), Err(Refusal::OutOfRange));
+    assert_eq!(bench::drag(250_000, 500_000, 9_806_650, 1, 1), Err(Refusal::Height));
+    assert_eq!(bench::decay(7, 7).map(f64::to_bits), Ok(0));
+    assert_eq!(bench::decay(100, 90).map(f64::to_bits), Ok(0x3FBA_F8E8_210A_4161));
+    assert_eq!(bench::decay(90, 100).map(f64::to_bits), Ok(0xBFBA_F8E8_210A_415C));
+    assert_eq!(bench::decay(0, 1), Err(Refusal::Amplitude));
+    assert_eq!(bench::decay(1, (1 << 53) + 1), Err(Refusal::Amplitude));
 }

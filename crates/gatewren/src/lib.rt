@@ -1,4 +1,5 @@
 // The C interface, for C and Rust to link: the leaves and the entries under C names. A list only; what each does is in its crate.
+mod bench_layer;
 mod entries;
 mod fused_leaf;
 mod leaves;

@@ -22,7 +22,7 @@ abbrev pub power : ℕ → ℕ
 power e = e * 2 ^ 52
 
 -- ---- quotients of whole numbers that are f64s as they stand
-in-units : (x : Float) (n D : ℕ) → HasValue x false n 1 → HasValue x false (n * D) D
+pub in-units : (x : Float) (n D : ℕ) → HasValue x false n 1 → HasValue x false (n * D) D
 in-units nan n D h = absurd h
 in-units (inf s) n D h = absurd h
 in-units (fin s m e) n D h = (

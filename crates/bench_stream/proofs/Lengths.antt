@@ -1,0 +1,32 @@
+-- How long what is said is. Assumes nothing.
+use Prim.Native.Nat.{ℕ, _≤_}
+use mathlib.Core.Bool.{Bool, true, false, cond}
+use native.Mathlib.Omega.{arith}
+use lib.Dec.{eqb}
+use lib.ListN.{length}
+use Rattle.writing.specs.Fed.{quiet}
+use Rattle.writing.specs.FedLaws.{Short}
+use Rattle.bench_write.specs.Texts.{longestTallies}
+use Rattle.bench_write.specs.Lengths.{tallies-length}
+use Rattle.bench_write.specs.declared.tallies.Tally.{Tally}
+use Rattle.bench_replies.specs.Replies.{longestReply}
+use Rattle.bench_replies.specs.Lengths.{reply-length}
+use Rattle.bench_stream.specs.Lines.{Open, openAfter, replyNow, said, lineEnd, benchByte}
+use Rattle.bench_stream.specs.Stream.{saidAtEnd}
+
+pub said-length : (s : Open) → length (said s) ≤ longestReply
+unfolding said
+said-length s = reply-length (replyNow s) (s .name)
+
+pub byte-short : (s : Open) (b : ℕ) → Short longestReply 0 (benchByte s b)
+unfolding benchByte
+byte-short s b = go (eqb b 10)
+  where
+    go : (t : Bool) → Short longestReply 0 (cond t (lineEnd s) (quiet (openAfter s b)))
+    go true = (said-length s, omega arith)
+    go false = (omega arith, omega arith)
+
+pub said-end-length : (summary : Bool) (t : Tally) → length (saidAtEnd summary t) ≤ longestTallies
+unfolding saidAtEnd
+said-end-length true t = tallies-length t
+said-end-length false t = omega arith

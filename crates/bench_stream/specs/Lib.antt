@@ -1,0 +1,4 @@
+pub mod Lines
+pub mod Stream
+pub mod StreamLaws
+pub mod TallyLaws

@@ -1,0 +1,2 @@
+pub mod Decrement
+pub mod DecrementLaws

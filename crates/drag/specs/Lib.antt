@@ -1,0 +1,4 @@
+pub mod Verdict
+pub mod ByParts
+pub mod Measured
+pub mod VerdictLaws

@@ -1,0 +1,4 @@
+pub mod Parts
+pub mod Fractions
+pub mod Sizes
+pub mod Rounds
