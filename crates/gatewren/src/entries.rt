@@ -1,7 +1,6 @@
 // The entries for C: 0 with the value, its rounds, its road and its rescalings written, or the number of the refusal with
 // none of them touched.
-use carlson::answer::Answer;
-use carlson::answer::road_number;
+use c_answer::told;
 ghost use mathlib.Core.Path.{_≡_};
 ghost use Rattle.elliprc.specs.Rc.{rc};
 ghost use Rattle.elliprf.specs.Rf.{rf};
@@ -9,33 +8,7 @@ ghost use Rattle.elliprd.specs.Rd.{rd};
 ghost use Rattle.elliprg.specs.Rg.{rg};
 ghost use Rattle.elliprj.specs.Rj.{rjOfPositive, rjOfNegative};
 ghost use Rattle.cel.specs.Cel.{cel};
-ghost use Rattle.gatewren.specs.Told.{numberOf, valueAfter, roundsAfter, roadAfter, rescalingsAfter};
-
-pub fn told(
-    a: Answer,
-    value: &mut f64,
-    rounds: &mut u32,
-    road: &mut u32,
-    rescalings: &mut u32,
-) -> u32
-    ensures { λ r. ⌜ r ≡ numberOf a ⌝ }
-    ensures { λ r. ⌜ now (value .exit) ≡ valueAfter a (now (value .entry)) ⌝ }
-    ensures { λ r. ⌜ now (rounds .exit) ≡ roundsAfter a (now (rounds .entry)) ⌝ }
-    ensures { λ r. ⌜ now (road .exit) ≡ roadAfter a (now (road .entry)) ⌝ }
-    ensures { λ r. ⌜ now (rescalings .exit) ≡ rescalingsAfter a (now (rescalings .entry)) ⌝ }
-{
-    match a {
-        Answer::Value(found) => {
-            let taken = found.road;
-            *value = found.value;
-            *rounds = found.way.rounds;
-            *road = road_number(taken);
-            *rescalings = found.way.rescalings;
-            0
-        }
-        Answer::Refused(n) => n,
-    }
-}
+ghost use Rattle.c_answer.specs.Told.{numberOf, valueAfter, roundsAfter, roadAfter, rescalingsAfter};
 
 #[no_mangle]
 pub extern "C" fn gatewren_rc(

@@ -1,8 +1,8 @@
 // The bench profile's entries for C (document 02, 2026-14): the same of the four places as the base's.
-use crate::entries::told;
+use c_answer::told;
 ghost use mathlib.Core.Path.{_≡_};
 ghost use Rattle.profile.specs.Profile.{profileRc, profileRf, profileRd, profileRg, profileRj};
-ghost use Rattle.gatewren.specs.Told.{numberOf, valueAfter, roundsAfter, roadAfter, rescalingsAfter};
+ghost use Rattle.c_answer.specs.Told.{numberOf, valueAfter, roundsAfter, roadAfter, rescalingsAfter};
 
 #[no_mangle]
 pub extern "C" fn gatewren_profile_rc(

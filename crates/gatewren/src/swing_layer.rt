@@ -1,9 +1,9 @@
 // The swing time and the step log for C (document 02, 2026-01).
-use crate::entries::told;
+use c_answer::told;
 ghost use mathlib.Core.Path.{_≡_};
 ghost use Rattle.swing.specs.Period.{periodOf};
 ghost use Rattle.steplog.specs.Steps.{stepsOf, stepsNumber, keptTotal};
-ghost use Rattle.gatewren.specs.Told.{numberOf, valueAfter, roundsAfter, roadAfter, rescalingsAfter};
+ghost use Rattle.c_answer.specs.Told.{numberOf, valueAfter, roundsAfter, roadAfter, rescalingsAfter};
 
 #[no_mangle]
 pub extern "C" fn gatewren_swing(

@@ -1,8 +1,8 @@
 -- `told` meets its contract, case by case. Assumes nothing.
 use borrow.Author.Needs.{needs}
-use Rattle.gatewren.specs.Told.{numberOf, valueAfter, roundsAfter, roadAfter, rescalingsAfter}
-use Rattle.gatewren.proofs.entries.told.Statement.{statement}
-use Rattle.gatewren.proofs.entries.told.Tie as tie
+use Rattle.c_answer.specs.Told.{numberOf, valueAfter, roundsAfter, roadAfter, rescalingsAfter}
+use Rattle.c_answer.proofs.told.Statement.{statement}
+use Rattle.c_answer.proofs.told.Tie as tie
 
 pub told-spec : {M : Type 1} → statement M
 unfolding numberOf valueAfter roundsAfter roadAfter rescalingsAfter
