@@ -16,7 +16,7 @@ use Rattle.bench_stream.specs.Stream.{saidAtEnd, saidLast, opened, repli
 abbrev pub fresh : Open → Bool
 fresh s = eqb (s .state .row .stage) 0
 
-start-fresh : (decays : Bool) → eqb (startRow decays .stage) 0 ≡ true
+pub start-fresh : (decays : Bool) → eqb (startRow decays .stage) 0 ≡ true
 unfolding startRow rowFrom
 start-fresh true = refl
 start-fresh false = refl
