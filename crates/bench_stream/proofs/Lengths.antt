@@ -1,22 +1,27 @@
 -- How long what is said is. Assumes nothing.
 use Prim.Native.Nat.{ℕ, _≤_}
 use mathlib.Core.Bool.{Bool, true, false, cond}
+use mathlib.Core.List.{[]}
 use native.Mathlib.Omega.{arith}
 use lib.Dec.{eqb}
 use lib.ListN.{length}
 use Rattle.writing.specs.Fed.{quiet}
 use Rattle.writing.specs.FedLaws.{Short}
-use Rattle.bench_write.specs.Texts.{longestTallies}
-use Rattle.bench_write.specs.Lengths.{tallies-length}
+use Rattle.bench_write.specs.Texts.{saidText, shownOf, textUnder, talliesText, longestReply, longestTallies, longestOf}
+use Rattle.bench_write.specs.PieceLaws.{under-length}
+use Rattle.bench_write.specs.declared.said.Said.the-variants.{Tallies}
 use Rattle.bench_write.specs.declared.tallies.Tally.{Tally}
-use Rattle.bench_replies.specs.Replies.{longestReply}
-use Rattle.bench_replies.specs.Lengths.{reply-length}
+use Rattle.bench_replies.specs.Replies.{replyOf}
+use Rattle.bench_replies.specs.Room.{reply-room}
 use Rattle.bench_stream.specs.Lines.{Open, openAfter, replyNow, said, lineEnd, benchByte}
 use Rattle.bench_stream.specs.Stream.{saidAtEnd}
 
 pub said-length : (s : Open) → length (said s) ≤ longestReply
-unfolding said
-said-length s = reply-length (replyNow s) (s .name)
+unfolding said replyNow
+said-length s =
+    let st = s .state in
+    rw (reply-room (st .decays) (st .row) (length (s .name)))
+    at (under-length (replyOf (st .decays) (st .row) (length (s .name))) (s .name))
 
 pub byte-short : (s : Open) (b : ℕ) → Short longestReply 0 (benchByte s b)
 unfolding benchByte
@@ -25,6 +30,9 @@ byte-short s b = go (eqb b 10)
     go : (t : Bool) → Short longestReply 0 (cond t (lineEnd s) (quiet (openAfter s b)))
     go true = (said-length s, omega arith)
     go false = (omega arith, omega arith)
+
+tallies-length : (t : Tally) → length (talliesText t) ≤ longestTallies
+tallies-length t = unfold textUnder shownOf saidText longestOf in under-length (Tallies t) []
 
 pub said-end-length : (summary : Bool) (t : Tally) → length (saidAtEnd summary t) ≤ longestTallies
 unfolding saidAtEnd

@@ -5,9 +5,8 @@ use mathlib.Core.List.{List, [], _∷_, _++_}
 use lib.Dec.{eqb}
 use lib.ListN.{take}
 use Rattle.writing.specs.Fed.{Ran, Fed}
-use Rattle.bench_write.specs.Texts.{talliesText, longestTallies}
+use Rattle.bench_write.specs.Texts.{talliesText, longestReply, longestTallies}
 use Rattle.bench_write.specs.declared.tallies.Tally.{Tally}
-use Rattle.bench_replies.specs.Replies.{longestReply}
 use Rattle.bench_stream.specs.Lines.{Open, under, openAfter, said, heard}
 use Rattle.bench_stream.specs.declared.stream.Progress.{Progress}
 

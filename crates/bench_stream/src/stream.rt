@@ -3,10 +3,10 @@ use crate::lines::State;
 use crate::lines::after_byte;
 use crate::lines::after_line;
 use crate::lines::held_after;
-use bench_replies::put_reply;
 use bench_replies::reply_to;
+use bench_write::Said;
 use bench_write::Tally;
-use bench_write::put_tallies;
+use bench_write::put_said;
 use writing::OUT;
 use writing::least;
 ghost use mathlib.Core.Path.{_≡_};
@@ -14,8 +14,7 @@ ghost use Prim.Native.Nat.{_+_, _*_, _≤_};
 ghost use lib.ListN.{length, take};
 ghost use Rattle.io.specs.Counts.{Counts};
 ghost use Rattle.writing.specs.Written.{Put};
-ghost use Rattle.bench_write.specs.Texts.{longestTallies};
-ghost use Rattle.bench_replies.specs.Replies.{longestReply};
+ghost use Rattle.bench_write.specs.Texts.{longestReply, longestTallies};
 ghost use Rattle.bench_stream.specs.Lines.{heldLength, under, lineEnd, benchByte, benchFrom};
 ghost use Rattle.bench_stream.specs.Stream.{saidAtEnd, saidLast, longestLast, Benches};
 
@@ -45,7 +44,7 @@ fn line_end(s: State, held: &[u8], n: usize, out: &mut [u8], used: usize) -> Pro
     Progress {
         state: after_line(s, reply),
         held: 0,
-        used: put_reply(reply, &held[..n], out, used),
+        used: put_said(reply, &held[..n], out, used),
     }
 }
 
@@ -127,7 +126,7 @@ fn closing(summary: bool, tally: Tally, out: &mut [u8], used: usize) -> usize
     ensures { λ r. ⌜ Put (now (out .entry)) used (saidAtEnd summary tally) (now (out .exit)) r ⌝ }
 {
     if summary {
-        return put_tallies(tally, out, used);
+        return put_said(Said::Tallies(tally), b"", out, used);
     }
     used
 }

@@ -11,9 +11,8 @@ use lib.Dec.{eqb}
 use lib.ListN.{length, take}
 use Rattle.writing.specs.Fed.{Fed}
 use Rattle.writing.specs.Written.{Put, put-more, put-length, place-most}
-use Rattle.bench_write.specs.Texts.{longestTallies}
+use Rattle.bench_write.specs.Texts.{longestReply, longestTallies}
 use Rattle.bench_write.specs.declared.tallies.Tally.{Tally}
-use Rattle.bench_replies.specs.Replies.{longestReply}
 use Rattle.bench_stream.specs.Lines.{Open, under, said, heard, lineEnd}
 use Rattle.bench_stream.specs.Stream.{saidAtEnd, saidLast, longestLast}
 use Rattle.bench_stream.specs.declared.lines.State.{State}

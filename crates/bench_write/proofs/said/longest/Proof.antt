@@ -1,0 +1,23 @@
+-- `longest` meets its contract, case by case. Assumes nothing.
+use borrow.Author.Needs.{needs}
+use Rattle.bench_write.specs.Texts.{longestOf}
+use Rattle.bench_write.proofs.said.longest.Statement.{statement}
+use Rattle.bench_write.proofs.said.longest.Tie as tie
+
+pub longest-spec : {M : Type 1} → statement M
+unfolding longestOf
+longest-spec =
+    tie.close
+    (tie.spec
+    (λ c. search needs)
+    (λ c. search needs)
+    (λ c. search needs)
+    (λ c. search needs)
+    (λ c. search needs)
+    (λ c. search needs)
+    (λ c. rw (c .enum-told .given .1))
+    (λ c. rw (c .enum-told2 .given .1))
+    (λ c. rw (c .enum-told3 .given .1))
+    (λ c. rw (c .enum-told4 .given .1))
+    (λ c. rw (c .enum-told5 .given .1))
+    (λ c. rw (c .enum-told6 .given .1)))

@@ -1,0 +1,54 @@
+// The one loop that writes.
+use crate::said::Said;
+use crate::said::longest;
+use crate::said::piece_at;
+use crate::said::pieces;
+use crate::said::shown;
+use phrases::put_piece;
+use writing::has_room;
+use writing::least;
+use writing::put_text;
+ghost use Prim.Native.Nat.{_+_, _≤_};
+ghost use lib.ListN.{length};
+ghost use Rattle.writing.specs.Written.{Put, Tried};
+ghost use Rattle.phrases.specs.Pieces.{roomTo};
+ghost use Rattle.bench_write.specs.Texts.{saidText, textUnder, longestOf};
+ghost use Rattle.bench_write.specs.Pieces.{pieceOf, piecesOf};
+
+// No answer to a line is longer, and no summary.
+pub const LONGEST_REPLY: usize = 88;
+
+pub const LONGEST_TALLIES: usize = 145;
+
+fn put_pieces(said: Said, out: &mut [u8], at: usize) -> usize
+    requires { ⌜ at + roomTo (pieceOf said) (piecesOf said) ≤ length (now out) ⌝ }
+    ensures { λ r. ⌜ Put (now (out .entry)) at (saidText said) (now (out .exit)) r ⌝ }
+{
+    let n = pieces(said);
+    let mut i: u64 = 0;
+    let mut next = at;
+    while i < n {
+        next = put_piece(piece_at(said, i), out, next);
+        i += 1;
+    }
+    next
+}
+
+// The name, where it is shown, and the rest.
+fn write_said(said: Said, name: &[u8], out: &mut [u8], at: usize) -> usize
+    requires { ⌜ at + longestOf said ≤ length (now out) ⌝ }
+    ensures { λ r. ⌜ Put (now (out .entry)) at (textUnder said (now (name .entry))) (now (out .exit)) r ⌝ }
+{
+    let after = put_text(&name[..least(name.len(), shown(said))], out, at);
+    put_pieces(said, out, after)
+}
+
+// What is said under a name, if there is room for the longest of its kind; the place after it.
+pub fn put_said(said: Said, name: &[u8], out: &mut [u8], at: usize) -> usize
+    ensures { λ r. ⌜ Tried (longestOf said) (now (out .entry)) at (textUnder said (now (name .entry))) (now (out .exit)) r ⌝ }
+{
+    if has_room(out.len(), at, longest(said)) {
+        return write_said(said, name, out, at);
+    }
+    at
+}
