@@ -6,8 +6,9 @@ use lib.Ieee.{Float, binary64, toBits}
 use Rattle.phrases.specs.declared.Piece.{Piece}
 use Rattle.phrases.specs.declared.Piece.the-variants.{Letters, Number, Places, Bits}
 use Rattle.drag.specs.declared.nanoseconds.Verdict.{Verdict}
-use Rattle.bench_write.specs.Texts.{signOf, ticksOf, kneesOf}
+use Rattle.bench_write.specs.Texts.{signOf, ticksOf, kneesOf, shownOf, longestOf}
 use Rattle.bench_write.specs.declared.tallies.Tally.{Tally}
+use Rattle.bench_write.specs.declared.said.Shape.{Shape}
 use Rattle.bench_write.specs.declared.said.Said.{Said}
 use Rattle.bench_write.specs.declared.said.Said.the-variants.{Weighed, NoVerdict, Decrement, NoDecrement, Bad, Tallies}
 
@@ -99,3 +100,6 @@ piecesOf (Decrement x) = 7
 piecesOf (NoDecrement n) = 3
 piecesOf Bad = 2
 piecesOf (Tallies t) = 15
+
+unfoldable pub shapeOf : Said → Shape
+shapeOf s = record { pieces = piecesOf s; shown = shownOf s; longest = longestOf s }

@@ -9,8 +9,7 @@ use crate::tallies::tallies_piece;
 use drag::Verdict;
 use phrases::Piece;
 ghost use mathlib.Core.Path.{_≡_};
-ghost use Rattle.bench_write.specs.Texts.{shownOf, longestOf};
-ghost use Rattle.bench_write.specs.Pieces.{pieceOf, piecesOf};
+ghost use Rattle.bench_write.specs.Pieces.{pieceOf, shapeOf};
 
 // To a knee, to two peaks, to a bad line; and at the input's end.
 pub enum Said {
@@ -35,44 +34,46 @@ pub fn piece_at(said: Said, i: u64) -> Piece
     }
 }
 
-// How many there are.
-pub fn pieces(said: Said) -> u64
-    ensures { λ r. ⌜ r ≡ piecesOf said ⌝ }
-{
-    match said {
-        Said::Weighed(_) => 8,
-        Said::NoVerdict(_) => 4,
-        Said::Decrement(_) => 7,
-        Said::NoDecrement(_) => 3,
-        Said::Bad => 2,
-        Said::Tallies(_) => 15,
-    }
+// How many pieces there are, how many bytes of a name are shown before them, and how much room is asked for.
+pub struct Shape {
+    pub pieces: u64,
+    pub shown: usize,
+    pub longest: usize,
 }
 
-// How many bytes of a name are shown before it.
-pub fn shown(said: Said) -> usize
-    ensures { λ r. ⌜ r ≡ shownOf said ⌝ }
+pub fn shape_of(said: Said) -> Shape
+    ensures { λ r. ⌜ r ≡ shapeOf said ⌝ }
 {
     match said {
-        Said::Weighed(_) => 32,
-        Said::NoVerdict(_) => 32,
-        Said::Decrement(_) => 0,
-        Said::NoDecrement(_) => 0,
-        Said::Bad => 0,
-        Said::Tallies(_) => 0,
-    }
-}
-
-// How much room is asked for.
-pub fn longest(said: Said) -> usize
-    ensures { λ r. ⌜ r ≡ longestOf said ⌝ }
-{
-    match said {
-        Said::Weighed(_) => 88,
-        Said::NoVerdict(_) => 88,
-        Said::Decrement(_) => 88,
-        Said::NoDecrement(_) => 88,
-        Said::Bad => 88,
-        Said::Tallies(_) => 145,
+        Said::Weighed(_) => Shape {
+            pieces: 8,
+            shown: 32,
+            longest: 88,
+        },
+        Said::NoVerdict(_) => Shape {
+            pieces: 4,
+            shown: 32,
+            longest: 88,
+        },
+        Said::Decrement(_) => Shape {
+            pieces: 7,
+            shown: 0,
+            longest: 88,
+        },
+        Said::NoDecrement(_) => Shape {
+            pieces: 3,
+            shown: 0,
+            longest: 88,
+        },
+        Said::Bad => Shape {
+            pieces: 2,
+            shown: 0,
+            longest: 88,
+        },
+        Said::Tallies(_) => Shape {
+            pieces: 15,
+            shown: 0,
+            longest: 145,
+        },
     }
 }

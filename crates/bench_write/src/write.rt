@@ -1,13 +1,12 @@
 // The one loop that writes.
 use crate::said::Said;
-use crate::said::longest;
 use crate::said::piece_at;
-use crate::said::pieces;
-use crate::said::shown;
+use crate::said::shape_of;
 use phrases::put_piece;
 use writing::has_room;
 use writing::least;
 use writing::put_text;
+ghost use mathlib.Core.Path.{_≡_};
 ghost use Prim.Native.Nat.{_+_, _≤_};
 ghost use lib.ListN.{length};
 ghost use Rattle.writing.specs.Written.{Put, Tried};
@@ -20,11 +19,12 @@ pub const LONGEST_REPLY: usize = 88;
 
 pub const LONGEST_TALLIES: usize = 145;
 
-fn put_pieces(said: Said, out: &mut [u8], at: usize) -> usize
+// All its pieces, which are so many.
+fn put_pieces(said: Said, n: u64, out: &mut [u8], at: usize) -> usize
+    requires { ⌜ n ≡ piecesOf said ⌝ }
     requires { ⌜ at + roomTo (pieceOf said) (piecesOf said) ≤ length (now out) ⌝ }
     ensures { λ r. ⌜ Put (now (out .entry)) at (saidText said) (now (out .exit)) r ⌝ }
 {
-    let n = pieces(said);
     let mut i: u64 = 0;
     let mut next = at;
     while i < n {
@@ -34,21 +34,14 @@ fn put_pieces(said: Said, out: &mut [u8], at: usize) -> usize
     next
 }
 
-// The name, where it is shown, and the rest.
-fn write_said(said: Said, name: &[u8], out: &mut [u8], at: usize) -> usize
-    requires { ⌜ at + longestOf said ≤ length (now out) ⌝ }
-    ensures { λ r. ⌜ Put (now (out .entry)) at (textUnder said (now (name .entry))) (now (out .exit)) r ⌝ }
-{
-    let after = put_text(&name[..least(name.len(), shown(said))], out, at);
-    put_pieces(said, out, after)
-}
-
-// What is said under a name, if there is room for the longest of its kind; the place after it.
+// What is said, under a name where one is shown, if there is room for the longest of its kind; the place after it.
 pub fn put_said(said: Said, name: &[u8], out: &mut [u8], at: usize) -> usize
     ensures { λ r. ⌜ Tried (longestOf said) (now (out .entry)) at (textUnder said (now (name .entry))) (now (out .exit)) r ⌝ }
 {
-    if has_room(out.len(), at, longest(said)) {
-        return write_said(said, name, out, at);
+    let shape = shape_of(said);
+    if has_room(out.len(), at, shape.longest) {
+        let after = put_text(&name[..least(name.len(), shape.shown)], out, at);
+        return put_pieces(said, shape.pieces, out, after);
     }
     at
 }

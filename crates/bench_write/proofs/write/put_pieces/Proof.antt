@@ -29,26 +29,24 @@ module _ (s : Said) {n at : ℕ} {o : List ℕ} (e : n ≡ piecesOf s) (room : a
       subst (λ (l : List ℕ). Put o at l out next) (ap (upTo (pieceOf s)) (let f : i ≡ n = omega arith in f) ∙ ap (upTo (pieceOf s)) e ∙ pieces-are s) p
 
 abbrev Inv-loop : tie.InvT-loop
-Inv-loop s out₀ at n i₀ next₀ out i next = (i ≤ n) × Put out₀ at (upTo (pieceOf s) i) out next
+Inv-loop s n out₀ at i₀ next₀ out i next = (i ≤ n) × Put out₀ at (upTo (pieceOf s) i) out next
 
 abbrev μ-loop : tie.MeasureT-loop
-μ-loop s out₀ at n i₀ next₀ out i next = n - i
+μ-loop s n out₀ at i₀ next₀ out i next = n - i
 
 loop-again : tie.Need-loop-again Inv-loop μ-loop
 loop-again c =
     let p = c .before .before in
     let a = p .before .before in
     let l = a .before .before in
-    let k = l .before in
-    let s = k .before .before in
-    (omega arith, more (s .args .said) (k .pieces .ensures) (s .pre) _ (a .before .loop-test .taken) (a .piece-at .ensures) (l .loop .inv .1) (p .put-piece .ensures))
+    let s = l .before .before in
+    (omega arith, more (s .args .said) (s .pre .0) (s .pre .1) _ (a .before .loop-test .taken) (a .piece-at .ensures) (l .loop .inv .1) (p .put-piece .ensures))
 
 returns : tie.Need-returns Inv-loop μ-loop
 returns c =
     let l = c .before in
-    let k = l .before in
-    let s = k .before .before in
-    all (s .args .said) (k .pieces .ensures) (s .pre) (l .loop .inv .0) (c .loop-test .left) (l .loop .inv .1)
+    let s = l .before .before in
+    all (s .args .said) (s .pre .0) (s .pre .1) (l .loop .inv .0) (c .loop-test .left) (l .loop .inv .1)
 
 pub put-pieces-spec : {M : Type 1} → statement M
 put-pieces-spec =
@@ -56,7 +54,6 @@ put-pieces-spec =
     (tie.spec
     Inv-loop
     μ-loop
-    (λ c κs. tt)
     (λ c. (omega arith, pieces-none _ _ _))
     (λ c κs. tt)
     (λ c κs. tt)

@@ -1,12 +1,13 @@
--- `shown` meets its contract, case by case. Assumes nothing.
+-- `shape_of` meets its contract, case by case. Assumes nothing.
 use borrow.Author.Needs.{needs}
-use Rattle.bench_write.specs.Texts.{shownOf}
-use Rattle.bench_write.proofs.said.shown.Statement.{statement}
-use Rattle.bench_write.proofs.said.shown.Tie as tie
+use Rattle.bench_write.specs.Texts.{shownOf, longestOf}
+use Rattle.bench_write.specs.Pieces.{piecesOf, shapeOf}
+use Rattle.bench_write.proofs.said.shape_of.Statement.{statement}
+use Rattle.bench_write.proofs.said.shape_of.Tie as tie
 
-pub shown-spec : {M : Type 1} → statement M
-unfolding shownOf
-shown-spec =
+pub shape-of-spec : {M : Type 1} → statement M
+unfolding shapeOf piecesOf shownOf longestOf
+shape-of-spec =
     tie.close
     (tie.spec
     (λ c. search needs)
