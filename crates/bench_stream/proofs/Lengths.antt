@@ -1,10 +1,10 @@
 -- How long what is said is. Assumes nothing.
-use Prim.Native.Nat.{ℕ, _≤_}
+use Prim.Native.Nat.{ℕ, _+_, _≤_}
 use mathlib.Core.Bool.{Bool, true, false, cond}
 use mathlib.Core.List.{[]}
 use native.Mathlib.Omega.{arith}
 use lib.Dec.{eqb}
-use lib.ListN.{length}
+use lib.ListN.{length, length-append}
 use Rattle.writing.specs.Fed.{quiet}
 use Rattle.writing.specs.FedLaws.{Short}
 use Rattle.bench_write.specs.Texts.{saidText, shownOf, textUnder, talliesText, longestReply, longestTallies, longestOf}
@@ -14,7 +14,7 @@ use Rattle.bench_write.specs.declared.tallies.Tally.{Tally}
 use Rattle.bench_replies.specs.Replies.{replyOf}
 use Rattle.bench_replies.specs.Room.{reply-room}
 use Rattle.bench_stream.specs.Lines.{Open, openAfter, replyNow, said, lineEnd, benchByte}
-use Rattle.bench_stream.specs.Stream.{saidAtEnd}
+use Rattle.bench_stream.specs.Stream.{saidAtEnd, inputEnd, saidLast}
 
 pub said-length : (s : Open) → length (said s) ≤ longestReply
 unfolding said replyNow
@@ -34,7 +34,20 @@ byte-short s b = go (eqb b 10)
 tallies-length : (t : Tally) → length (talliesText t) ≤ longestTallies
 tallies-length t = unfold textUnder shownOf saidText longestOf in under-length (Tallies t) []
 
-pub said-end-length : (summary : Bool) (t : Tally) → length (saidAtEnd summary t) ≤ longestTallies
+at-end-length : (summary : Bool) (t : Tally) → length (saidAtEnd summary t) ≤ longestTallies
 unfolding saidAtEnd
-said-end-length true t = tallies-length t
-said-end-length false t = omega arith
+at-end-length true t = tallies-length t
+at-end-length false t = omega arith
+
+pub end-length : (s : Open) → length (inputEnd s .said) ≤ longestReply
+unfolding inputEnd
+end-length s = go (eqb (s .state .row .stage) 0)
+  where
+    go : (t : Bool) → length (cond t (quiet s) (lineEnd s) .said) ≤ longestReply
+    go true = omega arith
+    go false = said-length s
+
+pub last-length : (summary : Bool) (s : Open) → length (saidLast summary s) ≤ longestReply + longestTallies
+unfolding saidLast
+last-length summary s =
+    rw length-append (omega (arith, end-length s, at-end-length summary (inputEnd s .left .state .tally)))
