@@ -11,9 +11,9 @@ use Rattle.writing.specs.Input.{linesFrom}
 use Rattle.bench_write.specs.Texts.{talliesText}
 use Rattle.bench_write.specs.declared.tallies.Tally.{Tally}
 use Rattle.bench_replies.specs.Replies.{countedOf}
-use Rattle.bench_stream.specs.Lines.{Open, under, startRow, stateFrom, replyNow, said, heard, benchByte, benchFrom}
+use Rattle.bench_stream.specs.Lines.{Open, under, stateFrom, replyNow, said, benchByte, benchFrom}
 use Rattle.bench_stream.specs.Stream.{saidAtEnd, saidLast, opened, repliesFrom}
-use Rattle.bench_stream.specs.StreamLaws.{fresh, start-fresh, saidAll, whole}
+use Rattle.bench_stream.specs.StreamLaws.{start-fresh, saidAll, whole}
 use Rattle.bench_stream.specs.TallyLaws.{atLine, kindIn, tallyOf, with-tally, moved, told-in, any-order}
 
 -- before the first byte

@@ -6,13 +6,13 @@ use mathlib.Core.List.{List, [], _∷_, _++_, append-assoc}
 use native.Mathlib.Nat.{min-le-left}
 use native.Mathlib.Omega.{arith}
 use lib.Dec.{leb}
-use lib.ListN.{length, take, length-append, length-take}
+use lib.ListN.{length, length-append, length-take}
 use lib.Ieee.{Float, binary64, toBits}
 use Rattle.phrases.specs.Pieces.{letters, pieceText, roomOf, upTo, roomTo}
 use Rattle.phrases.specs.PieceLaws.{upto-length}
 use Rattle.phrases.specs.declared.Piece.the-variants.{Letters}
 use Rattle.drag.specs.declared.nanoseconds.Verdict.{Verdict}
-use Rattle.bench_write.specs.Texts.{fixedText, countText, wordText, signOf, excessText, weighedText, noVerdictText, ticksOf, kneesOf, minusText, sizeText, decrementText}
+use Rattle.bench_write.specs.Texts.{fixedText, countText, wordText, signOf, excessText, weighedText, noVerdictText, kneesOf, minusText, sizeText, decrementText}
 use Rattle.bench_write.specs.Texts.{judgedCounts, otherCounts, talliesText, saidText, shownOf, textUnder, longestOf}
 use Rattle.bench_write.specs.Pieces.{passesPiece, weighedPiece, noVerdictPiece, minusPiece, sizedPiece, decrementPiece, badPiece}
 use Rattle.bench_write.specs.Pieces.{labelPiece, countAt, countPiece, talliesPiece, pieceOf, piecesOf}

@@ -7,6 +7,4 @@ mod write;
 
 pub use crate::said::Said;
 pub use crate::tallies::Tally;
-pub use crate::write::LONGEST_REPLY;
-pub use crate::write::LONGEST_TALLIES;
 pub use crate::write::put_said;

@@ -31,9 +31,9 @@ fn passes_piece(passes: bool) -> Piece
     ensures { λ r. ⌜ r ≡ passesPiece passes ⌝ }
 {
     if passes {
-        return Piece::Letters(0x20_7061_7373_20, 6);
+        return Piece::Letters(0x20_7061_7373_20, 6); // pass
     }
-    Piece::Letters(0x20_6472_6167_7320, 7)
+    Piece::Letters(0x20_6472_6167_7320, 7) // drags
 }
 
 fn sign(quicker: bool) -> u64

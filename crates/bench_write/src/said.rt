@@ -11,6 +11,14 @@ use phrases::Piece;
 ghost use mathlib.Core.Path.{_≡_};
 ghost use Rattle.bench_write.specs.Pieces.{pieceOf, shapeOf};
 
+// No answer to a line is longer, its name counted, and no summary.
+const REPLY: usize = 88;
+
+const SUMMARY: usize = 145;
+
+// A name has no more bytes.
+const NAME: usize = 32;
+
 // To a knee, to two peaks, to a bad line; and at the input's end.
 pub enum Said {
     Weighed(Verdict),
@@ -47,33 +55,33 @@ pub fn shape_of(said: Said) -> Shape
     match said {
         Said::Weighed(_) => Shape {
             pieces: 8,
-            shown: 32,
-            longest: 88,
+            shown: NAME,
+            longest: REPLY,
         },
         Said::NoVerdict(_) => Shape {
             pieces: 4,
-            shown: 32,
-            longest: 88,
+            shown: NAME,
+            longest: REPLY,
         },
         Said::Decrement(_) => Shape {
             pieces: 7,
             shown: 0,
-            longest: 88,
+            longest: REPLY,
         },
         Said::NoDecrement(_) => Shape {
             pieces: 3,
             shown: 0,
-            longest: 88,
+            longest: REPLY,
         },
         Said::Bad => Shape {
             pieces: 2,
             shown: 0,
-            longest: 88,
+            longest: REPLY,
         },
         Said::Tallies(_) => Shape {
             pieces: 15,
             shown: 0,
-            longest: 145,
+            longest: SUMMARY,
         },
     }
 }

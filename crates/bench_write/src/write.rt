@@ -14,11 +14,6 @@ ghost use Rattle.phrases.specs.Pieces.{roomTo};
 ghost use Rattle.bench_write.specs.Texts.{saidText, textUnder, longestOf};
 ghost use Rattle.bench_write.specs.Pieces.{pieceOf, piecesOf};
 
-// No answer to a line is longer, and no summary.
-pub const LONGEST_REPLY: usize = 88;
-
-pub const LONGEST_TALLIES: usize = 145;
-
 // All its pieces, which are so many.
 fn put_pieces(said: Said, n: u64, out: &mut [u8], at: usize) -> usize
     requires { ⌜ n ≡ piecesOf said ⌝ }

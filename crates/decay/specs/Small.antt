@@ -1,6 +1,6 @@
 -- The decrement of any two peaks is below 2 ^ 20: ln of a finite f64 above zero is an answer of 64 binary digits at most in parts of
 -- 2 ^ -52 or less, and the quotient of two numbers from 1 to 2 ^ 53 is such an f64. Assumes nothing.
-use Prim.Native.Nat.{ℕ, _+_, _-_, _*_, _/_, _%_, _^_, _≤_, _<_}
+use Prim.Native.Nat.{ℕ, _+_, _-_, _*_, _^_, _≤_, _<_}
 use mathlib.Core.Path.{_≡_, refl, sym, ap, _∙_, subst}
 use mathlib.Core.Bool.{true, false}
 use mathlib.Core.List.{[], _∷_}
@@ -17,7 +17,7 @@ use Rattle.enclosure.specs.Rules.{ln-answer, ln-below-answer, gain-answer, loss
 use Rattle.series.specs.Pattern.{field, digits}
 use Rattle.series.specs.Near.{signed}
 use Rattle.series.specs.Scaled as whole
-use Rattle.series.specs.Ln.{half, one, two, ln-close, below-exponent, full-digits, ln-below-two, ln}
+use Rattle.series.specs.Ln.{half, one, two, ln-close, below-exponent, full-digits, ln}
 use Rattle.series.specs.Cases as cases
 use Rattle.series.specs.Exponents.{full-low, full-high, digits-most, answer-fits, answer-size, below-fits, below-size}
 use Rattle.binary64.specs.Meaning.{bits-back}

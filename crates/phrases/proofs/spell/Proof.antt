@@ -1,9 +1,8 @@
 -- `spell` meets its contract. The invariant: what is left of the loop writes what the whole loop writes. Assumes nothing.
 use Prim.Native.Nat.{ℕ, zero, suc, _+_, _-_, _/_, _%_, _≤_}
 use mathlib.Core.Path.{_≡_, refl, sym, ap, _∙_}
-use mathlib.Core.List.{List, []}
+use mathlib.Core.List.{List}
 use native.Mathlib.Omega.{arith}
-use native.Mathlib.Nat.{mod-lt}
 use lib.ListN.{length, set, length-set}
 use lib.Seq.{sets}
 use denote.Ref.{now}

@@ -1,5 +1,5 @@
 -- `ended` meets its contract: a line that has begun ends with the input. Assumes nothing.
-use Prim.Native.Nat.{ℕ, _≤_}
+use Prim.Native.Nat.{ℕ}
 use mathlib.Core.Path.{_≡_, sym, subst}
 use mathlib.Core.Bool.{Bool, cond}
 use mathlib.Core.List.{List}

@@ -12,7 +12,7 @@ use Rattle.io.specs.Counts.{Counts}
 use Rattle.writing.specs.Fed.{Fed}
 use Rattle.writing.specs.Parts.{take-least}
 use Rattle.writing.specs.Written.{Put, Tried, tried-put, put-more, put-none, put-length, place-most}
-use Rattle.bench_write.specs.Texts.{saidText, shownOf, textUnder, talliesText, longestReply, longestTallies, longestOf}
+use Rattle.bench_write.specs.Texts.{saidText, shownOf, textUnder, longestReply, longestTallies, longestOf}
 use Rattle.bench_write.specs.declared.tallies.Tally.{Tally}
 use Rattle.bench_write.specs.declared.said.Said.the-variants.{Tallies}
 use Rattle.bench_stream.specs.Lines.{Open, under, heldLength}

@@ -1,10 +1,9 @@
 -- `put_pieces` meets its contract. The invariant: the first i pieces were written. Assumes nothing.
 use Prim.Native.Nat.{ℕ, _+_, _-_, _≤_, _<_}
-use mathlib.Core.Path.{_≡_, sym, ap, _∙_, subst}
+use mathlib.Core.Path.{_≡_, ap, _∙_, subst}
 use mathlib.Core.List.{List}
 use native.Mathlib.Omega.{arith}
 use lib.ListN.{length}
-use denote.Ref.{now}
 use Rattle.writing.specs.Written.{Put, Tried, put-length}
 use Rattle.phrases.specs.Pieces.{pieceText, roomOf, upTo, roomTo}
 use Rattle.phrases.specs.PieceLaws.{pieces-none, pieces-next}
