@@ -1,5 +1,5 @@
--- What is written to an input as a whole, by its lines: a reply to each, by the line alone, and the text of the lines' tallies, which
--- is the same in whatever order they stand. Assumes nothing.
+-- What is written to an input as a whole, by its lines: a reply to each, by the line alone, and the text of the lines' tallies,
+-- which is the same in whatever order they stand. Assumes nothing.
 use Prim.Native.Nat.{ℕ}
 use mathlib.Core.Path.{_≡_, refl, sym, ap, _∙_}
 use mathlib.Core.Bool.{Bool, true, false}
@@ -55,7 +55,8 @@ module _ (decays : Bool) where
   all-lines : (summary : Bool) (input : List ℕ) → saidAll summary (start decays) input
       ≡ textsIn decays (linesFrom [] input) ++ saidAtEnd summary (tallyOf decays noTally (linesFrom [] input))
   unfolding stateFrom
-  all-lines summary input = whole summary (start decays) input (start-fresh decays) ∙ by-lines summary (linesFrom [] input) noTally
+  all-lines summary input =
+      whole summary (start decays) input (start-fresh decays) ∙ by-lines summary (linesFrom [] input) noTally
 
   -- THE LAWS: without a summary there is a reply to each line; with it, the text of the lines' tallies comes after them
   pub plain-is : (input : List ℕ) → saidAll false (start decays) input ≡ textsIn decays (linesFrom [] input) ++ []

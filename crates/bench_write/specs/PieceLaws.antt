@@ -12,9 +12,11 @@ use Rattle.phrases.specs.Pieces.{letters, pieceText, roomOf, upTo, roomTo}
 use Rattle.phrases.specs.PieceLaws.{upto-length}
 use Rattle.phrases.specs.declared.Piece.the-variants.{Letters}
 use Rattle.drag.specs.declared.nanoseconds.Verdict.{Verdict}
-use Rattle.bench_write.specs.Texts.{fixedText, countText, wordText, signOf, excessText, weighedText, noVerdictText, kneesOf, minusText, sizeText, decrementText}
+use Rattle.bench_write.specs.Texts.{fixedText, countText, wordText, signOf, excessText, weighedText, noVerdictText}
+use Rattle.bench_write.specs.Texts.{kneesOf, minusText, sizeText, decrementText}
 use Rattle.bench_write.specs.Texts.{judgedCounts, otherCounts, talliesText, saidText, shownOf, textUnder, longestOf}
-use Rattle.bench_write.specs.Pieces.{passesPiece, weighedPiece, noVerdictPiece, minusPiece, sizedPiece, decrementPiece, badPiece}
+use Rattle.bench_write.specs.Pieces.{passesPiece, weighedPiece, noVerdictPiece, minusPiece, sizedPiece, decrementPiece}
+use Rattle.bench_write.specs.Pieces.{badPiece}
 use Rattle.bench_write.specs.Pieces.{labelPiece, countAt, countPiece, talliesPiece, pieceOf, piecesOf}
 use Rattle.bench_write.specs.declared.tallies.Tally.{Tally}
 use Rattle.bench_write.specs.declared.said.Said.{Said}
@@ -120,7 +122,8 @@ minus-room bits = go (leb (2 ^ 63) bits)
 
 -- THE LAW: a name's bytes and the pieces have room
 pub pieces-fit : (s : Said) → shownOf s + roomTo (pieceOf s) (piecesOf s) ≤ longestOf s
-unfolding pieceOf piecesOf shownOf longestOf roomTo weighedPiece noVerdictPiece decrementPiece sizedPiece badPiece talliesPiece countPiece labelPiece roomOf
+unfolding pieceOf piecesOf shownOf longestOf roomTo roomOf weighedPiece noVerdictPiece decrementPiece sizedPiece badPiece
+    talliesPiece countPiece labelPiece
 pieces-fit (Weighed v) = omega (arith, passes-room (v .passes))
 pieces-fit (NoVerdict n) = omega arith
 pieces-fit (Decrement x) = omega (arith, minus-room (toBits binary64 x))

@@ -1,4 +1,4 @@
--- The places of a decrement that are printed are its value's to the nearest, whatever the peaks: it is below 2 ^ 20. Assumes nothing.
+-- The printed places of a decrement are its value's to the nearest, whatever the peaks: it is below 2 ^ 20. Assumes nothing.
 use Prim.Native.Nat.{ℕ, _+_, _*_, _%_, _^_, _<_}
 use mathlib.Core.Path.{_≡_, refl, sym, ap, _∙_, subst}
 use mathlib.Core.Bool.{Bool, true, false, _&&_, cond}
@@ -29,7 +29,8 @@ module _ (x : Float) (s : Small x) where
   pattern-is : toBits binary64 x % 2 ^ 63 ≡ s .bits
   pattern-is =
       ap (λ (n : ℕ). n % 2 ^ 63) (ap (λ (y : Float). toBits binary64 y) (s .is)
-      ∙ sym (signed-bits (s .sign) (s .bits) (s .sign-is) (finite (s .bits) (s .below)))) ∙ unsigned (s .bits) (s .sign) (s .below)
+      ∙ sym (signed-bits (s .sign) (s .bits) (s .sign-is) (finite (s .bits) (s .below))))
+      ∙ unsigned (s .bits) (s .sign) (s .below)
     where
       finite : (n : ℕ) → n < 1043 * 2 ^ 52 → n < 2047 * 2 ^ 52
       finite n h = omega arith

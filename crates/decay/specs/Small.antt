@@ -1,5 +1,5 @@
--- The decrement of any two peaks is below 2 ^ 20: ln of a finite f64 above zero is an answer of 64 binary digits at most in parts of
--- 2 ^ -52 or less, and the quotient of two numbers from 1 to 2 ^ 53 is such an f64. Assumes nothing.
+-- The decrement of any two peaks is below 2 ^ 20: ln of a finite f64 above zero is an answer of 64 binary digits at most in
+-- parts of 2 ^ -52 or less, and the quotient of two numbers from 1 to 2 ^ 53 is such an f64. Assumes nothing.
 use Prim.Native.Nat.{ℕ, _+_, _-_, _*_, _^_, _≤_, _<_}
 use mathlib.Core.Path.{_≡_, refl, sym, ap, _∙_, subst}
 use mathlib.Core.Bool.{true, false}
@@ -58,7 +58,8 @@ module _ (x : Float) (b : ℕ) (is : b ≡ toBits binary64 x) where
       let few = digits-most e m range in
       let long = answer-size e m range in
       subst Small (cases.ln-from x b is h l)
-      (answered (ln-answer (size e) e m) (63 - size e) 0 (omega arith) (answer-fits e m range) (omega arith) (omega arith) (omega arith))
+      (answered (ln-answer (size e) e m) (63 - size e) 0 (omega arith) (answer-fits e m range) (omega arith) (omega arith)
+      (omega arith))
 
   above-one : one < b → b < two → Small (ln x)
   above-one h l =
@@ -67,10 +68,12 @@ module _ (x : Float) (b : ℕ) (is : b ≡ toBits binary64 x) where
       let same : 2 * (b - one) ≡ n = omega arith in
       let some : 1 ≤ n = omega arith in
       let most : n < 2 ^ 53 = omega arith in
-      let sizes = above-one-size (digits b) j (omega arith) (omega arith) (full-low n some most) (le-of-lt (full-high n some most)) in
+      let fits = le-of-lt (full-high n some most) in
+      let sizes = above-one-size (digits b) j (omega arith) (omega arith) (full-low n some most) fits in
       let short = sizes .1 in
       subst Small
-      (ap (λ (k : ℕ). ln-close false k) (sym same) ∙ cases.ln-above-one b (omega arith) (λ e. omega arith) ∙ cases.ln-under x b is l)
+      (ap (λ (k : ℕ). ln-close false k) (sym same) ∙ cases.ln-above-one b (omega arith) (λ e. omega arith)
+      ∙ cases.ln-under x b is l)
       (answered (gain-answer j n) (61 + j) 0 (sizes .0) (omega arith) (omega arith) (omega arith) (omega arith))
 
   at-one : b ≡ one → Small (ln x)
@@ -85,7 +88,8 @@ module _ (x : Float) (b : ℕ) (is : b ≡ toBits binary64 x) where
       let same : one - b ≡ n = omega arith in
       let some : 1 ≤ n = omega arith in
       let most : n < 2 ^ 53 = omega arith in
-      let sizes = below-one-size (digits b) j (omega arith) (omega arith) (full-low n some most) (le-of-lt (full-high n some most)) in
+      let fits = le-of-lt (full-high n some most) in
+      let sizes = below-one-size (digits b) j (omega arith) (omega arith) (full-low n some most) fits in
       let short = sizes .1 in
       subst Small
       (ap (λ (k : ℕ). ln-close true k) (sym same) ∙ cases.ln-below-one b h l ∙ cases.ln-under x b is (omega arith))

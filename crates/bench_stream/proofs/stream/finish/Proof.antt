@@ -37,7 +37,8 @@ module _ (held : List ℕ) (s : State) (n r : ℕ) (l : length held ≡ heldLeng
   unfolding saidLast
   told summary {out} {next} p =
       subst (λ (name : List ℕ). Put o 0 (saidLast summary (under s name)) out next) is
-      (put-more (f .said) (subst (λ (x : Open). Put half used (saidAtEnd summary (x .state .tally)) out next) (f .left) p))
+      (put-more (f .said)
+      (subst (λ (x : Open). Put half used (saidAtEnd summary (x .state .tally)) out next) (f .left) p))
 
   counts : (summary : Bool) {out : List ℕ} {next : ℕ} → Put o 0 (saidLast summary (under s (take n held))) out next → Counts next out
   counts summary {out} {next} p =
@@ -56,7 +57,8 @@ module _ (held : List ℕ) (s : State) (n r : ℕ) (l : length held ≡ heldLeng
   not-asked : (summary : Bool) → summary ≡ false → Put o 0 (saidLast summary (under s (take n held))) half used × Counts used half
   unfolding saidAtEnd
   not-asked summary e =
-      let p = told summary (subst (λ (b : Bool). Put half used (saidAtEnd b (u .state .tally)) half used) (sym e) (put-none half used)) in
+      let p =
+      told summary (subst (λ (b : Bool). Put half used (saidAtEnd b (u .state .tally)) half used) (sym e) (put-none half used)) in
       (p, counts summary p)
 
 returns : tie.Need-returns
@@ -68,7 +70,8 @@ returns c =
     let held : length (now (s .args .held)) ≡ heldLength = search needs in
     let full : length (now (s .args .out)) ≡ 65536 = search needs in
     asked (now (s .args .held)) (s .args .s) (s .args .n) (l .least .result) held
-    (take-least (now (s .args .held)) heldLength (s .args .n) (l .least .result) held (l .least .ensures .2)) full (e .ended .ensures)
+    (take-least (now (s .args .held)) heldLength (s .args .n) (l .least .result) held (l .least .ensures .2)) full
+    (e .ended .ensures)
     (s .args .summary) (i .if1 .taken) (c .put-said .ensures)
 
 returns-2 : tie.Need-returns-2
@@ -79,7 +82,8 @@ returns-2 c =
     let held : length (now (s .args .held)) ≡ heldLength = search needs in
     let full : length (now (s .args .out)) ≡ 65536 = search needs in
     not-asked (now (s .args .held)) (s .args .s) (s .args .n) (l .least .result) held
-    (take-least (now (s .args .held)) heldLength (s .args .n) (l .least .result) held (l .least .ensures .2)) full (e .ended .ensures)
+    (take-least (now (s .args .held)) heldLength (s .args .n) (l .least .result) held (l .least .ensures .2)) full
+    (e .ended .ensures)
     (s .args .summary) (c .if1 .left)
 
 pub finish-spec : {M : Type 1} → statement M

@@ -14,4 +14,11 @@ count-spec =
     (λ c. rw (c .match .keys2))
     (λ c. rw (c .match .keys3))
     (λ c. rw (c .match .keys4))
-    (λ c. rw (ne-eqb _ _ (c .match .rest .0 .0 .0 .1), ne-eqb _ _ (c .match .rest .0 .0 .1), ne-eqb _ _ (c .match .rest .0 .1), ne-eqb _ _ (c .match .rest .1))))
+    (λ c.
+    let r = c .match .rest in
+    rw (
+      ne-eqb _ _ (r .0 .0 .0 .1),
+      ne-eqb _ _ (r .0 .0 .1),
+      ne-eqb _ _ (r .0 .1),
+      ne-eqb _ _ (r .1),
+    )))

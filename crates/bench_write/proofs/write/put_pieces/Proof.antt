@@ -25,7 +25,8 @@ module _ (s : Said) {n at : ℕ} {o : List ℕ} (e : n ≡ piecesOf s) (room : a
 
   all : {i next : ℕ} {out : List ℕ} → i ≤ n → n ≤ i → Put o at (upTo (pieceOf s) i) out next → Put o at (saidText s) out next
   all {i} {next} {out} h k p =
-      subst (λ (l : List ℕ). Put o at l out next) (ap (upTo (pieceOf s)) (let f : i ≡ n = omega arith in f) ∙ ap (upTo (pieceOf s)) e ∙ pieces-are s) p
+      let f : i ≡ n = omega arith in
+      subst (λ (l : List ℕ). Put o at l out next) (ap (upTo (pieceOf s)) (f ∙ e) ∙ pieces-are s) p
 
 abbrev Inv-loop : tie.InvT-loop
 Inv-loop s n out₀ at i₀ next₀ out i next = (i ≤ n) × Put out₀ at (upTo (pieceOf s) i) out next
@@ -38,8 +39,11 @@ loop-again c =
     let p = c .before .before in
     let a = p .before .before in
     let l = a .before .before in
-    let s = l .before .before in
-    (omega arith, more (s .args .said) (s .pre .0) (s .pre .1) _ (a .before .loop-test .taken) (a .piece-at .ensures) (l .loop .inv .1) (p .put-piece .ensures))
+    let s = l .before .before in (
+      omega arith,
+      more (s .args .said) (s .pre .0) (s .pre .1) _ (a .before .loop-test .taken) (a .piece-at .ensures) (l .loop .inv .1)
+          (p .put-piece .ensures),
+    )
 
 returns : tie.Need-returns Inv-loop μ-loop
 returns c =
