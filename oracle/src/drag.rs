@@ -171,7 +171,7 @@ fn knee_text(name: &str, [length, height, gravity, time, limit]: Knee) -> String
     format!("{name} {length} {height} {gravity} {time} {limit}")
 }
 
-/// N good lines and their answers, as target/drag/knees.txt and knees.expected: for tools/bench-answers.
+/// N good lines and their answers, as target/drag/knees.txt and knees.expected, and N pairs of peaks likewise: for tools/bench-answers.
 pub fn files(n: u64, seed: u64) -> bool {
     let mut random = Random::new(seed);
     let (mut text, mut answers) = (String::new(), String::new());
@@ -181,12 +181,20 @@ pub fn files(n: u64, seed: u64) -> bool {
         writeln!(text, "{}", knee_text(&name, knee)).expect("a text takes what is written");
         answers += &verdict_line(&name, knee);
     }
+    let (mut pairs, mut decrements) = (String::new(), String::new());
+    for _ in 0..n {
+        let (a, b) = peaks(&mut random);
+        writeln!(pairs, "{a} {b}").expect("a text takes what is written");
+        decrements += &decrement_line(a, b);
+    }
     let folder = root().join("target/drag");
     let put = |name: &str, text: String| std::fs::write(folder.join(name), text).expect("the file can be written");
     std::fs::create_dir_all(&folder).expect("the folder can be made");
     put("knees.txt", text);
     put("knees.expected", answers);
-    println!("target/drag: {n} lines, seed {seed}");
+    put("peaks.txt", pairs);
+    put("peaks.expected", decrements);
+    println!("target/drag: {n} knees and {n} pairs of peaks, seed {seed}");
     true
 }
 

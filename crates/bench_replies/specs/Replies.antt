@@ -1,9 +1,7 @@
--- A line of the bench that has ended: its reply, the reply's text, and the tally that it is told in. Definitions only.
+-- A line of the bench that has ended: its reply, and the tally that it is told in. Definitions only.
 use Prim.Native.Nat.{ℕ, _+_, _%_, _^_}
 use mathlib.Core.Bool.{Bool, cond}
-use mathlib.Core.List.{List}
 use lib.Dec.{eqb}
-use Rattle.writing.specs.Bad.{badText}
 use Rattle.bench_read.specs.Rows.{kneeOf, peaksOf}
 use Rattle.bench_read.specs.declared.rows.Row.{Row}
 use Rattle.bench_read.specs.declared.ends.Knee.{Knee}
@@ -12,43 +10,43 @@ use Rattle.bench_read.specs.declared.ends.Peaks.{Peaks}
 use Rattle.bench_read.specs.declared.ends.Peaks.the-variants.{Two, Bad as NoPeaks}
 use Rattle.drag.specs.Verdict.{dragOf}
 use Rattle.drag.specs.declared.knee.Judged.{Judged}
-use Rattle.drag.specs.declared.knee.Judged.the-variants.{Weighed, Refused as NoVerdict}
+use Rattle.drag.specs.declared.knee.Judged.the-variants.{Weighed as Judgement, Refused as NoJudgement}
 use Rattle.decay.specs.Decrement.{decayOf}
-use Rattle.bench_write.specs.Texts.{kneeText, peaksText, longestKnee}
+use Rattle.decay.specs.declared.Decay.{Decay}
+use Rattle.decay.specs.declared.Decay.the-variants.{Decrement as Decayed, Refused as NoDecay}
+use Rattle.bench_write.specs.declared.said.Said.{Said}
+use Rattle.bench_write.specs.declared.said.Said.the-variants.{Weighed, NoVerdict, Decrement, NoDecrement, Bad, Tallies}
 use Rattle.bench_write.specs.declared.tallies.Tally.{Tally}
-use Rattle.bench_replies.specs.declared.asked.Reply.{Reply}
-use Rattle.bench_replies.specs.declared.asked.Reply.the-variants.{Knee as OfKnee, Peaks as OfPeaks, Bad}
 
-unfoldable pub kneeReply : Knee → Reply
-kneeReply (Good length height gravity time limit) = OfKnee (dragOf length height gravity time limit)
+-- what is said to a verdict or a decrement, or to a refusal
+unfoldable pub ofJudged : Judged → Said
+ofJudged (Judgement v) = Weighed v
+ofJudged (NoJudgement n) = NoVerdict n
+
+unfoldable pub ofDecay : Decay → Said
+ofDecay (Decayed x) = Decrement x
+ofDecay (NoDecay n) = NoDecrement n
+
+unfoldable pub kneeReply : Knee → Said
+kneeReply (Good length height gravity time limit) = ofJudged (dragOf length height gravity time limit)
 kneeReply NoKnee = Bad
 
-unfoldable pub peaksReply : Peaks → Reply
-peaksReply (Two a b) = OfPeaks (decayOf a b)
+unfoldable pub peaksReply : Peaks → Said
+peaksReply (Two a b) = ofDecay (decayOf a b)
 peaksReply NoPeaks = Bad
 
 -- of two peaks, or of a knee whose name has so many bytes
-unfoldable pub replyOf : Bool → Row → ℕ → Reply
+unfoldable pub replyOf : Bool → Row → ℕ → Said
 replyOf decays row name = cond decays (peaksReply (peaksOf row)) (kneeReply (kneeOf row name))
 
--- "or `bad line`"
-unfoldable pub replyText : Reply → List ℕ → List ℕ
-replyText (OfKnee judged) name = kneeText name judged
-replyText (OfPeaks decay) name = peaksText decay
-replyText Bad name = badText
-
-abbrev pub longestReply : ℕ
-longestReply = longestKnee
-
 -- ---- which tally a reply is told in: 0 passed, 1 drags, 2 refused, 3 a bad line, 4 none
-unfoldable pub verdictKind : Judged → ℕ
-verdictKind (Weighed v) = cond (v .passes) 0 1
-verdictKind (NoVerdict n) = 2
-
-unfoldable pub kindOf : Reply → ℕ
-kindOf (OfKnee judged) = verdictKind judged
-kindOf (OfPeaks decay) = 4
+unfoldable pub kindOf : Said → ℕ
+kindOf (Weighed v) = cond (v .passes) 0 1
+kindOf (NoVerdict n) = 2
+kindOf (Decrement x) = 4
+kindOf (NoDecrement n) = 4
 kindOf Bad = 3
+kindOf (Tallies t) = 4
 
 -- one more, in a word
 unfoldable pub moreOf : ℕ → Bool → ℕ
@@ -62,5 +60,5 @@ countedOf t kind = record {
   bad = moreOf (t .bad) (eqb kind 3);
 }
 
-unfoldable pub talliedOf : Tally → Reply → Tally
+unfoldable pub talliedOf : Tally → Said → Tally
 talliedOf t reply = countedOf t (kindOf reply)

@@ -4,45 +4,54 @@ use bench_read::Peaks;
 use bench_read::Row;
 use bench_read::knee_of;
 use bench_read::peaks_of;
+use bench_write::Said;
 use decay::Decay;
 use decay::decrement;
 use drag::Judged;
 use drag::judge;
 ghost use mathlib.Core.Path.{_≡_};
-ghost use Rattle.bench_replies.specs.Replies.{kneeReply, peaksReply, replyOf};
+ghost use Rattle.bench_replies.specs.Replies.{ofJudged, ofDecay, kneeReply, peaksReply, replyOf};
 
-pub enum Reply {
-    Knee(Judged),
-    Peaks(Decay),
-    Bad,
-}
-
-fn knee_reply(knee: Knee) -> Reply
-    ensures { λ r. ⌜ r ≡ kneeReply knee ⌝ }
+fn of_judged(judged: Judged) -> Said
+    ensures { λ r. ⌜ r ≡ ofJudged judged ⌝ }
 {
-    match knee {
-        Knee::Good(length, height, gravity, time, limit) => Reply::Knee(judge(
-            length,
-            height,
-            gravity,
-            time,
-            limit,
-        )),
-        Knee::Bad => Reply::Bad,
+    match judged {
+        Judged::Weighed(verdict) => Said::Weighed(verdict),
+        Judged::Refused(number) => Said::NoVerdict(number),
     }
 }
 
-fn peaks_reply(peaks: Peaks) -> Reply
+fn of_decay(decay: Decay) -> Said
+    ensures { λ r. ⌜ r ≡ ofDecay decay ⌝ }
+{
+    match decay {
+        Decay::Decrement(value) => Said::Decrement(value),
+        Decay::Refused(number) => Said::NoDecrement(number),
+    }
+}
+
+fn knee_reply(knee: Knee) -> Said
+    ensures { λ r. ⌜ r ≡ kneeReply knee ⌝ }
+{
+    match knee {
+        Knee::Good(length, height, gravity, time, limit) => {
+            of_judged(judge(length, height, gravity, time, limit))
+        }
+        Knee::Bad => Said::Bad,
+    }
+}
+
+fn peaks_reply(peaks: Peaks) -> Said
     ensures { λ r. ⌜ r ≡ peaksReply peaks ⌝ }
 {
     match peaks {
-        Peaks::Two(a, b) => Reply::Peaks(decrement(a, b)),
-        Peaks::Bad => Reply::Bad,
+        Peaks::Two(a, b) => of_decay(decrement(a, b)),
+        Peaks::Bad => Said::Bad,
     }
 }
 
 // The reply to a line, of two peaks or of a knee whose name has so many bytes.
-pub fn reply_to(decays: bool, row: Row, name: usize) -> Reply
+pub fn reply_to(decays: bool, row: Row, name: usize) -> Said
     ensures { λ r. ⌜ r ≡ replyOf decays row name ⌝ }
 {
     if decays {

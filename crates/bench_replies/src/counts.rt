@@ -1,33 +1,25 @@
 // A day's tallies. Which of them a reply is told in is a number.
-use crate::asked::Reply;
+use bench_write::Said;
 use bench_write::Tally;
-use drag::Judged;
 ghost use mathlib.Core.Path.{_≡_};
-ghost use Rattle.bench_replies.specs.Replies.{verdictKind, kindOf, moreOf, countedOf, talliedOf};
+ghost use Rattle.bench_replies.specs.Replies.{kindOf, moreOf, countedOf, talliedOf};
 
-// 0 passed, 1 drags, 2 refused.
-fn verdict_kind(judged: Judged) -> u64
-    ensures { λ r. ⌜ r ≡ verdictKind judged ⌝ }
+// 0 passed, 1 drags, 2 refused, 3 a bad line, 4 none of these.
+fn kind(reply: Said) -> u64
+    ensures { λ r. ⌜ r ≡ kindOf reply ⌝ }
 {
-    match judged {
-        Judged::Weighed(verdict) => {
+    match reply {
+        Said::Weighed(verdict) => {
             if verdict.passes {
                 return 0;
             }
             1
         }
-        Judged::Refused(_) => 2,
-    }
-}
-
-// 3 a bad line, 4 none of these.
-fn kind(reply: Reply) -> u64
-    ensures { λ r. ⌜ r ≡ kindOf reply ⌝ }
-{
-    match reply {
-        Reply::Knee(judged) => verdict_kind(judged),
-        Reply::Peaks(_) => 4,
-        Reply::Bad => 3,
+        Said::NoVerdict(_) => 2,
+        Said::Decrement(_) => 4,
+        Said::NoDecrement(_) => 4,
+        Said::Bad => 3,
+        Said::Tallies(_) => 4,
     }
 }
 
@@ -51,7 +43,7 @@ fn counted(t: Tally, kind: u64) -> Tally
     }
 }
 
-pub fn tallied(t: Tally, reply: Reply) -> Tally
+pub fn tallied(t: Tally, reply: Said) -> Tally
     ensures { λ r. ⌜ r ≡ talliedOf t reply ⌝ }
 {
     counted(t, kind(reply))

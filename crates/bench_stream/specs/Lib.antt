@@ -2,3 +2,4 @@ pub mod Lines
 pub mod Stream
 pub mod StreamLaws
 pub mod TallyLaws
+pub mod Summary

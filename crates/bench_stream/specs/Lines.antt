@@ -7,9 +7,9 @@ use lib.ListN.{length, take}
 use Rattle.writing.specs.Fed.{Ran, quiet, run}
 use Rattle.bench_read.specs.Rows.{rowFrom, named, rowAfter}
 use Rattle.bench_read.specs.declared.rows.Row.{Row}
-use Rattle.bench_write.specs.declared.tallies.Tally.{Tally}
-use Rattle.bench_replies.specs.Replies.{replyOf, replyText, talliedOf}
-use Rattle.bench_replies.specs.declared.asked.Reply.{Reply}
+use Rattle.bench_write.specs.Texts.{textUnder}
+use Rattle.bench_write.specs.declared.said.Said.{Said}
+use Rattle.bench_replies.specs.Replies.{replyOf, talliedOf}
 use Rattle.bench_stream.specs.declared.lines.State.{State}
 
 -- ---- the code's state
@@ -28,7 +28,7 @@ stateFrom decays = record {
 unfoldable pub stateAfter : State → ℕ → State
 stateAfter s b = record { decays = s .decays; row = rowAfter (s .row) b; tally = s .tally }
 
-unfoldable pub stateHeard : State → Reply → State
+unfoldable pub stateHeard : State → Said → State
 stateHeard s reply = record { decays = s .decays; row = startRow (s .decays); tally = talliedOf (s .tally) reply }
 
 -- ---- with the name that is held of a line that has not ended: one byte more than the longest good one has
@@ -49,11 +49,11 @@ unfoldable pub openAfter : Open → ℕ → Open
 openAfter s b = under (stateAfter (s .state) b) (nameAfter (s .state .row) (s .name) b)
 
 -- ---- the line that is read so far ends
-unfoldable pub replyNow : Open → Reply
+unfoldable pub replyNow : Open → Said
 replyNow s = replyOf (s .state .decays) (s .state .row) (length (s .name))
 
 unfoldable pub said : Open → List ℕ
-said s = replyText (replyNow s) (s .name)
+said s = textUnder (replyNow s) (s .name)
 
 unfoldable pub heard : Open → Open
 heard s = under (stateHeard (s .state) (replyNow s)) []

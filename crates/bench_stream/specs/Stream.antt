@@ -1,24 +1,24 @@
 -- The bench's input as a whole: a reply to each line, and the tallies at its end, if they are asked for. Definitions only.
-use Prim.Native.Nat.{ℕ, _+_}
+use Prim.Native.Nat.{ℕ}
 use mathlib.Core.Bool.{Bool, cond}
 use mathlib.Core.List.{List, [], _∷_, _++_}
 use lib.Dec.{eqb}
 use lib.ListN.{take}
-use Rattle.writing.specs.Fed.{Ran, Fed}
-use Rattle.bench_write.specs.Texts.{talliesText, longestTallies}
+use Rattle.writing.specs.Fed.{Ran, quiet, Fed}
+use Rattle.bench_write.specs.Texts.{talliesText}
 use Rattle.bench_write.specs.declared.tallies.Tally.{Tally}
-use Rattle.bench_replies.specs.Replies.{longestReply}
-use Rattle.bench_stream.specs.Lines.{Open, under, openAfter, said, heard}
+use Rattle.bench_stream.specs.Lines.{Open, under, openAfter, said, heard, lineEnd}
 use Rattle.bench_stream.specs.declared.stream.Progress.{Progress}
 
 -- ---- at the input's end: a line that has begun ends there; then the tallies
 unfoldable pub saidAtEnd : Bool → Tally → List ℕ
 saidAtEnd summary tally = cond summary (talliesText tally) []
 
+unfoldable pub inputEnd : Open → Ran Open
+inputEnd s = cond (eqb (s .state .row .stage) 0) (quiet s) (lineEnd s)
+
 unfoldable pub saidLast : Bool → Open → List ℕ
-saidLast summary s =
-    cond (eqb (s .state .row .stage) 0) (saidAtEnd summary (s .state .tally))
-    (said s ++ saidAtEnd summary (heard s .state .tally))
+saidLast summary s = inputEnd s .said ++ saidAtEnd summary (inputEnd s .left .state .tally)
 
 -- ---- what is right: a reply to each line of the input, in order, and what is said at its end
 unfoldable pub opened : Open → List ℕ → Open
@@ -32,10 +32,6 @@ repliesFrom summary s (l ∷ ls) = said (opened s l) ++ repliesFrom summary (hea
 -- so many bytes are read at once: the replies to them fit, if each ends a line
 abbrev pub blockLength : ℕ
 blockLength = 512
-
--- at the input's end no more is said than to a line, and the tallies
-abbrev pub longestLast : ℕ
-longestLast = longestReply + longestTallies
 
 -- ---- what a function that is fed some bytes does: some of the bytes in `after` are held, and what is said was put into `out`
 abbrev pub Benches : Ran Open → List ℕ → List ℕ → ℕ → List ℕ → Progress → Type 0

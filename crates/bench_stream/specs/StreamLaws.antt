@@ -10,13 +10,13 @@ use Rattle.writing.specs.Input.{lastLine, linesFrom}
 use Rattle.bench_read.specs.Rows.{rowFrom, rowAfter}
 use Rattle.bench_read.specs.Begun.{begins}
 use Rattle.bench_stream.specs.Lines.{Open, startRow, stateFrom, stateAfter, stateHeard, openAfter, said, heard, lineEnd, benchByte, benchFrom}
-use Rattle.bench_stream.specs.Stream.{saidAtEnd, saidLast, opened, repliesFrom}
+use Rattle.bench_stream.specs.Stream.{saidAtEnd, inputEnd, saidLast, opened, repliesFrom}
 
 -- nothing of a line has come
 abbrev pub fresh : Open → Bool
 fresh s = eqb (s .state .row .stage) 0
 
-start-fresh : (decays : Bool) → eqb (startRow decays .stage) 0 ≡ true
+pub start-fresh : (decays : Bool) → eqb (startRow decays .stage) 0 ≡ true
 unfolding startRow rowFrom
 start-fresh true = refl
 start-fresh false = refl
@@ -42,7 +42,7 @@ opened-last (x ∷ l) s b = opened-last l (openAfter s x) b
 module _ (summary : Bool) where
   -- ---- the whole input
   at-end : (begun : List ℕ) (s : Open) → fresh s ≡ true → saidLast summary (opened s begun) ≡ repliesFrom summary s (lastLine begun)
-  unfolding saidLast lastLine repliesFrom
+  unfolding saidLast inputEnd lastLine repliesFrom
   at-end [] s e = unfold opened in rw e
   at-end (b ∷ l) s e = rw (opened-begun l s b)
 

@@ -25,7 +25,7 @@ tallyOf decays t [] = t
 tallyOf decays t (l ∷ ls) = tallyOf decays (countedOf t (kindIn decays l)) ls
 
 -- ---- what a line is does not hang on the tallies
-with-tally : Open → Tally → Open
+unfoldable pub with-tally : Open → Tally → Open
 with-tally s t = under (record { decays = s .state .decays; row = s .state .row; tally = t }) (s .name)
 
 opened-with : (l : List ℕ) (s : Open) (t : Tally) → opened (with-tally s t) l ≡ with-tally (opened s l) t
@@ -44,7 +44,7 @@ module _ (decays : Bool) where
   kept-flag [] s = refl
   kept-flag (b ∷ l) s = kept-flag l (openAfter s b) ∙ unfold openAfter stateAfter in refl
 
-  moved : (l : List ℕ) (t : Tally) → opened (atLine decays t) l ≡ with-tally (opened (under (stateFrom decays) []) l) t
+  pub moved : (l : List ℕ) (t : Tally) → opened (atLine decays t) l ≡ with-tally (opened (under (stateFrom decays) []) l) t
   unfolding stateFrom with-tally
   moved l t = opened-with l (under (stateFrom decays) []) t
 

@@ -4,8 +4,8 @@ use bench_read::knee_start;
 use bench_read::naming;
 use bench_read::peaks_start;
 use bench_read::row_step;
-use bench_replies::Reply;
 use bench_replies::tallied;
+use bench_write::Said;
 use bench_write::Tally;
 use writing::push;
 ghost use mathlib.Core.Path.{_≡_};
@@ -59,7 +59,7 @@ pub fn after_byte(s: State, b: u8) -> State
 }
 
 // A line has ended, with that reply.
-pub fn after_line(s: State, reply: Reply) -> State
+pub fn after_line(s: State, reply: Said) -> State
     ensures { λ r. ⌜ r ≡ stateHeard s reply ⌝ }
 {
     let tally = s.tally;

@@ -3,10 +3,9 @@ use crate::lines::State;
 use crate::lines::after_byte;
 use crate::lines::after_line;
 use crate::lines::held_after;
-use bench_replies::put_reply;
 use bench_replies::reply_to;
-use bench_write::Tally;
-use bench_write::put_tallies;
+use bench_write::Said;
+use bench_write::put_said;
 use writing::OUT;
 use writing::least;
 ghost use mathlib.Core.Path.{_≡_};
@@ -14,10 +13,9 @@ ghost use Prim.Native.Nat.{_+_, _*_, _≤_};
 ghost use lib.ListN.{length, take};
 ghost use Rattle.io.specs.Counts.{Counts};
 ghost use Rattle.writing.specs.Written.{Put};
-ghost use Rattle.bench_write.specs.Texts.{longestTallies};
-ghost use Rattle.bench_replies.specs.Replies.{longestReply};
+ghost use Rattle.bench_write.specs.Texts.{longestReply};
 ghost use Rattle.bench_stream.specs.Lines.{heldLength, under, lineEnd, benchByte, benchFrom};
-ghost use Rattle.bench_stream.specs.Stream.{saidAtEnd, saidLast, longestLast, Benches};
+ghost use Rattle.bench_stream.specs.Stream.{inputEnd, saidLast, Benches};
 
 // So many bytes are held of a name: one more than the longest has, so that a longer one is told by its length.
 pub const HELD: usize = 33;
@@ -45,7 +43,7 @@ fn line_end(s: State, held: &[u8], n: usize, out: &mut [u8], used: usize) -> Pro
     Progress {
         state: after_line(s, reply),
         held: 0,
-        used: put_reply(reply, &held[..n], out, used),
+        used: put_said(reply, &held[..n], out, used),
     }
 }
 
@@ -121,32 +119,22 @@ pub fn feed(
     feed_all(block, least(BLOCK, size), s, held, least(HELD, n), out)
 }
 
-// What is said once the last line has ended: the tallies, if they are asked for.
-fn closing(summary: bool, tally: Tally, out: &mut [u8], used: usize) -> usize
-    requires { ⌜ used + longestTallies ≤ length (now out) ⌝ }
-    ensures { λ r. ⌜ Put (now (out .entry)) used (saidAtEnd summary tally) (now (out .exit)) r ⌝ }
-{
-    if summary {
-        return put_tallies(tally, out, used);
-    }
-    used
-}
-
-fn last(summary: bool, s: State, held: &[u8], n: usize, out: &mut [u8]) -> usize
+// A line that has begun ends with the input.
+fn ended(s: State, held: &[u8], n: usize, out: &mut [u8]) -> Progress
     requires { ⌜ n ≤ length (now held) ⌝ }
-    requires { ⌜ longestLast ≤ length (now out) ⌝ }
-    ensures { λ r. ⌜ Put (now (out .entry)) 0 (saidLast summary (under s (take n (now (held .entry))))) (now (out .exit)) r ⌝ }
-    ensures { λ r. ⌜ r ≤ longestLast ⌝ }
+    requires { ⌜ longestReply ≤ length (now out) ⌝ }
+    ensures { λ r. ⌜ Benches (inputEnd (under s (take n (now (held .entry))))) (now (held .entry)) (now (out .entry)) 0
+        (now (out .exit)) r ⌝ }
 {
     let row = s.row;
-    let tally = s.tally;
     if row.stage == 0 {
-        return closing(summary, tally, out, 0);
+        return Progress {
+            state: s,
+            held: n,
+            used: 0,
+        };
     }
-    let told = line_end(s, held, n, out, 0);
-    let after = told.state;
-    let total = after.tally;
-    closing(summary, total, out, told.used)
+    line_end(s, held, n, out, 0)
 }
 
 // The reply to what is left at the input's end, and the tallies if `summary` says so, at the start of `out`.
@@ -154,5 +142,11 @@ pub fn finish(summary: bool, s: State, held: &[u8; HELD], n: usize, out: &mut [u
     ensures { λ r. ⌜ Put (now (out .entry)) 0 (saidLast summary (under s (take n (now (held .entry))))) (now (out .exit)) r ⌝ }
     ensures { λ r. ⌜ Counts r (now (out .exit)) ⌝ }
 {
-    last(summary, s, held, least(HELD, n), out)
+    let told = ended(s, held, least(HELD, n), out);
+    let state = told.state;
+    let tally = state.tally;
+    if summary {
+        return put_said(Said::Tallies(tally), b"", out, told.used);
+    }
+    told.used
 }

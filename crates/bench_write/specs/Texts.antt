@@ -6,14 +6,13 @@ use lib.Dec.{leb}
 use lib.ListN.{take}
 use lib.Ieee.{Float, binary64, toBits}
 use Rattle.digits.specs.Digits.{digits}
+use Rattle.writing.specs.Bad.{badText}
 use Rattle.writing.specs.Decimal.{decimal}
 use Rattle.parted.specs.Parts.{partedOf, roundedOf}
 use Rattle.drag.specs.declared.nanoseconds.Verdict.{Verdict}
-use Rattle.drag.specs.declared.knee.Judged.{Judged}
-use Rattle.drag.specs.declared.knee.Judged.the-variants.{Weighed, Refused as NoVerdict}
-use Rattle.decay.specs.declared.Decay.{Decay}
-use Rattle.decay.specs.declared.Decay.the-variants.{Decrement, Refused as NoDecrement}
 use Rattle.bench_write.specs.declared.tallies.Tally.{Tally}
+use Rattle.bench_write.specs.declared.said.Said.{Said}
+use Rattle.bench_write.specs.declared.said.Said.the-variants.{Weighed, NoVerdict, Decrement, NoDecrement, Bad, Tallies}
 
 -- a number with places: the whole part, a point, the last k digits of n
 unfoldable pub fixedText : ℕ → ℕ → ℕ → List ℕ
@@ -46,13 +45,8 @@ weighedText v =
     ++ (digits 16 16 (toBits binary64 (v .period)) ++ 10 ∷ [])
 
 -- "or the name and `refused N`"
-unfoldable pub judgedText : Judged → List ℕ
-judgedText (Weighed v) = weighedText v
-judgedText (NoVerdict n) = (32 ∷ []) ++ countText refusedWord n
-
--- under the name, which has no more bytes than these
-unfoldable pub kneeText : List ℕ → Judged → List ℕ
-kneeText name judged = take 32 name ++ judgedText judged
+unfoldable pub noVerdictText : ℕ → List ℕ
+noVerdictText n = (32 ∷ []) ++ countText refusedWord n
 
 -- ---- two peaks: in units of 10 ^ -12, rounded half to even
 unfoldable pub ticksOf : Float → ℕ
@@ -69,10 +63,6 @@ sizeText bits t = (minusText bits ++ fixedText (t / 1000000000000) t 12) ++ 10 �
 unfoldable pub decrementText : Float → List ℕ
 decrementText x = (digits 16 16 (toBits binary64 x) ++ 32 ∷ []) ++ sizeText (toBits binary64 x) (ticksOf x)
 
-unfoldable pub peaksText : Decay → List ℕ
-peaksText (Decrement x) = decrementText x
-peaksText (NoDecrement n) = countText refusedWord n
-
 -- ---- a day's tallies: knees, passed, dragging, refused and bad lines; the knees are those that were judged or refused
 unfoldable pub kneesOf : Tally → ℕ
 kneesOf t = ((t .passed + t .dragging) % 2 ^ 64 + t .refused) % 2 ^ 64
@@ -88,40 +78,38 @@ otherCounts t = countText refusedWord (t .refused) ++ countText (98 ∷ 97 ∷ 1
 unfoldable pub talliesText : Tally → List ℕ
 talliesText t = judgedCounts t ++ otherCounts t
 
--- ---- how long each is at most
--- twenty digits and a point
-abbrev pub longestWhole : ℕ
-longestWhole = 21
+-- ---- what is said: to a knee, to two peaks, "or `bad line`"; and at the input's end
+unfoldable pub saidText : Said → List ℕ
+saidText (Weighed v) = weighedText v
+saidText (NoVerdict n) = noVerdictText n
+saidText (Decrement x) = decrementText x
+saidText (NoDecrement n) = countText refusedWord n
+saidText Bad = badText
+saidText (Tallies t) = talliesText t
 
-abbrev pub longestLabel : ℕ
-longestLabel = 8
+-- a knee's name stands before it, which has no more bytes than these
+unfoldable pub shownOf : Said → ℕ
+shownOf (Weighed v) = 32
+shownOf (NoVerdict n) = 32
+shownOf (Decrement x) = 0
+shownOf (NoDecrement n) = 0
+shownOf Bad = 0
+shownOf (Tallies t) = 0
 
-abbrev pub longestCount : ℕ
-longestCount = longestLabel + 21
+unfoldable pub textUnder : Said → List ℕ → List ℕ
+textUnder s name = take (shownOf s) name ++ saidText s
 
-abbrev pub longestWord : ℕ
-longestWord = 7
-
-abbrev pub longestExcess : ℕ
-longestExcess = 1 + (longestWhole + 9)
-
-abbrev pub longestWeighed : ℕ
-longestWeighed = longestWord + longestExcess + 1 + 17
-
-abbrev pub longestKnee : ℕ
-longestKnee = 32 + longestWeighed
-
-abbrev pub longestSize : ℕ
-longestSize = 1 + (longestWhole + 12) + 1
-
-abbrev pub longestPeaks : ℕ
-longestPeaks = 17 + longestSize
-
-abbrev pub longestJudged : ℕ
-longestJudged = longestCount + longestCount + longestCount
-
-abbrev pub longestOther : ℕ
-longestOther = longestCount + longestCount
+-- ---- how long it is at most, to a line and at the input's end
+abbrev pub longestReply : ℕ
+longestReply = 88
 
 abbrev pub longestTallies : ℕ
-longestTallies = longestJudged + longestOther
+longestTallies = 145
+
+unfoldable pub longestOf : Said → ℕ
+longestOf (Weighed v) = longestReply
+longestOf (NoVerdict n) = longestReply
+longestOf (Decrement x) = longestReply
+longestOf (NoDecrement n) = longestReply
+longestOf Bad = longestReply
+longestOf (Tallies t) = longestTallies

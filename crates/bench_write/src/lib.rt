@@ -1,13 +1,10 @@
-// The bench's answers as text: a verdict under the knee's name, a decrement, a day's tallies.
-mod decrements;
-mod numbers;
+// What is said to a line of the bench, and of a day's file, as text. Which piece comes next is a number's to say; one loop writes
+// them.
+mod pieces;
+mod said;
 mod tallies;
-mod verdicts;
+mod write;
 
-pub use crate::decrements::LONGEST_PEAKS;
-pub use crate::decrements::put_peaks;
-pub use crate::tallies::LONGEST_TALLIES;
+pub use crate::said::Said;
 pub use crate::tallies::Tally;
-pub use crate::tallies::put_tallies;
-pub use crate::verdicts::LONGEST_KNEE;
-pub use crate::verdicts::put_knee;
+pub use crate::write::put_said;

@@ -1,14 +1,9 @@
 // A day's tallies, a line each.
-use crate::numbers::put_count;
-use writing::has_room;
+use phrases::Piece;
 ghost use mathlib.Core.Path.{_≡_};
-ghost use Prim.Native.Nat.{_+_, _≤_};
-ghost use lib.ListN.{length};
-ghost use Rattle.writing.specs.Written.{Put, Tried};
-ghost use Rattle.bench_write.specs.Texts.{kneesOf, judgedCounts, otherCounts, talliesText};
-ghost use Rattle.bench_write.specs.Texts.{longestJudged, longestOther, longestTallies};
+ghost use Rattle.bench_write.specs.Texts.{kneesOf};
+ghost use Rattle.bench_write.specs.Pieces.{labelPiece, countAt, countPiece, talliesPiece};
 
-// How many knees passed, how many drag, how many were refused, and how many lines were bad.
 pub struct Tally {
     pub passed: u64,
     pub dragging: u64,
@@ -16,46 +11,52 @@ pub struct Tally {
     pub bad: u64,
 }
 
-// All tallies together are no longer.
-pub const LONGEST_TALLIES: usize = 145;
-
 fn knees(t: Tally) -> u64
     ensures { λ r. ⌜ r ≡ kneesOf t ⌝ }
 {
     std::num::wrapping_add_u64(std::num::wrapping_add_u64(t.passed, t.dragging), t.refused)
 }
 
-fn put_judged_counts(t: Tally, out: &mut [u8], at: usize) -> usize
-    requires { ⌜ at + longestJudged ≤ length (now out) ⌝ }
-    ensures { λ r. ⌜ Put (now (out .entry)) at (judgedCounts t) (now (out .exit)) r ⌝ }
+// What stands at a line's start.
+fn label(line: u64) -> Piece
+    ensures { λ r. ⌜ r ≡ labelPiece line ⌝ }
 {
-    let passed = put_count(b"knees ", knees(t), out, at);
-    let drags = put_count(b"passed ", t.passed, out, passed);
-    put_count(b"drags ", t.dragging, out, drags)
-}
-
-fn put_other_counts(t: Tally, out: &mut [u8], at: usize) -> usize
-    requires { ⌜ at + longestOther ≤ length (now out) ⌝ }
-    ensures { λ r. ⌜ Put (now (out .entry)) at (otherCounts t) (now (out .exit)) r ⌝ }
-{
-    let bad = put_count(b"refused ", t.refused, out, at);
-    put_count(b"bad ", t.bad, out, bad)
-}
-
-fn write_tallies(t: Tally, out: &mut [u8], at: usize) -> usize
-    requires { ⌜ at + longestTallies ≤ length (now out) ⌝ }
-    ensures { λ r. ⌜ Put (now (out .entry)) at (talliesText t) (now (out .exit)) r ⌝ }
-{
-    let others = put_judged_counts(t, out, at);
-    put_other_counts(t, out, others)
-}
-
-// All of them, if there is room for the longest; the place after them.
-pub fn put_tallies(t: Tally, out: &mut [u8], at: usize) -> usize
-    ensures { λ r. ⌜ Tried longestTallies (now (out .entry)) at (talliesText t) (now (out .exit)) r ⌝ }
-{
-    if has_room(out.len(), at, LONGEST_TALLIES) {
-        return write_tallies(t, out, at);
+    match line {
+        0 => Piece::Letters(0x6b6e_6565_7320, 6), // knees
+        1 => Piece::Letters(0x70_6173_7365_6420, 7), // passed
+        2 => Piece::Letters(0x6472_6167_7320, 6), // drags
+        3 => Piece::Letters(0x7265_6675_7365_6420, 8), // refused
+        _ => Piece::Letters(0x6261_6420, 4), // bad
     }
-    at
+}
+
+// What is counted there.
+fn count(t: Tally, line: u64) -> u64
+    ensures { λ r. ⌜ r ≡ countAt t line ⌝ }
+{
+    match line {
+        0 => knees(t),
+        1 => t.passed,
+        2 => t.dragging,
+        3 => t.refused,
+        _ => t.bad,
+    }
+}
+
+// A line's label, its number, its end.
+pub fn count_piece(line: u64, n: u64, i: u64) -> Piece
+    ensures { λ r. ⌜ r ≡ countPiece line n i ⌝ }
+{
+    match i {
+        0 => label(line),
+        1 => Piece::Number(n),
+        _ => Piece::Letters(0x0a, 1),
+    }
+}
+
+// Three pieces a line.
+pub fn tallies_piece(t: Tally, i: u64) -> Piece
+    ensures { λ r. ⌜ r ≡ talliesPiece t i ⌝ }
+{
+    count_piece(i / 3, count(t, i / 3), i % 3)
 }

@@ -1,2 +1,5 @@
 pub mod Decrement
+pub mod Quotients
 pub mod DecrementLaws
+pub mod Small
+pub mod Places

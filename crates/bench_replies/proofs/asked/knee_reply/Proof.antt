@@ -1,5 +1,5 @@
 -- `knee_reply` meets its contract, case by case. Assumes nothing.
-use mathlib.Core.Path.{_≡_, sym, ap, _∙_}
+use mathlib.Core.Path.{sym}
 use borrow.Author.Needs.{needs}
 use Rattle.bench_replies.specs.Replies.{kneeReply}
 use Rattle.bench_replies.proofs.asked.knee_reply.Statement.{statement}
@@ -12,6 +12,7 @@ knee-reply-spec =
     (tie.spec
     (λ c. search needs)
     (λ c κs. tt)
+    (λ c κs. tt)
     (λ c. search needs)
-    (λ c. rw (c .before .before .knee .given .1, sym (c .judge .ensures)))
+    (λ c. rw (c .before .before .before .knee .given .1, sym (c .before .judge .ensures)) (c .of-judged .ensures))
     (λ c. rw (c .enum-told .given .1)))

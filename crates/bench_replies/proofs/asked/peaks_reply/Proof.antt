@@ -1,5 +1,5 @@
 -- `peaks_reply` meets its contract, case by case. Assumes nothing.
-use mathlib.Core.Path.{_≡_, sym, ap, _∙_}
+use mathlib.Core.Path.{sym}
 use borrow.Author.Needs.{needs}
 use Rattle.bench_replies.specs.Replies.{peaksReply}
 use Rattle.bench_replies.proofs.asked.peaks_reply.Statement.{statement}
@@ -12,6 +12,7 @@ peaks-reply-spec =
     (tie.spec
     (λ c. search needs)
     (λ c κs. tt)
+    (λ c κs. tt)
     (λ c. search needs)
-    (λ c. rw (c .before .before .peaks .given .1, sym (c .decrement .ensures)))
+    (λ c. rw (c .before .before .before .peaks .given .1, sym (c .before .decrement .ensures)) (c .of-decay .ensures))
     (λ c. rw (c .enum-told .given .1)))

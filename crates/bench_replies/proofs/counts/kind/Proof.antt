@@ -1,5 +1,4 @@
 -- `kind` meets its contract, case by case. Assumes nothing.
-use mathlib.Core.Path.{_≡_, sym, ap, _∙_}
 use borrow.Author.Needs.{needs}
 use Rattle.bench_replies.specs.Replies.{kindOf}
 use Rattle.bench_replies.proofs.counts.kind.Statement.{statement}
@@ -11,9 +10,15 @@ kind-spec =
     tie.close
     (tie.spec
     (λ c. search needs)
-    (λ c κs. tt)
+    (λ c. rw (c .before .before .reply .given .1, c .if1 .taken))
     (λ c. search needs)
     (λ c. search needs)
-    (λ c. rw (c .before .before .reply .given .1) (c .verdict-kind .ensures))
+    (λ c. search needs)
+    (λ c. search needs)
+    (λ c. search needs)
+    (λ c. rw (c .before .before .reply .given .1, c .if1 .left))
     (λ c. rw (c .enum-told .given .1))
-    (λ c. rw (c .enum-told2 .given .1)))
+    (λ c. rw (c .enum-told2 .given .1))
+    (λ c. rw (c .enum-told3 .given .1))
+    (λ c. rw (c .enum-told4 .given .1))
+    (λ c. rw (c .enum-told5 .given .1)))

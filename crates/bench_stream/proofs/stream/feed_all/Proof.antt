@@ -7,7 +7,7 @@ use denote.Ref.{now}
 use lib.ListN.{length, take}
 use Rattle.writing.specs.FedLaws.{Upto, upto-none, upto-byte, upto-all}
 use Rattle.writing.specs.Written.{put-length}
-use Rattle.bench_replies.specs.Replies.{longestReply}
+use Rattle.bench_write.specs.Texts.{longestReply}
 use Rattle.bench_stream.specs.Lines.{under, benchByte, heldLength}
 use Rattle.bench_stream.proofs.Lengths.{byte-short}
 use Rattle.bench_stream.proofs.stream.feed_all.Statement.{statement}
