@@ -1,8 +1,6 @@
 // How far long work has come: a line on standard error at each second of the clock, where it was asked for. Standard output is never
 // touched.
-mod ends;
 mod meter;
-mod numbers;
 mod say;
 
 pub use crate::meter::Meter;

@@ -1,11 +1,10 @@
 // When it is time to speak.
-use crate::ends::lines_in;
-use crate::numbers::rate;
 use crate::say::say;
-use crate::say::say_pace;
 use libc::SEEK_CUR;
 use libc::SEEK_END;
 use libc::SEEK_SET;
+use pace::lines_in;
+use pace::rate;
 
 // Whether lines are wanted; the input's bytes, or 0 where they are not known, how many of them are read and how much is done; the
 // clock's second at the line before, what was done then, and whether there was such a line.
@@ -78,14 +77,10 @@ pub fn begin(wanted: bool, file: i32) -> Meter {
     }
 }
 
-// A line, and that it was said.
+// A line, and that it was said. The first has no rate, since it comes in the middle of a second.
 fn spoken(meter: Meter, unit: &[u8], now: u64) -> Meter {
-    if meter.begun {
-        let pace = rate(meter.done, meter.told, now, meter.second);
-        say_pace(unit, meter.done, pace, meter.read, meter.size);
-    } else {
-        say(unit, meter.done, meter.read, meter.size);
-    }
+    let pace = rate(meter.done, meter.told, now, meter.second);
+    say(unit, meter.done, meter.begun, pace, meter.read, meter.size);
     Meter {
         wanted: meter.wanted,
         size: meter.size,
@@ -129,7 +124,7 @@ pub fn lines(meter: Meter, block: &[u8], size: usize) -> Meter {
     meter
 }
 
-// After a job, which was the one of this number: so many bytes of the list are read. The clock is asked at every 64th.
+// After a job, before which so many were done, and so many bytes of the list are read. The clock is asked at every 64th.
 pub fn jobs(meter: Meter, done: u64, read: u64) -> Meter {
     if meter.wanted {
         if done & 63 == 0 {

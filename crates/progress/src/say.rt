@@ -1,49 +1,42 @@
 // A line on standard error, as `progress: 120034 lines, 20012 a second, 62 %`.
-use crate::numbers::known;
-use crate::numbers::percent;
 use libc::STDERR_FILENO;
+use pace::known;
+use pace::percent;
 use writing::least;
 use writing::put_decimal;
 use writing::put_text;
 
-fn put_done(unit: &[u8], done: u64, text: &mut [u8]) -> usize {
-    let word = put_text(b"progress: ", text, 0);
-    let end = put_decimal(done, 19, text, word);
-    put_text(unit, text, end)
+// A number between two texts; the place after them.
+fn put_number(before: &[u8], n: u64, after: &[u8], text: &mut [u8], at: usize) -> usize {
+    let number = put_text(before, text, at);
+    let end = put_decimal(n, 19, text, number);
+    put_text(after, text, end)
 }
 
-fn put_pace(pace: u64, text: &mut [u8], at: usize) -> usize {
-    let comma = put_text(b", ", text, at);
-    let end = put_decimal(pace, 19, text, comma);
-    put_text(b" a second", text, end)
-}
-
-fn put_share(read: u64, size: u64, text: &mut [u8], at: usize) -> usize {
-    if known(size) {
-        let comma = put_text(b", ", text, at);
-        let end = put_decimal(percent(read, size), 19, text, comma);
-        return put_text(b" %", text, end);
+fn put_pace(told: bool, pace: u64, text: &mut [u8], at: usize) -> usize {
+    if told {
+        return put_number(b", ", pace, b" a second", text, at);
     }
     at
 }
 
-fn end_line(read: u64, size: u64, text: &mut [u8], at: usize) {
-    let end = put_share(read, size, text, at);
-    let used = put_text(b"\n", text, end);
+fn put_share(read: u64, size: u64, text: &mut [u8], at: usize) -> usize {
+    if known(size) {
+        return put_number(b", ", percent(read, size), b" %", text, at);
+    }
+    at
+}
+
+fn write_line(text: &mut [u8], at: usize) {
+    let used = put_text(b"\n", text, at);
     io::write_all(STDERR_FILENO, &text[..least(text.len(), used)]);
 }
 
-// What was done; the first line has no rate, since it comes in the middle of a second.
-pub fn say(unit: &[u8], done: u64, read: u64, size: u64) {
+// What was done, how much of it in a second where that is told, and what part of the input is read where its size is known.
+pub fn say(unit: &[u8], done: u64, told: bool, pace: u64, read: u64, size: u64) {
     let mut text = [0u8; 128];
-    let at = put_done(unit, done, &mut text);
-    end_line(read, size, &mut text, at);
-}
-
-// The same with how much was done in a second since the line before.
-pub fn say_pace(unit: &[u8], done: u64, pace: u64, read: u64, size: u64) {
-    let mut text = [0u8; 128];
-    let at = put_done(unit, done, &mut text);
-    let end = put_pace(pace, &mut text, at);
-    end_line(read, size, &mut text, end);
+    let paced = put_number(b"progress: ", done, unit, &mut text, 0);
+    let shared = put_pace(told, pace, &mut text, paced);
+    let end = put_share(read, size, &mut text, shared);
+    write_line(&mut text, end);
 }

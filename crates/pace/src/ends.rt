@@ -4,7 +4,7 @@ use writing::least;
 ghost use mathlib.Core.Path.{_≡_};
 ghost use Prim.Native.Nat.{_≤_};
 ghost use lib.ListN.{length, take};
-ghost use Rattle.progress.specs.Numbers.{endsOf, newlines};
+ghost use Rattle.pace.specs.Numbers.{endsOf, newlines};
 
 const PART: usize = 128;
 

@@ -5,10 +5,10 @@ use mathlib.Core.List.{List}
 use native.Mathlib.Nat.{zero-add}
 use native.Mathlib.Omega.{arith}
 use lib.ListN.{length, drop, getD, drop-of-length-le}
-use Rattle.progress.specs.Numbers.{endsOf, newlines}
-use Rattle.progress.specs.NumberLaws.{ends-most, newlines-next}
-use Rattle.progress.proofs.ends.count.Statement.{statement}
-use Rattle.progress.proofs.ends.count.Tie as tie
+use Rattle.pace.specs.Numbers.{endsOf, newlines}
+use Rattle.pace.specs.NumberLaws.{ends-most, newlines-next}
+use Rattle.pace.proofs.ends.count.Statement.{statement}
+use Rattle.pace.proofs.ends.count.Tie as tie
 
 abbrev Inv-loop : tie.InvT-loop
 Inv-loop part lines₀ i₀ lines i = (i ≤ length part) × (lines ≤ i) × (lines + newlines (drop i part) ≡ newlines part)

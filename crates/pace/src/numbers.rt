@@ -1,6 +1,6 @@
 // The numbers of a line.
 ghost use mathlib.Core.Path.{_≡_};
-ghost use Rattle.progress.specs.Numbers.{knownOf, percentOf, sinceOf, rateOf};
+ghost use Rattle.pace.specs.Numbers.{knownOf, percentOf, sinceOf, rateOf};
 
 // An input of more bytes than this has no share: a hundred times as many would pass a word.
 const MOST: u64 = 0x0200_0000_0000_0000;

@@ -11,7 +11,7 @@ use lib.Dec.{eqb}
 use lib.ListN.{length, drop, take, getD, length-take}
 use lib.Seq.{drop-cons, take-add, take-all}
 use Rattle.algebra.specs.Order.{lt-or-le}
-use Rattle.progress.specs.Numbers.{endsOf, newlines}
+use Rattle.pace.specs.Numbers.{endsOf, newlines}
 
 flag-most : (t : Bool) → cond t 1 0 ≤ 1
 flag-most true = omega arith

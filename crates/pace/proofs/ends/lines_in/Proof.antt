@@ -5,10 +5,10 @@ use mathlib.Core.List.{List, []}
 use native.Mathlib.Omega.{arith}
 use borrow.Author.Needs.{needs}
 use lib.ListN.{length, drop, take}
-use Rattle.progress.specs.Numbers.{newlines}
-use Rattle.progress.specs.NumberLaws.{newlines-part, newlines-few, newlines-all, part-short}
-use Rattle.progress.proofs.ends.lines_in.Statement.{statement}
-use Rattle.progress.proofs.ends.lines_in.Tie as tie
+use Rattle.pace.specs.Numbers.{newlines}
+use Rattle.pace.specs.NumberLaws.{newlines-part, newlines-few, newlines-all, part-short}
+use Rattle.pace.proofs.ends.lines_in.Statement.{statement}
+use Rattle.pace.proofs.ends.lines_in.Tie as tie
 
 abbrev Inv-loop : tie.InvT-loop
 Inv-loop block size end lines₀ at₀ lines at = (at ≤ end) × (lines ≤ at) × (lines ≡ newlines (take at block))

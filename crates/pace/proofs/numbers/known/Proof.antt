@@ -1,8 +1,8 @@
 -- `known` meets its contract, test by test. Assumes nothing.
 use borrow.Author.Tests.{eq-eqb, ne-eqb}
-use Rattle.progress.specs.Numbers.{knownOf}
-use Rattle.progress.proofs.numbers.known.Statement.{statement}
-use Rattle.progress.proofs.numbers.known.Tie as tie
+use Rattle.pace.specs.Numbers.{knownOf}
+use Rattle.pace.proofs.numbers.known.Statement.{statement}
+use Rattle.pace.proofs.numbers.known.Tie as tie
 
 pub known-spec : {M : Type 1} → statement M
 unfolding knownOf

@@ -1,8 +1,8 @@
 -- `ending` meets its contract. Assumes nothing.
 use borrow.Author.Tests.{eq-eqb, ne-eqb}
-use Rattle.progress.specs.Numbers.{endsOf}
-use Rattle.progress.proofs.ends.ending.Statement.{statement}
-use Rattle.progress.proofs.ends.ending.Tie as tie
+use Rattle.pace.specs.Numbers.{endsOf}
+use Rattle.pace.proofs.ends.ending.Statement.{statement}
+use Rattle.pace.proofs.ends.ending.Tie as tie
 
 pub ending-spec : {M : Type 1} → statement M
 unfolding endsOf

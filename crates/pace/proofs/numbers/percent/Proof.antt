@@ -1,9 +1,9 @@
 -- `percent` meets its contract: where not all is read, a hundred times that is a word. Assumes nothing.
 use native.Mathlib.Omega.{arith}
 use borrow.Author.Tests.{le-leb, lt-leb}
-use Rattle.progress.specs.Numbers.{percentOf}
-use Rattle.progress.proofs.numbers.percent.Statement.{statement}
-use Rattle.progress.proofs.numbers.percent.Tie as tie
+use Rattle.pace.specs.Numbers.{percentOf}
+use Rattle.pace.proofs.numbers.percent.Statement.{statement}
+use Rattle.pace.proofs.numbers.percent.Tie as tie
 
 pub percent-spec : {M : Type 1} → statement M
 unfolding percentOf

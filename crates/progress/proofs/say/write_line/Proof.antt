@@ -1,15 +1,14 @@
--- `end_line` is safe: what is written lies within the text. Assumes nothing.
+-- `write_line` is safe: what is written lies within the text. Assumes nothing.
 use mathlib.Core.Path.{sym}
 use borrow.Author.Needs.{needs}
 use lib.Seq.{length-take-le}
-use Rattle.progress.proofs.say.end_line.Statement.{statement}
-use Rattle.progress.proofs.say.end_line.Tie as tie
+use Rattle.progress.proofs.say.write_line.Statement.{statement}
+use Rattle.progress.proofs.say.write_line.Tie as tie
 
-pub end-line-spec : {M : Type 1} → statement M
-end-line-spec =
+pub write-line-spec : {M : Type 1} → statement M
+write-line-spec =
     tie.close
     (tie.spec
-    (λ c κs. tt)
     (λ c. search needs)
     (λ c κs. tt)
     (λ c κs. tt)

@@ -2,9 +2,9 @@
 use mathlib.Core.Path.{sym}
 use native.Mathlib.Omega.{arith}
 use borrow.Author.Tests.{le-leb, lt-leb}
-use Rattle.progress.specs.Numbers.{rateOf}
-use Rattle.progress.proofs.numbers.rate.Statement.{statement}
-use Rattle.progress.proofs.numbers.rate.Tie as tie
+use Rattle.pace.specs.Numbers.{rateOf}
+use Rattle.pace.proofs.numbers.rate.Statement.{statement}
+use Rattle.pace.proofs.numbers.rate.Tie as tie
 
 pub rate-spec : {M : Type 1} → statement M
 unfolding rateOf
