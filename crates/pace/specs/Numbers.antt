@@ -20,6 +20,10 @@ sinceOf later earlier = later - earlier
 unfoldable pub rateOf : ℕ → ℕ → ℕ → ℕ → ℕ
 rateOf done before now then = cond (leb now then) (sinceOf done before) (sinceOf done before / (now - then))
 
+-- whether the clock is asked after a block: it was not full, or a multiple of 16,384 bytes was passed
+unfoldable pub dueOf : ℕ → ℕ → ℕ → ℕ → Bool
+dueOf length size before after = cond (ltb size length) true (ltb (before / 16384) (after / 16384))
+
 -- whether a byte ends a line, as a number
 unfoldable pub endsOf : ℕ → ℕ
 endsOf b = cond (eqb b 10) 1 0

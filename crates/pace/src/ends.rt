@@ -1,4 +1,4 @@
-// How many lines end in a block. The bytes are counted by parts of 128, so that a part's count is one byte: so sixteen bytes go in one
+// How many lines end in a block. The bytes are counted by parts of 224, so that a part's count is one byte: so sixteen bytes go in one
 // instruction, and a block costs less than a hundredth of its answers.
 use writing::least;
 ghost use mathlib.Core.Path.{_≡_};
@@ -6,7 +6,7 @@ ghost use Prim.Native.Nat.{_≤_};
 ghost use lib.ListN.{length, take};
 ghost use Rattle.pace.specs.Numbers.{endsOf, newlines};
 
-const PART: usize = 128;
+const PART: usize = 224;
 
 fn ending(b: u8) -> u8
     ensures { λ r. ⌜ r ≡ endsOf b ⌝ }
@@ -15,7 +15,7 @@ fn ending(b: u8) -> u8
 }
 
 fn count(part: &[u8]) -> u8
-    requires { ⌜ length (now part) ≤ 128 ⌝ }
+    requires { ⌜ length (now part) ≤ 224 ⌝ }
     ensures { λ r. ⌜ r ≡ newlines (now (part .entry)) ⌝ }
 {
     let mut lines: u8 = 0;

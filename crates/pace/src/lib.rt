@@ -3,6 +3,7 @@ mod ends;
 mod numbers;
 
 pub use crate::ends::lines_in;
+pub use crate::numbers::due;
 pub use crate::numbers::known;
 pub use crate::numbers::percent;
 pub use crate::numbers::rate;

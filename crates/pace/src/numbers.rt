@@ -1,9 +1,12 @@
 // The numbers of a line.
 ghost use mathlib.Core.Path.{_≡_};
-ghost use Rattle.pace.specs.Numbers.{knownOf, percentOf, sinceOf, rateOf};
+ghost use Rattle.pace.specs.Numbers.{knownOf, percentOf, sinceOf, rateOf, dueOf};
 
 // An input of more bytes than this has no share: a hundred times as many would pass a word.
 const MOST: u64 = 0x0200_0000_0000_0000;
+
+// The clock is asked once in so many bytes of a quick input.
+const STRIDE: u64 = 16384;
 
 // Whether a share can be told: the input has bytes, and not too many.
 pub fn known(size: u64) -> bool
@@ -46,4 +49,15 @@ pub fn rate(done: u64, before: u64, now: u64, then: u64) -> u64
         return since(done, before);
     }
     since(done, before) / (now - then)
+}
+
+// Whether the clock is asked after a block of this length, of which so many bytes came, with so many read before it and after it: where the
+// block was not full, so that the input is slow, and else at every stride.
+pub fn due(length: usize, size: usize, before: u64, after: u64) -> bool
+    ensures { λ r. ⌜ r ≡ dueOf length size before after ⌝ }
+{
+    if size < length {
+        return true;
+    }
+    before / STRIDE < after / STRIDE
 }

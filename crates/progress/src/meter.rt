@@ -3,6 +3,7 @@ use crate::say::say;
 use libc::SEEK_CUR;
 use libc::SEEK_END;
 use libc::SEEK_SET;
+use pace::due;
 use pace::lines_in;
 use pace::rate;
 
@@ -77,6 +78,19 @@ pub fn begin(wanted: bool, file: i32) -> Meter {
     }
 }
 
+// So much is done and so many bytes are read.
+fn moved(meter: Meter, done: u64, read: u64) -> Meter {
+    Meter {
+        wanted: meter.wanted,
+        size: meter.size,
+        read,
+        done,
+        second: meter.second,
+        told: meter.told,
+        begun: meter.begun,
+    }
+}
+
 // A line, and that it was said. The first has no rate, since it comes in the middle of a second.
 fn spoken(meter: Meter, unit: &[u8], now: u64) -> Meter {
     let pace = rate(meter.done, meter.told, now, meter.second);
@@ -92,34 +106,24 @@ fn spoken(meter: Meter, unit: &[u8], now: u64) -> Meter {
     }
 }
 
-// So much is done and so many bytes are read in all: a line where the clock is in another second than at the line before.
+// So much is done and so many bytes are read; a line is said where the clock is in another second than at the line before.
 fn tell(meter: Meter, unit: &[u8], done: u64, read: u64) -> Meter {
     let now = second();
-    let on = Meter {
-        wanted: meter.wanted,
-        size: meter.size,
-        read,
-        done,
-        second: meter.second,
-        told: meter.told,
-        begun: meter.begun,
-    };
     if now == meter.second {
-        return on;
+        return moved(meter, done, read);
     }
-    spoken(on, unit, now)
+    spoken(moved(meter, done, read), unit, now)
 }
 
 // After a block of lines, of which so many bytes came.
 pub fn lines(meter: Meter, block: &[u8], size: usize) -> Meter {
     if meter.wanted {
         let done = std::num::wrapping_add_u64(meter.done, lines_in(block, size));
-        return tell(
-            meter,
-            b" lines",
-            done,
-            std::num::wrapping_add_u64(meter.read, size as u64),
-        );
+        let read = std::num::wrapping_add_u64(meter.read, size as u64);
+        if due(block.len(), size, meter.read, read) {
+            return tell(meter, b" lines", done, read);
+        }
+        return moved(meter, done, read);
     }
     meter
 }
