@@ -1,5 +1,5 @@
 // Standard input to standard output, for the two programs of the bench: what is written is bench_stream's to say. The flags say whether
-// the lines are peaks, and whether the tallies are told at the end.
+// the lines are peaks, whether the tallies are told at the end, and whether it is said how far the work has come.
 use bench_stream::BLOCK;
 use bench_stream::HELD;
 use bench_stream::begin;
@@ -8,13 +8,15 @@ use bench_stream::finish;
 use console::Got;
 use console::read_block;
 use console::written;
+use libc::STDIN_FILENO;
 
-pub fn run(decays: bool, summary: bool) {
+pub fn run(decays: bool, summary: bool, wanted: bool) {
     let mut out = io::large_buffer();
     let mut block = [0u8; BLOCK];
     let mut held = [0u8; HELD];
     let mut state = begin(decays);
     let mut n: usize = 0;
+    let mut meter = progress::begin(wanted, STDIN_FILENO);
     // A proved loop has to end, and nothing says that the input does: so many turns no run uses up.
     let mut turns = u64::MAX;
     while turns > 0 {
@@ -24,6 +26,7 @@ pub fn run(decays: bool, summary: bool) {
                 if written(&out, fed.used) {
                     state = fed.state;
                     n = fed.held;
+                    meter = progress::lines(meter, &block, size);
                 } else {
                     return;
                 }

@@ -1,8 +1,9 @@
 // Standard input to standard output, for the two programs that answer calls: what is written is listing_stream's to say. The flag
-// `profile` says who answers, as there.
+// `profile` says who answers, as there; `wanted` whether it is said how far the work has come.
 use console::Got;
 use console::read_block;
 use console::written;
+use libc::STDIN_FILENO;
 use listing_stream::BLOCK;
 use listing_stream::HELD;
 use listing_stream::begin;
@@ -11,10 +12,11 @@ use listing_stream::finish;
 use writing::OUT;
 
 // Replies to what comes until it ends.
-fn reply_to_all(profile: bool, out: &mut [u8; OUT]) {
+fn reply_to_all(profile: bool, wanted: bool, out: &mut [u8; OUT]) {
     let mut block = [0u8; BLOCK];
     let mut held = [0u8; HELD];
     let mut n: usize = 0;
+    let mut meter = progress::begin(wanted, STDIN_FILENO);
     // A proved loop has to end, and nothing says that the input does: so many turns no run uses up.
     let mut turns = u64::MAX;
     while turns > 0 {
@@ -23,6 +25,7 @@ fn reply_to_all(profile: bool, out: &mut [u8; OUT]) {
                 let fed = feed(profile, &block, size, &mut held, n, out);
                 if written(out, fed.used) {
                     n = fed.held;
+                    meter = progress::lines(meter, &block, size);
                 } else {
                     return;
                 }
@@ -41,10 +44,10 @@ fn reply_to_all(profile: bool, out: &mut [u8; OUT]) {
 }
 
 // The header, and a line for each that comes.
-pub fn run(profile: bool) {
+pub fn run(profile: bool, wanted: bool) {
     let mut out = io::large_buffer();
     let used = begin(profile, &mut out);
     if written(&out, used) {
-        reply_to_all(profile, &mut out);
+        reply_to_all(profile, wanted, &mut out);
     }
 }

@@ -1,6 +1,6 @@
 // The report of the packed work list that comes from standard input, as text on standard output (document 02, 2026-05). A refusal
 // is said on standard error, with the place, counted from 0, at which its job begins, and there is no report then. The list is read
-// as it comes: what is added before a refusal is never written.
+// as it comes: what is added before a refusal is never written. The argument --progress asks for how far it has come.
 use console::say_refused;
 use jobs_in::Pulled;
 use jobs_in::begin;
@@ -8,6 +8,8 @@ use jobs_in::place;
 use jobs_in::pull;
 use libc::STDIN_FILENO;
 use packed::Job;
+use progress::asked;
+use progress::jobs;
 use report::add_job;
 use report_say::say_report;
 use report_words::judge_list;
@@ -34,6 +36,7 @@ fn report_all(out: &mut [u8; OUT]) {
     let mut window = io::buffer();
     let mut stands = begin();
     let mut calls: u64 = 0;
+    let mut meter = progress::begin(asked(1), STDIN_FILENO);
     // A proved loop has to end, and nothing says that the list does: so many turns no run uses up.
     let mut turns = u64::MAX;
     while turns > 0 {
@@ -41,6 +44,7 @@ fn report_all(out: &mut [u8; OUT]) {
             Pulled::Job(job, next) => {
                 add(&mut words, job);
                 stands = next;
+                meter = jobs(meter, calls, place(stands));
             }
             Pulled::More => {
                 return;

@@ -4,8 +4,10 @@ use claim::Checked;
 use claim::ended;
 use claim::missing;
 use jobs_in::Pulled;
+use jobs_in::place;
 use jobs_in::pull;
 use packed::Job;
+use progress::jobs;
 use rows::BLOCK;
 use rows::ROW;
 use rows::Rows;
@@ -64,13 +66,14 @@ fn first_line(claims: i32, block: &mut [u8; BLOCK], held: &mut [u8; ROW]) -> Row
     first
 }
 
-pub fn check(tolerance: u64, list: i32, claims: i32) -> Ended {
+pub fn check(tolerance: u64, list: i32, claims: i32, wanted: bool) -> Ended {
     let mut window = io::buffer();
     let mut block = [0u8; BLOCK];
     let mut held = [0u8; ROW];
     let mut so = Checked::Accepted;
     let mut row: u64 = 0;
     let mut stands = jobs_in::begin();
+    let mut meter = progress::begin(wanted, list);
     let mut rows = first_line(claims, &mut block, &mut held);
     // A proved loop has to end, and nothing says that the list does: so many turns no run uses up.
     let mut turns = u64::MAX;
@@ -83,6 +86,7 @@ pub fn check(tolerance: u64, list: i32, claims: i32) -> Ended {
                 so = row_more(so, row, job, rows, &held, tolerance);
                 rows = next_of(claims, rows, &mut block, &mut held);
                 stands = next;
+                meter = jobs(meter, row, place(stands));
             }
             Pulled::More => {
                 return Ended::Failed;

@@ -7,10 +7,10 @@ use Rattle.listing_run.proofs.reply_to_all.Statement.{statement}
 use Rattle.listing_run.proofs.reply_to_all.Tie as tie
 
 abbrev Inv-loop : tie.InvT-loop
-Inv-loop profile out₀ block₀ held₀ n₀ turns₀ out block held n turns = length block ≡ blockLength
+Inv-loop profile wanted out₀ block₀ held₀ n₀ meter₀ turns₀ out block held n meter turns = length block ≡ blockLength
 
 abbrev μ-loop : tie.MeasureT-loop
-μ-loop profile out₀ block₀ held₀ n₀ turns₀ out block held n turns = turns
+μ-loop profile wanted out₀ block₀ held₀ n₀ meter₀ turns₀ out block held n meter turns = turns
 
 pub reply-to-all-spec : {M : Type 1} → statement M
 reply-to-all-spec =
@@ -18,11 +18,14 @@ reply-to-all-spec =
     (tie.spec
     Inv-loop
     μ-loop
+    (λ c κs. tt)
     (λ c. search needs)
     (λ c. search needs)
     (λ c κs. tt)
     (λ c. search needs)
     (λ c κs. tt)
+    (λ c κs. tt)
+    (λ c. search needs)
     (λ c κs. tt)
     (λ c. tt)
     (λ c. search needs)

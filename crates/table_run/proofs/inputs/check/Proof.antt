@@ -1,14 +1,15 @@
 -- `check` is safe and ends: the measure is the number of turns that are left. Assumes nothing.
+use native.Mathlib.Omega.{arith}
 use borrow.Author.Needs.{needs}
 use Rattle.table_run.proofs.inputs.check.Statement.{statement}
 use Rattle.table_run.proofs.inputs.check.Tie as tie
 
 abbrev Inv-loop : tie.InvT-loop
-Inv-loop tolerance list claims window₀ block₀ held₀ so₀ row₀ stands₀ rows₀ turns₀ window block held so row stands rows turns =
+Inv-loop tolerance list claims wanted window₀ block₀ held₀ so₀ row₀ stands₀ meter₀ rows₀ turns₀ window block held so row stands meter rows turns =
     Unit {0}
 
 abbrev μ-loop : tie.MeasureT-loop
-μ-loop tolerance list claims window₀ block₀ held₀ so₀ row₀ stands₀ rows₀ turns₀ window block held so row stands rows turns = turns
+μ-loop tolerance list claims wanted window₀ block₀ held₀ so₀ row₀ stands₀ meter₀ rows₀ turns₀ window block held so row stands meter rows turns = turns
 
 pub check-spec : {M : Type 1} → statement M
 check-spec =
@@ -19,12 +20,15 @@ check-spec =
     (λ c κs. tt)
     (λ c κs. tt)
     (λ c κs. tt)
-    (λ c. tt)
+    (λ c κs. tt)
+    (λ c. search needs)
     (λ c. tt)
     (λ c κs. tt)
     (λ c. search needs)
     (λ c κs. tt)
     (λ c κs. tt)
+    (λ c κs. tt)
+    (λ c κs. tt)
     (λ c. search needs)
     (λ c. tt)
     (λ c. search needs)
@@ -35,7 +39,7 @@ check-spec =
     (λ c. search needs)
     (λ c. tt)
     (λ c κs. tt)
+    (λ c. omega (arith, c .before .before .before .before .before .before .before .before .before .before .before .before .before .before .loop-test .taken))
+    (λ c. omega (arith, c .before .before .before .before .before .before .before .before .before .before .before .before .before .before .loop-test .taken))
     (λ c. search needs)
-    (λ c. search needs)
-    (λ c. tt)
     (λ c. tt))
