@@ -15,13 +15,39 @@ use Rattle.binary64.specs.Leaves.{absolute, maximum, minimum}
 use Rattle.binary64.specs.Tests.{plus-zero, number, number-above, Zero, a-zero, is-zero}
 use Rattle.derived.specs.Limits.{limit, reciprocal}
 use Rattle.carlson.specs.Constants.{infinity}
-use Rattle.carlson.specs.Checks.{anyNan3, anyNan4, anyInfinite3, anyInfinite4, below3, zerosOf3}
-use Rattle.carlson.specs.Rescaling.{scaleOf3, scaleOf4, beyondLimits, survive3, survive4, rescales3, rescales4, rescaling3}
+use Rattle.carlson.specs.Checks.{
+  anyNan2,
+  anyNan3,
+  anyNan4,
+  anyInfinite2,
+  anyInfinite3,
+  anyInfinite4,
+  below3,
+  zerosOf3,
+}
+use Rattle.carlson.specs.Rescaling.{
+  scaleOf2,
+  scaleOf3,
+  scaleOf4,
+  beyondLimits,
+  survive2,
+  survive3,
+  survive4,
+  rescales2,
+  rescales3,
+  rescales4,
+  rescaling2,
+  rescaling3,
+}
 use Rattle.carlson.specs.Only.{chosen}
 
 -- ---- the door
 unfoldable pub moderate : Float → Bool
 moderate x = lt reciprocal x && lt x limit
+
+-- RC's, whose second argument may be below zero
+unfoldable pub moderate2 : Float → Float → Bool
+moderate2 x y = (moderate x || eq x plus-zero) && moderate (absolute y)
 
 unfoldable pub moderate3 : Float → Float → Float → Bool
 moderate3 x y z = (moderate x || eq x plus-zero) && (moderate y && moderate z)
@@ -174,7 +200,57 @@ fair-larger : {x y : Float} → Fair x → Moderate y → Moderate (maximum (abs
 fair-larger {y = y} (plain X) Y = subst (λ (v : Float). Moderate (maximum v y)) (sym (X .size)) (larger X Y)
 fair-larger {y = y} (none (a-zero s e)) Y = unfold absolute maximum isNan in rw (Y .over-zero e) Y
 
--- ---- THE LAW, of three arguments and of four
+-- ---- THE LAW, of two arguments: the second one's size is moderate
+sized-number : (y : Float) → Moderate (absolute y) → isNan y ≡ false
+unfolding absolute
+sized-number nan m = m .number
+sized-number (inf s) m = unfold isNan in refl
+sized-number (fin s n e) m = unfold isNan in refl
+
+sized-bounded : (y : Float) → Moderate (absolute y) → eq y infinity ≡ false
+unfolding absolute
+sized-bounded nan m = unfold eq ofBits in refl
+sized-bounded (inf true) m = unfold eq ofBits in refl
+sized-bounded (inf false) m = m .bounded
+sized-bounded (fin s n e) m = unfold eq ofBits in refl
+
+no-zero-sized : {y : Float} → Zero y → Moderate (absolute y) → ⊥
+unfolding absolute
+no-zero-sized (a-zero s e) m = true≢false (sym (m .over-zero e) ∙ lt-turned _ _ (m .over-zero e))
+
+pub record Inside2 (x y : Float) : Type 0 where
+  pub one : Fair x
+  pub two : Moderate (absolute y)
+
+pub inside2 : (x y : Float) → moderate2 x y ≡ true → Inside2 x y
+unfolding moderate2
+inside2 x y h =
+    let a = both-true (moderate x || eq x plus-zero) (moderate (absolute y)) h in
+    record { one = fair-told x (a .0); two = moderate-told (absolute y) (a .1) }
+
+module _ {x y : Float} (i : Inside2 x y) where
+  pub not-below : lt x plus-zero ≡ false
+  not-below = fair-not-below (i .one)
+
+  pub not-zero : eq y plus-zero ≡ false
+  not-zero = go (eq y plus-zero) refl
+    where
+      go : (b : Bool) → eq y plus-zero ≡ b → b ≡ false
+      go true h = absurd (no-zero-sized (is-zero y h) (i .two))
+      go false h = refl
+
+  pub no-nan2 : anyNan2 x y ≡ false
+  no-nan2 = ap₂ _||_ (fair-number (i .one)) (sized-number y (i .two))
+
+  pub none-infinite2 : anyInfinite2 x y ≡ false
+  none-infinite2 = ap₂ _||_ (fair-bounded (i .one)) (sized-bounded y (i .two))
+
+  pub unscaled2 : {A : Type 0} (back : A → Float → A) (steps : Float → Float → A) → rescaling2 back steps x y ≡ steps x y
+  unfolding rescaling2
+  unscaled2 back steps =
+      rw (ap (λ (b : Bool). b && survive2 x y (scaleOf2 x y)) (within (fair-larger (i .one) (i .two))))
+
+-- ---- and of three arguments and of four
 pub record Inside3 (x y z : Float) : Type 0 where
   pub one : Fair x
   pub two : Moderate y

@@ -5,6 +5,10 @@ use carlson::answer::looped;
 use carlson::answer::not_a_number;
 use carlson::constants::PI_2;
 use root::sqrt;
+use root::sqrt_ahead;
+use root_guess::Ahead;
+use root_guess::nearly;
+use root_guess::ready;
 ghost use mathlib.Core.Path.{_≡_};
 ghost use Rattle.cel.specs.Passes.{
   celAbove,
@@ -127,11 +131,16 @@ fn with_kc(s: Running, kc: f64) -> Running
     }
 }
 
-// Another pass, with the next kc.
-fn next(s: Running) -> Running
+// Another pass, with the next kc. Its root was made ready before e was there.
+fn next(s: Running, k: Ahead) -> Running
     ensures { λ r. ⌜ r ≡ celNext s ⌝ }
 {
-    pass(with_kc(s, 2.0 * sqrt(s.e)))
+    pass(with_kc(s, 2.0 * sqrt_ahead(s.e, k)))
+}
+
+// For the root after that, whose number is the next kc times m.
+fn ready_next(s: Running, k: Ahead) -> Ahead {
+    ready(nearly(s.e, k) * (2.0 * s.m))
 }
 
 fn value_of(s: Running) -> f64
@@ -146,12 +155,15 @@ fn from(first: Running) -> Found
 {
     let mut at = first;
     let mut n: u32 = 0;
+    let mut k = ready(at.e);
     loop {
         if far(at) {
             if n == CAP - 1 {
                 break looped(not_a_number(), n + 1);
             }
-            at = next(at);
+            let later = ready_next(at, k);
+            at = next(at, k);
+            k = later;
             n += 1;
         } else {
             break looped(value_of(at), n + 1);

@@ -1,4 +1,6 @@
 // RC's closed forms. For y < 0 the integral is singular, and its Cauchy principal value is a prefix times RC at other arguments.
+use crate::roots::all_roots;
+use crate::roots::both_roots;
 use carlson::constants::PI_2;
 use root::sqrt;
 use series::atan;
@@ -25,22 +27,24 @@ fn at_equal(prefix: f64, x: f64) -> f64
 fn by_atan(prefix: f64, x: f64, y: f64) -> f64
     ensures { λ r. ⌜ r ≡ rcByAtan prefix x y ⌝ }
 {
-    prefix * atan(sqrt((y - x) / x)) / sqrt(y - x)
+    let r = both_roots((y - x) / x, y - x);
+    prefix * atan(r.x) / r.y
 }
 
 // y < x, with y near x: a difference of two logarithms near 1 keeps its digits.
 fn by_ln_1p(prefix: f64, x: f64, y: f64) -> f64
     ensures { λ r. ⌜ r ≡ rcByLn1p prefix x y ⌝ }
 {
-    let arg = sqrt((x - y) / x);
-    prefix * (ln_1p(arg) - ln_1p(-arg)) / (2.0 * sqrt(x - y))
+    let r = both_roots((x - y) / x, x - y);
+    prefix * (ln_1p(r.x) - ln_1p(-r.x)) / (2.0 * r.y)
 }
 
 // y < x, with y at most x / 2
 fn by_ln(prefix: f64, x: f64, y: f64) -> f64
     ensures { λ r. ⌜ r ≡ rcByLn prefix x y ⌝ }
 {
-    prefix * ln((sqrt(x) + sqrt(x - y)) / sqrt(y)) / sqrt(x - y)
+    let r = all_roots(x, x - y, y);
+    prefix * ln((r.x + r.y) / r.z) / r.y
 }
 
 fn cases(prefix: f64, x: f64, y: f64) -> f64

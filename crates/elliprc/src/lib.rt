@@ -1,18 +1,21 @@
 // RC, the degenerate symmetric elliptic integral of the first kind (elliprc.rs; DLMF 19.16.6). It is elementary: closed forms
 // only.
 mod cases;
+mod roots;
 
 use crate::cases::steps;
 use carlson::answer::Answer;
 use carlson::answer::Found;
 use carlson::answer::closed;
 use carlson::answer::rescaled;
+use carlson::answer::settle;
 use carlson::answer::settle_late;
 use carlson::checks::any_infinite2;
 use carlson::checks::any_nan2;
 use carlson::constants::BELOW_ZERO;
 use carlson::constants::RC_NO_RESULT;
 use carlson::constants::ZERO_GIVEN;
+use carlson::door::moderate2;
 use carlson::rescaling::rescales2;
 use carlson::rescaling::scale2;
 use root::sqrt;
@@ -46,6 +49,9 @@ pub fn elliprc_unchecked(x: f64, y: f64) -> Found
 pub fn elliprc(x: f64, y: f64) -> Answer
     ensures { λ r. ⌜ r ≡ rc x y ⌝ }
 {
+    if moderate2(x, y) {
+        return settle(found(x, y), RC_NO_RESULT);
+    }
     if x < 0.0 {
         return Answer::Refused(BELOW_ZERO);
     }

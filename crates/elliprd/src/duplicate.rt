@@ -4,6 +4,7 @@ use carlson::answer::Found;
 use carlson::answer::duplication;
 use carlson::answer::not_a_number;
 use carlson::common::Lambda;
+use carlson::common::Trial;
 use carlson::common::lambda_with;
 use carlson::common::third_kind;
 use power::pow_neg_3_2;
@@ -12,10 +13,16 @@ use root::sqrt;
 use root::together::numbers3;
 use root_guess::by_row;
 use root_guess::row;
+ghost use Prim.Native.Nat.{_-_, _≤_};
 ghost use mathlib.Core.Path.{_≡_};
+ghost use mathlib.Core.Bool.{true, false};
 ghost use Rattle.root.specs.Root.{root};
 ghost use Rattle.carlson.specs.Common.{lambdaWith};
+ghost use Rattle.carlson.specs.Loop.{capped};
 ghost use Rattle.elliprd.specs.Duplicate.{
+  rdCap,
+  rdFound,
+  rdSpent,
   rdMean,
   rdStart,
   rdBegin,
@@ -90,8 +97,8 @@ fn moved(s: Round, l: Lambda) -> Round
 
 // The guesses first and then the tests, so that the processor makes the guesses side by side. This stands in each entry, since
 // LLVM compiles a function of this size into a loop only where it is called once.
-fn lambda_at(x: f64, y: f64, z: f64) -> Lambda
-    ensures { λ r. ⌜ r ≡ lambdaWith (root x) (root y) (root z) ⌝ }
+fn tried(x: f64, y: f64, z: f64) -> Trial
+    ensures { λ r. ⌜ (r .told ≡ true → r .by ≡ lambdaWith (root x) (root y) (root z)) ⌝ }
 {
     if numbers3(x, y, z) {
         let a = f64::to_bits(x);
@@ -104,19 +111,25 @@ fn lambda_at(x: f64, y: f64, z: f64) -> Lambda
             if certain(a, f64::to_bits(rx)) {
                 if certain(b, f64::to_bits(ry)) {
                     if certain(c, f64::to_bits(rz)) {
-                        return lambda_with(rx, ry, rz);
+                        return Trial {
+                            told: true,
+                            by: lambda_with(rx, ry, rz),
+                        };
                     }
                 }
             }
         }
     }
-    lambda_with(sqrt(x), sqrt(y), sqrt(z))
+    Trial {
+        told: false,
+        by: lambda_with(x, y, z),
+    }
 }
 
 fn step(s: Round) -> Round
     ensures { λ r. ⌜ r ≡ rdStep s ⌝ }
 {
-    moved(s, lambda_at(s.xn, s.yn, s.zn))
+    moved(s, lambda_with(sqrt(s.xn), sqrt(s.yn), sqrt(s.zn)))
 }
 
 fn close(s: Round) -> bool
@@ -155,12 +168,13 @@ pub fn series(x: f64, y: f64, a0: f64, an: f64, fnval: f64, sum: f64) -> f64
     fnval * pow_neg_3_2(an) * f + 3.0 * sum
 }
 
-pub fn duplicated(x: f64, y: f64, z: f64) -> Found
-    ensures { λ r. ⌜ r ≡ rdDuplication x y z ⌝ }
+// From a state on, after so many passes.
+fn onward(x: f64, y: f64, a0: f64, s: Round, from: u32) -> Found
+    requires { ⌜ from ≤ rdCap ⌝ }
+    ensures { λ r. ⌜ r ≡ capped rdStep rdClose (rdFound x y a0) rdSpent (rdCap - from) false s from ⌝ }
 {
-    let mut at = begin(x, y, z);
-    let a0 = at.an;
-    let mut n: u32 = 0;
+    let mut at = s;
+    let mut n = from;
     loop {
         if n == CAP {
             break duplication(not_a_number(), n);
@@ -169,6 +183,30 @@ pub fn duplicated(x: f64, y: f64, z: f64) -> Found
         n += 1;
         if close(at) {
             break duplication(series(x, y, a0, at.an, at.fnval, at.sum), n);
+        }
+    }
+}
+
+// While the roots are told at once; the rest of the passes is made out of line, root by root.
+pub fn duplicated(x: f64, y: f64, z: f64) -> Found
+    ensures { λ r. ⌜ r ≡ rdDuplication x y z ⌝ }
+{
+    let mut at = begin(x, y, z);
+    let a0 = at.an;
+    let mut n: u32 = 0;
+    loop {
+        if n == CAP {
+            break onward(x, y, a0, at, n);
+        }
+        let t = tried(at.xn, at.yn, at.zn);
+        if t.told {
+            at = moved(at, t.by);
+            n += 1;
+            if close(at) {
+                break duplication(series(x, y, a0, at.an, at.fnval, at.sum), n);
+            }
+        } else {
+            break onward(x, y, a0, at, n);
         }
     }
 }

@@ -1,4 +1,7 @@
 // RD, the degenerate symmetric elliptic integral of the third kind (elliprd.rs; DLMF 19.16.5).
+//
+// What another function answers is bound before it is returned, so that the formulas' answers go straight to the caller
+// (docs/PROVING.md, "An answer in memory").
 pub mod duplicate;
 mod means;
 
@@ -7,6 +10,7 @@ use crate::means::agm_of;
 use binary64::min;
 use carlson::answer::Answer;
 use carlson::answer::closed;
+use carlson::answer::handed;
 use carlson::answer::rescaled;
 use carlson::answer::settle_late;
 use carlson::checks::any_infinite3;
@@ -44,11 +48,14 @@ fn general(x: f64, y: f64, z: f64) -> Answer
 {
     if x == 0.0 {
         if y <= 16.0 * z {
-            return agm_of(y, z);
+            let a = agm_of(y, z);
+            return a;
         }
-        return Answer::Value(duplicated(x, y, z));
+        let found = duplicated(x, y, z);
+        return Answer::Value(found);
     }
-    Answer::Value(duplicated(x, y, z))
+    let found = duplicated(x, y, z);
+    Answer::Value(found)
 }
 
 // x and y are in the order in which the steps want them.
@@ -62,18 +69,22 @@ fn ordered(x: f64, y: f64, z: f64) -> Answer
         if x == 0.0 {
             return one_zero(y);
         }
-        return general(x, y, z);
+        let a = general(x, y, z);
+        return a;
     }
-    general(x, y, z)
+    let a = general(x, y, z);
+    a
 }
 
 fn steps(x: f64, y: f64, z: f64) -> Answer
     ensures { λ r. ⌜ r ≡ rdSteps x y z ⌝ }
 {
     if x == z {
-        return ordered(y, x, z);
+        let a = ordered(y, x, z);
+        return a;
     }
-    ordered(x, y, z)
+    let a = ordered(x, y, z);
+    a
 }
 
 // What was found at the rescaled arguments, over the scale and then its root.
@@ -97,11 +108,12 @@ pub fn elliprd_unchecked(x: f64, y: f64, z: f64) -> Answer
     steps(x, y, z)
 }
 
+// What was found is put together anew, field by field: copied whole, the bytes between its fields are copied too, one by one.
 fn settled(a: Answer, nan: bool, unbounded: bool) -> Answer
     ensures { λ r. ⌜ r ≡ rdSettled a nan unbounded ⌝ }
 {
     match a {
-        Answer::Value(found) => settle_late(found, nan, unbounded, NO_RESULT),
+        Answer::Value(found) => settle_late(handed(found, found.value), nan, unbounded, NO_RESULT),
         Answer::Refused(n) => Answer::Refused(n),
     }
 }
@@ -110,7 +122,8 @@ pub fn elliprd(x: f64, y: f64, z: f64) -> Answer
     ensures { λ r. ⌜ r ≡ rd x y z ⌝ }
 {
     if moderate3(x, y, z) {
-        return settled(steps(x, y, z), false, false);
+        let a = settled(steps(x, y, z), false, false);
+        return a;
     }
     if min(x, y) < 0.0 {
         return Answer::Refused(BELOW_ZERO);

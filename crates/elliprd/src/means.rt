@@ -6,6 +6,10 @@ use carlson::common::still_apart;
 use carlson::constants::AGM_SPENT;
 use carlson::constants::PI;
 use root::sqrt;
+use root::sqrt_ahead;
+use root_guess::Ahead;
+use root_guess::nearly;
+use root_guess::ready;
 ghost use mathlib.Core.Path.{_≡_};
 ghost use Rattle.elliprd.specs.Means.{sumsOf, rdMeanValue, rdAgmOf};
 
@@ -17,10 +21,10 @@ pub struct Sums {
     pub sumpow: f64,
 }
 
-fn next_sums(s: Sums) -> Sums
+fn next_sums(s: Sums, k: Ahead) -> Sums
     ensures { λ r. ⌜ r ≡ sumsOf s ⌝ }
 {
-    let t = sqrt(s.xn * s.yn);
+    let t = sqrt_ahead(s.xn * s.yn, k);
     let xn = (s.xn + s.yn) / 2.0;
     let sumpow = s.sumpow * 2.0;
     let temp = xn - t;
@@ -30,6 +34,11 @@ fn next_sums(s: Sums) -> Sums
         sum: s.sum + sumpow * temp * temp,
         sumpow,
     }
+}
+
+// For the root after that, before the one of this pass is there.
+fn ready_next(s: Sums, k: Ahead) -> Ahead {
+    ready((s.xn + s.yn) / 2.0 * nearly(s.xn * s.yn, k))
 }
 
 fn value_of(x0: f64, y0: f64, y: f64, z: f64, s: Sums) -> f64
@@ -53,12 +62,15 @@ pub fn agm_of(y: f64, z: f64) -> Answer
         sumpow: 0.25,
     };
     let mut n: u32 = 0;
+    let mut k = ready(s.xn * s.yn);
     loop {
         if still_apart(s.xn, s.yn) {
             if n == MEAN_CAP {
                 break Answer::Refused(AGM_SPENT);
             }
-            s = next_sums(s);
+            let later = ready_next(s, k);
+            s = next_sums(s, k);
+            k = later;
             n += 1;
         } else {
             break Answer::Value(agm(value_of(x0, y0, y, z, s), n));

@@ -7,6 +7,7 @@ use crate::means::agm_of;
 use carlson::answer::Answer;
 use carlson::answer::Found;
 use carlson::answer::closed;
+use carlson::answer::handed;
 use carlson::answer::infinite;
 use carlson::answer::settle;
 use carlson::checks::any_infinite3;
@@ -106,7 +107,8 @@ pub fn elliprf(x: f64, y: f64, z: f64) -> Answer
     ensures { λ r. ⌜ r ≡ rf x y z ⌝ }
 {
     if moderate3(x, y, z) {
-        return settle(steps(x, y, z), NO_RESULT);
+        let found = steps(x, y, z);
+        return settle(handed(found, found.value), NO_RESULT);
     }
     if any_nan3(x, y, z) {
         return Answer::Refused(NAN_GIVEN);

@@ -4,6 +4,10 @@ use carlson::answer::agm;
 use carlson::common::still_apart;
 use carlson::constants::PI;
 use root::sqrt;
+use root::sqrt_ahead;
+use root_guess::Ahead;
+use root_guess::nearly;
+use root_guess::ready;
 ghost use mathlib.Core.Path.{_≡_};
 ghost use Rattle.elliprf.specs.Means.{rfMeansOf, rfAgmValue, rfAgmOf};
 
@@ -16,14 +20,19 @@ pub struct Means {
     pub yn: f64,
 }
 
-fn next_means(m: Means) -> Means
+fn next_means(m: Means, k: Ahead) -> Means
     ensures { λ r. ⌜ r ≡ rfMeansOf m ⌝ }
 {
-    let t = sqrt(m.xn * m.yn);
+    let t = sqrt_ahead(m.xn * m.yn, k);
     Means {
         xn: (m.xn + m.yn) / 2.0,
         yn: t,
     }
+}
+
+// For the root after that, before the one of this pass is there.
+fn ready_next(m: Means, k: Ahead) -> Ahead {
+    ready((m.xn + m.yn) / 2.0 * nearly(m.xn * m.yn, k))
 }
 
 fn value_of(m: Means) -> f64
@@ -41,12 +50,15 @@ pub fn agm_of(x: f64, y: f64) -> Found
         yn: sqrt(y),
     };
     let mut n: u32 = 0;
+    let mut k = ready(m.xn * m.yn);
     loop {
         if still_apart(m.xn, m.yn) {
             if n == CAP {
                 break agm(value_of(m), n);
             }
-            m = next_means(m);
+            let later = ready_next(m, k);
+            m = next_means(m, k);
+            k = later;
             n += 1;
         } else {
             break agm(value_of(m), n);

@@ -7,7 +7,9 @@ use crate::chance::Range;
 use crate::chance::draw;
 use libc::STDOUT_FILENO;
 use root::certain;
+use root_guess::by_ahead;
 use root_guess::by_row;
+use root_guess::ready;
 use root_guess::row;
 
 const NUMBERS: u64 = 20_000;
@@ -70,15 +72,30 @@ fn beside_way(x: f64) -> usize {
     0
 }
 
+// Of the guess in a chain of roots, likewise, made ready from a number that is off by a part in 8,192.
+fn ahead_way(x: f64) -> usize {
+    if x > 0.0 {
+        let s = by_ahead(x, ready(x + x * 0.0001220703125));
+        if s > 0.0 {
+            if certain(f64::to_bits(x), f64::to_bits(s)) {
+                return 1;
+            }
+        }
+    }
+    0
+}
+
 struct Tallies {
     root: Tally,
     beside: Tally,
+    ahead: Tally,
     power: Tally,
 }
 
 fn counted(range: Range) -> Tallies {
     let mut root = Tally { ways: [0; 5] };
     let mut beside = Tally { ways: [0; 5] };
+    let mut ahead = Tally { ways: [0; 5] };
     let mut power = Tally { ways: [0; 5] };
     let mut seed: u64 = 1;
     let mut left: u64 = NUMBERS;
@@ -87,12 +104,14 @@ fn counted(range: Range) -> Tallies {
         seed = d.seed;
         root = count(root, root_way(d.x));
         beside = count(beside, beside_way(d.x));
+        ahead = count(ahead, ahead_way(d.x));
         power = count(power, power_way(d.x));
         left -= 1;
     }
     Tallies {
         root,
         beside,
+        ahead,
         power,
     }
 }
@@ -132,6 +151,10 @@ fn report(name: &[u8], t: Tallies) {
     io::write_all(STDOUT_FILENO, b", root beside others: ");
     let beside = t.beside;
     report_beside(beside);
+    io::write_all(STDOUT_FILENO, name);
+    io::write_all(STDOUT_FILENO, b", root in a chain: ");
+    let ahead = t.ahead;
+    report_beside(ahead);
     io::write_all(STDOUT_FILENO, name);
     io::write_all(STDOUT_FILENO, b", power: ");
     let power = t.power;

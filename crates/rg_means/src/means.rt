@@ -7,6 +7,10 @@ use carlson::constants::AGM_SPENT;
 use carlson::constants::PI;
 use fused::mul_add;
 use root::sqrt;
+use root::sqrt_ahead;
+use root_guess::Ahead;
+use root_guess::nearly;
+use root_guess::ready;
 ghost use mathlib.Core.Path.{_≡_};
 ghost use Rattle.rg_means.specs.Means.{rgBegin, rgMoved, rgNext, rgMeanValue, rgAgmOf};
 
@@ -50,10 +54,15 @@ fn moved(s: Sums, t: f64) -> Sums
     }
 }
 
-fn next_sums(s: Sums) -> Sums
+fn next_sums(s: Sums, k: Ahead) -> Sums
     ensures { λ r. ⌜ r ≡ rgNext s ⌝ }
 {
-    moved(s, sqrt(s.xn * s.yn))
+    moved(s, sqrt_ahead(s.xn * s.yn, k))
+}
+
+// For the root after that, before the one of this pass is there.
+fn ready_next(s: Sums, k: Ahead) -> Ahead {
+    ready((s.xn + s.yn) / 2.0 * nearly(s.xn * s.yn, k))
 }
 
 fn value_of(s: Sums) -> f64
@@ -69,12 +78,15 @@ pub fn agm_of(x: f64, z: f64) -> Answer
 {
     let mut s = begin(sqrt(x), sqrt(z));
     let mut n: u32 = 0;
+    let mut k = ready(s.xn * s.yn);
     loop {
         if still_apart(s.xn, s.yn) {
             if n == MEAN_CAP {
                 break Answer::Refused(AGM_SPENT);
             }
-            s = next_sums(s);
+            let later = ready_next(s, k);
+            s = next_sums(s, k);
+            k = later;
             n += 1;
         } else {
             break Answer::Value(agm(value_of(s), n));

@@ -16,6 +16,8 @@ use crate::exact::search;
 use crate::parts::scaled;
 pub use crate::way::Found;
 pub use crate::way::Way;
+use root_guess::Ahead;
+use root_guess::by_ahead;
 use root_guess::guess;
 ghost use mathlib.Core.Path.{_≡_};
 ghost use Prim.Native.Nat.{_^_, _≤_, _<_};
@@ -109,4 +111,19 @@ pub fn sqrt(x: f64) -> f64
         return rest(x);
     }
     rest(x)
+}
+
+// The same where all but the number was made ready ahead: in a chain of roots. It is small enough to be compiled into each loop.
+pub fn sqrt_ahead(x: f64, k: Ahead) -> f64
+    ensures { λ r. ⌜ r ≡ root x ⌝ }
+{
+    if x > 0.0 {
+        let s = by_ahead(x, k);
+        if s > 0.0 {
+            if certain(f64::to_bits(x), f64::to_bits(s)) {
+                return s;
+            }
+        }
+    }
+    sqrt(x)
 }

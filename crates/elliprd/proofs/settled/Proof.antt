@@ -1,16 +1,19 @@
--- `settled` meets its contract, case by case. Assumes nothing.
+-- `settled` meets its contract, case by case: what was found, put together of its fields, is the same. Assumes nothing.
+use mathlib.Core.Path.{sym}
 use borrow.Author.Needs.{needs}
+use Rattle.carlson.specs.Answer.{handedAt}
 use Rattle.elliprd.specs.Rd.{rdSettled}
 use Rattle.elliprd.proofs.settled.Statement.{statement}
 use Rattle.elliprd.proofs.settled.Tie as tie
 
 pub settled-spec : {M : Type 1} → statement M
-unfolding rdSettled
+unfolding rdSettled handedAt
 settled-spec =
     tie.close
     (tie.spec
     (λ c. search needs)
     (λ c κs. tt)
+    (λ c κs. tt)
     (λ c. search needs)
-    (λ c. rw (c .before .before .a .given .1) (c .settle-late .ensures))
+    (λ c. rw (c .before .before .before .a .given .1, sym (c .before .handed .ensures)) (c .settle-late .ensures))
     (λ c. rw (c .before .a2 .given .1)))

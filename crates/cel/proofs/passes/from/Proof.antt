@@ -11,15 +11,15 @@ use Rattle.cel.proofs.passes.from.Statement.{statement}
 use Rattle.cel.proofs.passes.from.Tie as tie
 
 abbrev Inv-loop : tie.InvT-loop
-Inv-loop first n₀ at n = Left celNext celNear celFound celSpent (celCap - 1) (celNear first) first (celNear at) at n
+Inv-loop first n₀ k₀ at n k = Left celNext celNear celFound celSpent (celCap - 1) (celNear first) first (celNear at) at n
 
 abbrev μ-loop : tie.MeasureT-loop
-μ-loop first n₀ at n = celCap - 1 - n
+μ-loop first n₀ k₀ at n k = celCap - 1 - n
 
 loop-again : tie.Need-loop-again Inv-loop μ-loop
 loop-again c =
-    let k = c .before .before .before in
-    left-on (k .before .loop .inv) (ap not (sym (k .far .ensures) ∙ c .before .before .if1 .taken)) (omega arith)
+    let k = c .before .before .before .before in
+    left-on (k .before .loop .inv) (ap not (sym (k .far .ensures) ∙ c .before .before .before .if1 .taken)) (omega arith)
     (c .next .ensures) refl
 
 returns : tie.Need-returns Inv-loop μ-loop
@@ -45,11 +45,13 @@ from-spec =
     (tie.spec
     Inv-loop
     μ-loop
+    (λ c κs. tt)
     (λ c. left-begins)
     (λ c κs. tt)
     (λ c. omega arith)
     (λ c κs. tt)
     (λ c. record { fits = omega arith })
+    (λ c κs. tt)
     (λ c κs. tt)
     (λ c κs. tt)
     (λ c. record { fits = omega arith })

@@ -6,5 +6,7 @@ use Rattle.elliprc.proofs.cases.by_atan.Tie as tie
 
 pub by-atan-spec : {M : Type 1} → statement M
 unfolding rcByAtan
-by-atan-spec = tie.close (tie.spec (λ c κs. tt) (λ c κs. tt) (λ c κs. tt)
-    (λ c. rw (sym (c .before .before .sqrt .ensures), sym (c .before .atan .ensures), sym (c .sqrt2 .ensures))))
+by-atan-spec = tie.close (tie.spec (λ c κs. tt) (λ c κs. tt)
+    (λ c.
+    let r = c .before .before .both-roots .ensures in
+    rw (sym (r .0), sym (c .before .atan .ensures), sym (r .1))))

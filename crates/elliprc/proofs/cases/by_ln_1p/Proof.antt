@@ -6,10 +6,8 @@ use Rattle.elliprc.proofs.cases.by_ln_1p.Tie as tie
 
 pub by-ln-1p-spec : {M : Type 1} → statement M
 unfolding rcByLn1p
-by-ln-1p-spec = tie.close (tie.spec (λ c κs. tt) (λ c κs. tt) (λ c κs. tt) (λ c κs. tt)
-    (λ c. rw (
-      sym (c .before .before .before .sqrt .ensures),
-      sym (c .before .before .ln-1p .ensures),
-      sym (c .before .ln-1p2 .ensures),
-      sym (c .sqrt2 .ensures),
-    )))
+by-ln-1p-spec = tie.close (tie.spec (λ c κs. tt) (λ c κs. tt) (λ c κs. tt)
+    (λ c.
+    let k = c .before .before .before in
+    let r = k .before .both-roots .ensures in
+    rw (sym (r .0), sym (k .ln-1p .ensures), sym (c .before .ln-1p2 .ensures), sym (r .1))))

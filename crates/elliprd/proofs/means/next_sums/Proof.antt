@@ -6,4 +6,4 @@ use Rattle.elliprd.proofs.means.next_sums.Tie as tie
 
 pub next-sums-spec : {M : Type 1} → statement M
 unfolding sumsOf
-next-sums-spec = tie.close (tie.spec (λ c κs. tt) (λ c. rw (sym (c .before .before .before .sqrt .ensures))))
+next-sums-spec = tie.close (tie.spec (λ c κs. tt) (λ c. rw (sym (c .before .before .before .sqrt-ahead .ensures))))

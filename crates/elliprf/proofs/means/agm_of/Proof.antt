@@ -14,10 +14,10 @@ use Rattle.elliprf.proofs.means.agm_of.Statement.{statement}
 use Rattle.elliprf.proofs.means.agm_of.Tie as tie
 
 abbrev Inv-loop : tie.InvT-loop
-Inv-loop x y m₀ n₀ m n = Left rfMeansOf rfTogether rfAgmCount rfAgmCount rfCap (rfTogether m₀) m₀ (rfTogether m) m n
+Inv-loop x y m₀ n₀ k₀ m n k = Left rfMeansOf rfTogether rfAgmCount rfAgmCount rfCap (rfTogether m₀) m₀ (rfTogether m) m n
 
 abbrev μ-loop : tie.MeasureT-loop
-μ-loop x y m₀ n₀ m n = rfCap - n
+μ-loop x y m₀ n₀ k₀ m n k = rfCap - n
 
 whole : (x y : Float) (m : Means) → m ≡ rfAgmStart x y → capped rfMeansOf rfTogether rfAgmCount rfAgmCount rfCap (rfTogether m) m 0
     ≡ rfAgmOf x y
@@ -31,15 +31,15 @@ started x y rx ry e f = rw (e, f)
 
 loop-again : tie.Need-loop-again Inv-loop μ-loop
 loop-again c =
-    let k = c .before .before .before in
-    left-on (k .before .loop .inv) (ap not (sym (k .still-apart .ensures) ∙ c .before .before .if1 .taken)) (omega arith)
+    let k = c .before .before .before .before in
+    left-on (k .before .loop .inv) (ap not (sym (k .still-apart .ensures) ∙ c .before .before .before .if1 .taken)) (omega arith)
     (c .next-means .ensures) refl
 
 returns : tie.Need-returns Inv-loop μ-loop
 returns c =
     let k = c .before .before .before .before in
     let l = k .before .loop in
-    let a = k .before .before in
+    let a = k .before .before .before .before in
     let b = a .before .before .args in
     c .agm .ensures ∙ ap (λ (v : Float). agmAt v (l .n)) (c .before .value-of .ensures)
     ∙ left-spent (l .inv) (ap not (sym (k .still-apart .ensures) ∙ c .before .before .before .if1 .taken))
@@ -50,7 +50,7 @@ returns-2 : tie.Need-returns-2 Inv-loop μ-loop
 returns-2 c =
     let k = c .before .before .before in
     let l = k .before .loop in
-    let a = k .before .before in
+    let a = k .before .before .before .before in
     let b = a .before .before .args in
     c .agm2 .ensures ∙ ap (λ (v : Float). agmAt v (l .n)) (c .before .value-of2 .ensures)
     ∙ left-found (l .inv) (ap not (sym (k .still-apart .ensures) ∙ c .before .before .if1 .left))
@@ -64,7 +64,9 @@ agm-of-spec =
     μ-loop
     (λ c κs. tt)
     (λ c κs. tt)
+    (λ c κs. tt)
     (λ c. left-begins)
+    (λ c κs. tt)
     (λ c κs. tt)
     (λ c κs. tt)
     (λ c κs. tt)

@@ -6,4 +6,4 @@ use Rattle.elliprf.proofs.means.next_means.Tie as tie
 
 pub next-means-spec : {M : Type 1} → statement M
 unfolding rfMeansOf
-next-means-spec = tie.close (tie.spec (λ c κs. tt) (λ c. rw (sym (c .before .sqrt .ensures))))
+next-means-spec = tie.close (tie.spec (λ c κs. tt) (λ c. rw (sym (c .before .sqrt-ahead .ensures))))

@@ -7,4 +7,4 @@ use Rattle.rg_means.proofs.means.next_sums.Tie as tie
 pub next-sums-spec : {M : Type 1} → statement M
 unfolding rgNext
 next-sums-spec = tie.close (tie.spec (λ c κs. tt) (λ c κs. tt)
-    (λ c. rw (sym (c .before .sqrt .ensures), sym (c .moved .ensures))))
+    (λ c. rw (sym (c .before .sqrt-ahead .ensures), sym (c .moved .ensures))))

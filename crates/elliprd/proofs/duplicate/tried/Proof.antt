@@ -1,11 +1,12 @@
--- `lambda_at` meets its contract: each root was tested by itself, or found by itself. Assumes nothing.
+-- `tried` meets its contract: each root was tested by itself. Assumes nothing.
 use mathlib.Core.Path.{_≡_, sym, _∙_}
+use mathlib.Core.Bool.{true≢false}
 use lib.Ieee.{Float}
 use Rattle.root.specs.Root.{root}
 use Rattle.root.specs.Together.{Numbers3, numbers3-told, root-told}
 use Rattle.carlson.specs.Common.{lambdaWith}
-use Rattle.elliprd.proofs.duplicate.lambda_at.Statement.{statement}
-use Rattle.elliprd.proofs.duplicate.lambda_at.Tie as tie
+use Rattle.elliprd.proofs.duplicate.tried.Statement.{statement}
+use Rattle.elliprd.proofs.duplicate.tried.Tie as tie
 
 -- none of the arguments is NaN, and none of the guesses
 arguments : (c : tie.Then1) → Numbers3 (c .before .before .args .x) (c .before .before .args .y) (c .before .before .args .z)
@@ -21,7 +22,7 @@ by-roots : (x y z : Float) {rx ry rz : Float} → rx ≡ root x → ry ≡ root 
 by-roots x y z e f g = rw (e, f, g)
 
 returns : tie.Need-returns
-returns c =
+returns c h =
     let z = c .before .before in
     let y = z .before .before in
     let x = y .before .before in
@@ -32,13 +33,8 @@ returns c =
     (root-told _ _ (s .good .1 .0 .1) (k .before .before .by-row2 .ok) (y .certain2 .ensures (z .before .if4 .taken)))
     (root-told _ _ (s .good .1 .1 .0 .1) (k .by-row3 .ok) (z .certain3 .ensures (c .before .if5 .taken)))
 
-returns-2 : tie.Need-returns-2
-returns-2 c =
-    c .lambda-with2 .ensures
-    ∙ by-roots _ _ _ (c .before .before .before .sqrt .ensures) (c .before .before .sqrt2 .ensures) (c .before .sqrt3 .ensures)
-
-pub lambda-at-spec : {M : Type 1} → statement M
-lambda-at-spec =
+pub tried-spec : {M : Type 1} → statement M
+tried-spec =
     tie.close
     (tie.spec
     (λ c κs. tt)
@@ -61,7 +57,4 @@ lambda-at-spec =
     (λ c κs. tt)
     returns
     (λ c κs. tt)
-    (λ c κs. tt)
-    (λ c κs. tt)
-    (λ c κs. tt)
-    returns-2)
+    (λ c h. absurd (true≢false (sym h))))
