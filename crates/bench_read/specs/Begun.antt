@@ -14,7 +14,8 @@ begins r b = go (ltb (r .stage) 2) (eqb b 13) (eqb b 32)
     blank = unfold blankAfter endedAt swingFed timesFed in by (eqb (r .ended) 0) (eqb (r .ended) 3) (ltb (r .ended) 3)
       where
         by : (t u v : Bool)
-            → eqb (cond t (endedAt r 1) (cond u (endedAt r 4) (cond v (swingFed r (r .ended + 1) 32) (timesFed r 32))) .stage) 0 ≡ false
+            → eqb (cond t (endedAt r 1) (cond u (endedAt r 4) (cond v (swingFed r (r .ended + 1) 32) (timesFed r 32))) .stage) 0
+            ≡ false
         by true u v = unfold endedAt in refl
         by false true v = unfold endedAt in refl
         by false false true = unfold swingFed in refl
@@ -28,7 +29,8 @@ begins r b = go (ltb (r .stage) 2) (eqb b 13) (eqb b 32)
         by false true = unfold swingFed in refl
         by false false = unfold timesFed in refl
 
-    go : (t u v : Bool) → eqb (cond t (cond u (stagedOf r 2) (cond v (blankAfter r) (otherAfter r b))) (stagedOf r 3) .stage) 0 ≡ false
+    go : (t u v : Bool) → eqb
+        (cond t (cond u (stagedOf r 2) (cond v (blankAfter r) (otherAfter r b))) (stagedOf r 3) .stage) 0 ≡ false
     go true true v = unfold stagedOf in refl
     go true false true = blank
     go true false false = other

@@ -3,10 +3,11 @@ use swing_read::Reading;
 use swing_read::start;
 use swing_read::step;
 ghost use mathlib.Core.Path.{_≡_};
-ghost use Rattle.bench_read.specs.Rows.{rowFrom, named, stagedOf, endedAt, swingFed, timesFed, blankAfter, otherAfter, rowAfter};
+ghost use Rattle.bench_read.specs.Rows.{rowFrom, named, stagedOf, endedAt, swingFed, timesFed, blankAfter, otherAfter};
+ghost use Rattle.bench_read.specs.Rows.{rowAfter};
 
-// How far the line is: 0 nothing has come, 1 something, 2 a carriage return last, 3 something after that, which makes it bad. How many
-// fields have ended, up to four. What is read of `L h g`, and of the two numbers that come last.
+// How far the line is: 0 nothing has come, 1 something, 2 a carriage return last, 3 something after that, which makes it bad. How
+// many fields have ended, up to four. What is read of `L h g`, and of the two numbers that come last.
 pub struct Row {
     pub stage: u64,
     pub ended: u64,

@@ -1,5 +1,5 @@
-// Standard input to standard output, for the two programs of the bench: what is written is bench_stream's to say. The flags say whether
-// the lines are peaks, whether the tallies are told at the end, and whether it is said how far the work has come.
+// Standard input to standard output, for the two programs of the bench: what is written is bench_stream's to say. The flags say
+// whether the lines are peaks, whether the tallies are told at the end, and whether it is said how far the work has come.
 use bench_stream::BLOCK;
 use bench_stream::HELD;
 use bench_stream::begin;

@@ -9,7 +9,8 @@ use Rattle.writing.specs.Fed.{Ran, quiet, andRan, run}
 use Rattle.writing.specs.Input.{lastLine, linesFrom}
 use Rattle.bench_read.specs.Rows.{rowFrom, rowAfter}
 use Rattle.bench_read.specs.Begun.{begins}
-use Rattle.bench_stream.specs.Lines.{Open, startRow, stateFrom, stateAfter, stateHeard, openAfter, said, heard, lineEnd, benchByte, benchFrom}
+use Rattle.bench_stream.specs.Lines.{Open, startRow, stateFrom, stateAfter, stateHeard, openAfter, said, heard, lineEnd}
+use Rattle.bench_stream.specs.Lines.{benchByte, benchFrom}
 use Rattle.bench_stream.specs.Stream.{saidAtEnd, inputEnd, saidLast, opened, repliesFrom}
 
 -- nothing of a line has come
@@ -41,7 +42,8 @@ opened-last (x ∷ l) s b = opened-last l (openAfter s x) b
 
 module _ (summary : Bool) where
   -- ---- the whole input
-  at-end : (begun : List ℕ) (s : Open) → fresh s ≡ true → saidLast summary (opened s begun) ≡ repliesFrom summary s (lastLine begun)
+  at-end : (begun : List ℕ) (s : Open) → fresh s ≡ true
+      → saidLast summary (opened s begun) ≡ repliesFrom summary s (lastLine begun)
   unfolding saidLast inputEnd lastLine repliesFrom
   at-end [] s e = unfold opened in rw e
   at-end (b ∷ l) s e = rw (opened-begun l s b)
@@ -69,7 +71,8 @@ module _ (summary : Bool) where
           (p .said ++ benchFrom (p .left) bs .said) ++ saidLast summary (benchFrom (p .left) bs .left)
           ≡ repliesFrom summary s (cond t (begun ∷ linesFrom [] bs) (linesFrom (begun ++ b ∷ []) bs)))
       go true rest = rw (append-assoc, renewed rest) (unfold repliesFrom in refl)
-      go false rest = subst (λ (v : Open). saidAll v bs ≡ repliesFrom summary s (linesFrom (begun ++ b ∷ []) bs)) (opened-last begun s b)
+      go false rest = subst (λ (v : Open). saidAll v bs ≡ repliesFrom summary s (linesFrom (begun ++ b ∷ []) bs))
+          (opened-last begun s b)
           (rest (begun ++ b ∷ []) s e)
 
   -- THE LAW: fed whole, an input gives a reply to each of its lines in order, and what is said at its end

@@ -81,7 +81,8 @@ counted-counted t j k =
     )
 
 -- THE LAW: the lines may stand in any order
-pub any-order : (decays : Bool) {ls ms : List (List ℕ)} → Reordered ls ms → (t : Tally) → tallyOf decays t ls ≡ tallyOf decays t ms
+pub any-order : (decays : Bool) {ls ms : List (List ℕ)} → Reordered ls ms → (t : Tally)
+    → tallyOf decays t ls ≡ tallyOf decays t ms
 unfolding tallyOf
 any-order decays nothing t = refl
 any-order decays (kept l r) t = any-order decays r (countedOf t (kindIn decays l))

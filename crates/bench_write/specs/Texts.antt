@@ -69,7 +69,8 @@ kneesOf t = ((t .passed + t .dragging) % 2 ^ 64 + t .refused) % 2 ^ 64
 
 unfoldable pub judgedCounts : Tally → List ℕ
 judgedCounts t =
-    (countText (107 ∷ 110 ∷ 101 ∷ 101 ∷ 115 ∷ 32 ∷ []) (kneesOf t) ++ countText (112 ∷ 97 ∷ 115 ∷ 115 ∷ 101 ∷ 100 ∷ 32 ∷ []) (t .passed))
+    (countText (107 ∷ 110 ∷ 101 ∷ 101 ∷ 115 ∷ 32 ∷ []) (kneesOf t) ++ countText (112 ∷ 97 ∷ 115 ∷ 115 ∷ 101 ∷ 100 ∷ 32 ∷ [])
+    (t .passed))
     ++ countText (100 ∷ 114 ∷ 97 ∷ 103 ∷ 115 ∷ 32 ∷ []) (t .dragging)
 
 unfoldable pub otherCounts : Tally → List ℕ

@@ -1,5 +1,6 @@
--- That no second answer would do (document 01, "How tight the contracts are"). A contract `r ≡ definition` leaves one answer by itself;
--- shown here is that document 01's own words for the leaf leave one too, and that it is the definition's. Assumes nothing.
+-- That no second answer would do (document 01, "How tight the contracts are"). A contract `r ≡ definition` leaves one answer by
+-- itself; shown here is that document 01's own words for the leaf leave one too, and that it is the definition's. Assumes
+-- nothing.
 use Prim.Native.Nat.{ℕ, _%_, _^_, _≤_, _<_}
 use mathlib.Core.Path.{_≡_, refl, sym, ap, _∙_, subst}
 use mathlib.Core.Bool.{Bool, true, false, not, cond, true≢false}

@@ -1,4 +1,5 @@
--- IEEE 754's four operations on f64, each rounded once, as operators, so that a definition reads like the Rust it is held against.
+-- IEEE 754's four operations on f64, each rounded once, as operators, so that a definition reads like the Rust it is held
+-- against.
 -- The library's names stand behind them; ≡, <, + keep their own meaning.
 use Prim.Native.Nat.{ℕ}
 use lib.Ieee.{Float, binary64, add, sub, mul, div, ofBits}

@@ -120,7 +120,8 @@ above-all x f l h =
 zero-not : (m : ℕ) (e : ℤ) (s : Bool)
     → (eqb (suc m * up e * 1) (0 * 1 * down e) && (Bool·beq s false || eqb (suc m * up e * 1) 0)) ≡ true → ⊥
 zero-not m e s h =
-    true≢false (sym h ∙ not-level (suc m * up e * 1) (0 * 1 * down e) (mul-pos (mul-pos (zero-lt-suc m) (up-pos e)) (zero-lt-suc 0))
+    true≢false (sym h ∙ not-level (suc m * up e * 1) (0 * 1 * down e)
+    (mul-pos (mul-pos (zero-lt-suc m) (up-pos e)) (zero-lt-suc 0))
     (zero-mul (down e)))
   where
     not-level : (a b : ℕ) → 0 < a → b ≡ 0 → (eqb a b && (Bool·beq s false || eqb a 0)) ≡ false
@@ -169,7 +170,8 @@ bits-number b h =
 pub number-bits : (x : Float) → T (fits binary64 x) → isNan x ≡ false → toBits binary64 x % 2 ^ 63 ≤ infinity
 number-bits x f h =
     let b = toBits binary64 x in
-    let e : ltb infinity (b % 2 ^ 63) ≡ false = sym (nanBits-above binary64 b) ∙ nanBits-is binary64 b ∙ ap isNan (ofBits-toBits binary64 x f) ∙ h in
+    let e : ltb infinity (b % 2 ^ 63) ≡ false = sym (nanBits-above binary64 b) ∙ nanBits-is binary64 b
+    ∙ ap isNan (ofBits-toBits binary64 x f) ∙ h in
     nltb→le infinity (b % 2 ^ 63) (subst (λ (t : Bool). T (not t)) (sym e) tt)
 
 nan-only : (x : Float) → isNan x ≡ true → x ≡ nan
@@ -179,7 +181,8 @@ nan-only (inf s) h = absurd (true≢false (sym h))
 nan-only (fin s m e) h = absurd (true≢false (sym h))
 
 pub bits-nan : (b : ℕ) → infinity < b % 2 ^ 63 → ofBits binary64 b ≡ nan
-bits-nan b h = nan-only (ofBits binary64 b) (sym (nanBits-is binary64 b) ∙ nanBits-above binary64 b ∙ lt-ltb infinity (b % 2 ^ 63) h)
+bits-nan b h = nan-only (ofBits binary64 b)
+    (sym (nanBits-is binary64 b) ∙ nanBits-above binary64 b ∙ lt-ltb infinity (b % 2 ^ 63) h)
 
 -- ---- x < infinity, -infinity < x
 pub lower-side : (x : Float) → lt x (ofBits binary64 infinity) ≡ true → lt (neg (ofBits binary64 infinity)) x ≡ finite x

@@ -10,7 +10,8 @@ use Rattle.carlson.specs.declared.answer.Found.{Found}
 use Rattle.carlson.specs.declared.answer.Answer.{Answer}
 use Rattle.carlson.specs.declared.answer.Answer.the-variants.{Value, Refused}
 use Rattle.carlson.specs.declared.answer.Road.{Road}
-use Rattle.carlson.specs.declared.answer.Road.the-variants.{Closed, Infinite, Agm, Duplication, Joint, Taylor, Reduction, Loop}
+use Rattle.carlson.specs.declared.answer.Road.the-variants.{Closed, Infinite, Agm, Duplication, Joint, Taylor, Reduction}
+use Rattle.carlson.specs.declared.answer.Road.the-variants.{Loop}
 
 -- ---- the way to a value: "the round count is the number of duplication or joint passes begun, plus AGM passes that replaced
 -- the means"

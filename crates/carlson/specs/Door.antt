@@ -312,7 +312,8 @@ module _ {x y z : Float} (i : Inside3 x y z) where
   pub not-rescaled3 : rescales3 x y z (scaleOf3 x y z) ≡ false
   not-rescaled3 = ap (λ (b : Bool). b && survive3 x y z (scaleOf3 x y z)) (within scale3)
 
-  pub unscaled3 : {A : Type 0} (back : A → Float → A) (steps : Float → Float → Float → A) → rescaling3 back steps x y z ≡ steps x y z
+  pub unscaled3 : {A : Type 0} (back : A → Float → A) (steps : Float → Float → Float → A)
+      → rescaling3 back steps x y z ≡ steps x y z
   unfolding rescaling3
   unscaled3 back steps = rw not-rescaled3
 

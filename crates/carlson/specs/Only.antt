@@ -71,7 +71,8 @@ chosen-both R false p q = q
 
 -- rescaled or not: P of what the steps give, Q of that and of what comes back
 pub rescaled2-to : {A : Type 0} (P Q : A → Type 0) (back : A → Float → A) (steps : Float → Float → A)
-    → ((x y : Float) → P (steps x y)) → ((a : A) → P a → Q a) → ((a : A) (s : Float) → P a → Q (back a s)) → (x y : Float) → Q (rescaling2 back steps x y)
+    → ((x y : Float) → P (steps x y)) → ((a : A) → P a → Q a) → ((a : A) (s : Float) → P a → Q (back a s)) → (x y : Float)
+    → Q (rescaling2 back steps x y)
 unfolding rescaling2
 rescaled2-to P Q back steps each plain kept x y =
     let s = scaleOf2 x y in

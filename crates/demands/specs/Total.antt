@@ -25,7 +25,8 @@ use Rattle.carlson.specs.Constants.{zero as +0}
 use Rattle.carlson.specs.Checks.{anyNan2, anyNan3, anyNan4, anyInfinite2, anyInfinite3, anyInfinite4, below3, zerosOf3}
 use Rattle.carlson.specs.Common.{meanCap}
 use Rattle.carlson.specs.Loop.{capped-holds}
-use Rattle.carlson.specs.Only.{among, Only, value, refused, Finite, Any, chosen, rescaled3, finite-or, settled-only, infinite-only, late-only, told-only, longer}
+use Rattle.carlson.specs.Only.{among, Only, value, refused, Finite, Any, chosen, rescaled3, finite-or, settled-only}
+use Rattle.carlson.specs.Only.{infinite-only, late-only, told-only, longer}
 use Rattle.carlson.specs.declared.answer.Answer.{Answer}
 use Rattle.carlson.specs.declared.answer.Answer.the-variants.{Value, Refused}
 use Rattle.elliprc.specs.Rc.{rcUnchecked, rc}
@@ -34,7 +35,8 @@ use Rattle.elliprd.specs.Means.{sumsOf, rdTogether, rdAgmFound, rdAgmSpent, rdA
 use Rattle.elliprd.specs.Rd.{rdEqual, rdZero, rdGeneral, rdOrdered, rdSteps, overScale, rdUnchecked, rdSettled, rd}
 use Rattle.root.specs.Root.{root}
 use Rattle.rg_means.specs.Means.{rgBegin, rgNext, rgTogether, rgAgmFound, rgAgmSpent, rgAgmOf}
-use Rattle.elliprg.specs.Rg.{rgEqual, rgZero, rgTwo, rgAlone, rgTop, rgLow, rgSorted, rgSteps, timesRoot, rgUnchecked, rgSettled, rg}
+use Rattle.elliprg.specs.Rg.{rgEqual, rgZero, rgTwo, rgAlone, rgTop, rgLow, rgSorted, rgSteps, timesRoot, rgUnchecked, rgSettled}
+use Rattle.elliprg.specs.Rg.{rg}
 use Rattle.rj_positive.specs.Positive.{wellApart, rjAll, rjThree, rjTwo, rjLast, rjPair, rjCases, rjPositive}
 use Rattle.rj_negative.specs.declared.reduction.Reduced.{Reduced}
 use Rattle.rj_negative.specs.Reduction.{reducedAnswer}

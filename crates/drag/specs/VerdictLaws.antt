@@ -1,5 +1,5 @@
--- What a verdict cannot do: a slower knee never passes where a quicker one drags, nor does a knee drag by a wider limit that passes by
--- a narrower one. `dragOf` is a function of the five numbers, so that a verdict hangs on nothing else. Assumes nothing.
+-- What a verdict cannot do: a slower knee never passes where a quicker one drags, nor does a knee drag by a wider limit that
+-- passes by a narrower one. `dragOf` is a function of the five numbers, so that a verdict hangs on nothing else. Assumes nothing.
 use Prim.Native.Nat.{ℕ, _+_, _*_, _^_, _≤_}
 use mathlib.Core.Path.{_≡_, refl}
 use mathlib.Core.Bool.{Bool, true, false}
@@ -51,7 +51,8 @@ wider-passes l h g t m n k = go (periodOf l h g)
     go (Value f) p = unfold judgedOf weighed in wider (f .value) t m n k (unfold judgedOf weighed in p)
     go (Refused n) p = absurd (unfold judgedOf in p)
 
--- ---- on the nanosecond: an ideal swing of one second, and of 1.0000000005 seconds, whose printed excess is 0 at 1,000,000,001 ns
+-- ---- on the nanosecond: an ideal swing of one second, and of 1.0000000005 seconds, whose printed excess is 0 at 1,000,000,001
+-- ns
 pub on-the-limit : passes (bits 0x3FF0_0000_0000_0000) 1000000007 7 ≡ true
 on-the-limit = unfold passes ofBits in refl
 

@@ -12,8 +12,8 @@ ghost use Rattle.drag.specs.Verdict.{aheadOf, otherOf, apartOf, weighed}
 // How many nanoseconds a second has.
 const BILLION: u64 = 1_000_000_000;
 
-// Whether the knee passes, whether it was quicker than the ideal swing, by how many whole nanoseconds it was apart from it, rounded
-// half to even, and the ideal period in seconds.
+// Whether the knee passes, whether it was quicker than the ideal swing, by how many whole nanoseconds it was apart from it,
+// rounded half to even, and the ideal period in seconds.
 pub struct Verdict {
     pub passes: bool,
     pub quicker: bool,

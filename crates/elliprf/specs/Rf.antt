@@ -29,7 +29,8 @@ rfTwo x y = rcUnchecked x y
 
 -- a zero is exchanged with z, and the mean is of the other two; else duplication, in the order given
 unfoldable pub rfGeneral : Float → Float → Float → Found
-rfGeneral x y z = cond (eq x zero) (rfAgmOf z y) (cond (eq y zero) (rfAgmOf x z) (cond (eq z zero) (rfAgmOf x y) (rfDuplication x y z)))
+rfGeneral x y z = cond (eq x zero) (rfAgmOf z y)
+    (cond (eq y zero) (rfAgmOf x z) (cond (eq z zero) (rfAgmOf x y) (rfDuplication x y z)))
 
 unfoldable pub rfSteps : Float → Float → Float → Found
 rfSteps x y z =

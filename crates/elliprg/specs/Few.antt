@@ -1,5 +1,5 @@
--- RG begins at most its joint loop's rounds, and rescales at most once beside the RC that it calls (document 02, 2026-12). Assumes
--- nothing.
+-- RG begins at most its joint loop's rounds, and rescales at most once beside the RC that it calls (document 02, 2026-12).
+-- Assumes nothing.
 use native.Mathlib.Omega.{arith}
 use lib.Ieee.{Float, eq}
 use Rattle.binary64.specs.Operators.{_⊗_}

@@ -1,5 +1,5 @@
-// RJ, the symmetric elliptic integral of the third kind (elliprj.rs; DLMF 19.16.2), in two: an entry for p above zero, and one for
-// p below zero (document 02, 2026-10).
+// RJ, the symmetric elliptic integral of the third kind (elliprj.rs; DLMF 19.16.2), in two: an entry for p above zero, and one
+// for p below zero (document 02, 2026-10).
 mod plan;
 
 use crate::plan::Plan;

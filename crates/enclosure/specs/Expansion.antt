@@ -72,7 +72,8 @@ module _ (a g c : ℕ → Quotient) (z : Quotient) (term : (i : ℕ) → g i ⊠
   expand (suc k) n =
       let s = sum a n in
       let e = exact c z k (suc n) in
-      let here : s ⊞ g n ⊠ c n ⊞ z ⊠ g n ⊠ e ≃ s ⊞ a n ⊞ g (suc n) ⊠ e = ⊞-same (⊞-same ≃-refl (term n)) (⊠-same (next n) ≃-refl) in
+      let here : s ⊞ g n ⊠ c n ⊞ z ⊠ g n ⊠ e ≃ s ⊞ a n ⊞ g (suc n) ⊠ e = ⊞-same (⊞-same ≃-refl (term n))
+      (⊠-same (next n) ≃-refl) in
       let later : s ⊞ a n ⊞ g (suc n) ⊠ e ≃ sum a (suc n + k) = expand k (suc n) in
       let f : suc n + k ≡ n + suc k = omega arith in
       subst (λ (i : ℕ). s ⊞ g n ⊠ (c n ⊞ z ⊠ e) ≃ sum a i) f (≃-trans (regroup s (g n) (c n) z e) (≃-trans here later))
@@ -132,7 +133,8 @@ euler-next : (t : Quotient) (i : ℕ) → euler-ratio t ⊠ euler-front t i ≃ 
 unfolding euler-front power
 euler-next t i = reassociate (euler-ratio t) (power (euler-ratio t) i) (t ⊠ euler-start t)
 
-pub euler-expansion : (t : Quotient) (k : ℕ) → t ⊠ euler-start t ⊠ exact (coefficient euler) (euler-ratio t) k 0 ≃ sum (euler-term t) k
+pub euler-expansion : (t : Quotient) (k : ℕ)
+    → t ⊠ euler-start t ⊠ exact (coefficient euler) (euler-ratio t) k 0 ≃ sum (euler-term t) k
 unfolding euler-front power
 euler-expansion t k =
     let b = t ⊠ euler-start t in

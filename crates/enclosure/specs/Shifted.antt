@@ -10,7 +10,8 @@ use lib.ListN.{length}
 use lib.Ieee.Fits.{and-l, and-r}
 use Rattle.algebra.specs.Ring.{_:+_, _:*_, _≈_, _⊩_, _times_≼_, Law, by-ring}
 use Rattle.enclosure.specs.Quotient.{Quotient}
-use Rattle.enclosure.specs.Pieces.{Series, euler, odd, terms, denominator, next, numerators-from, numerators, times-shift, shifted}
+use Rattle.enclosure.specs.Pieces.{Series, euler, odd, terms, denominator, next, numerators-from, numerators, times-shift}
+use Rattle.enclosure.specs.Pieces.{shifted}
 use Rattle.enclosure.specs.Expansion.{coefficient, exact}
 
 -- c_0 + c_1 p/q + c_2 (p/q)^2 + .., over q ^ length
@@ -35,7 +36,8 @@ times-step : Law 7 (λ a i b p q P e. (a :+ i :* b) :* (q :* P) :+ p :* (b :* P 
     ≈ a :* (q :* P) :+ (i :* q :+ p) :* (b :* P :+ p :* e))
 times-step = by-ring tt
 
-times-value : (i a : ℕ) (bs : List ℕ) (p q : ℕ) → evaluate (times-shift i a bs) p q ≡ a * q ^ suc (length bs) + (i * q + p) * evaluate bs p q
+times-value : (i a : ℕ) (bs : List ℕ) (p q : ℕ)
+    → evaluate (times-shift i a bs) p q ≡ a * q ^ suc (length bs) + (i * q + p) * evaluate bs p q
 times-value i a [] p q = omega arith
 times-value i a (b ∷ bs) p q =
     rw (length-times i b bs, times-value i b bs p q, pow-succ' q (suc (length bs)))
@@ -52,7 +54,8 @@ shifted-value i (c ∷ cs) p q =
 -- ---- the numerators are the coefficients over M: a computed test
 abbrev pub right-from : Series → ℕ → ℕ → ℕ → ℕ → Bool
 right-from s M zero n C = true
-right-from s M (suc left) n C = eqb (C * coefficient s n .den) (coefficient s n .num * M) && right-from s M left (suc n) (next s n C)
+right-from s M (suc left) n C = eqb (C * coefficient s n .den) (coefficient s n .num * M) && right-from s M left (suc n)
+    (next s n C)
 
 -- (p / q the point, e / e' the sum's rest and H over M Q the same, Q = q ^ k)
 exact-step : Law 10 (λ c c' C M p q e e' H Q.
@@ -65,7 +68,8 @@ length-from s zero n C = refl
 length-from s (suc k) n C = ap suc (length-from s k (suc n) (next s n C))
 
 exact-from : (s : Series) (z : Quotient) (M k n C : ℕ) → T (right-from s M k n C)
-    → exact (coefficient s) z k n .num * (M * z .den ^ k) ≡ evaluate (numerators-from s k n C) (z .num) (z .den) * exact (coefficient s) z k n .den
+    → exact (coefficient s) z k n .num * (M * z .den ^ k) ≡ evaluate (numerators-from s k n C) (z .num) (z .den) * exact
+    (coefficient s) z k n .den
 unfolding exact
 exact-from s z M zero n C t = omega arith
 exact-from s z M (suc k) n C t =

@@ -13,12 +13,14 @@ abbrev pub half : Quotient
 half = over 1 1
 
 two-step : Order 6 (λ c c' z z' e e'.
-    (con 2 :* z' :* e' times c :* con 1 ≼ con 1 :* c') ∷ (e :* c' times z :* con 2 ≼ con 1 :* z') ∷ (c' :* z' times e :* con 1 ≼ con 2 :* e') ∷ []
+    (con 2 :* z' :* e' times c :* con 1 ≼ con 1 :* c') ∷ (e :* c' times z :* con 2 ≼ con 1 :* z')
+    ∷ (c' :* z' times e :* con 1 ≼ con 2 :* e') ∷ []
     ⊩ (c :* (z' :* e') :+ z :* e :* c') :* con 1 :* con 2 ≈ con 2 :* (c' :* (z' :* e')) :* con 2)
 two-step = by-below tt
 
 rise-step : Order 8 (λ y y' z z' e e' b b'.
-    (e :* e' :* b' times y :* (z' :* b') ≼ (z :* b' :+ b :* z') :* y') ∷ (con 2 :* b :* e' :* z' :* e' :* b' times y :* con 2 ≼ con 1 :* y')
+    (e :* e' :* b' times y :* (z' :* b') ≼ (z :* b' :+ b :* z') :* y')
+    ∷ (con 2 :* b :* e' :* z' :* e' :* b' times y :* con 2 ≼ con 1 :* y')
     ∷ (b :* z' :* e' :* b' :* y' times e :* con 1 ≼ con 2 :* e') ∷ []
     ⊩ y :* (e :* (con 1 :* b') :+ con 4 :* b :* e') :* (z' :* e' :* (con 1 :* b'))
     ≈ (z :* e :* (con 1 :* b') :+ con 4 :* b :* (z' :* e')) :* (y' :* (e' :* (con 1 :* b'))))
@@ -36,7 +38,8 @@ module _ (c : ℕ → Quotient) (small : (i : ℕ) → c i ≼ whole 1) where
       }
 
   -- THE LAW
-  pub exact-rises : {y z : Quotient} (b : Quotient) → y ≼ z ⊞ b → y ≼ half → z ≼ half → (k i : ℕ) → exact c y k i ≼ exact c z k i ⊞ whole 4 ⊠ b
+  pub exact-rises : {y z : Quotient} (b : Quotient) → y ≼ z ⊞ b → y ≼ half → z ≼ half → (k i : ℕ)
+      → exact c y k i ≼ exact c z k i ⊞ whole 4 ⊠ b
   unfolding exact
   exact-rises b near hy hz zero i = record { cross = omega arith }
   exact-rises {y} {z} b near hy hz (suc k) i =
@@ -46,4 +49,5 @@ module _ (c : ℕ → Quotient) (small : (i : ℕ) → c i ≼ whole 1) where
         cross = rise-step .law (y .num) (y .den) (z .num) (z .den) (e .num) (e .den) (b .num) (b .den)
             (near .cross) (hy .cross) (exact-two hz k (suc i) .cross);
       } in
-      ≼-trans (⊞-mono ≼-refl (≼-trans (⊠-mono ≼-refl (exact-rises b near hy hz k (suc i))) rise)) (⊞-over (c i) (z ⊠ e) (whole 4 ⊠ b))
+      ≼-trans (⊞-mono ≼-refl (≼-trans (⊠-mono ≼-refl (exact-rises b near hy hz k (suc i))) rise))
+      (⊞-over (c i) (z ⊠ e) (whole 4 ⊠ b))

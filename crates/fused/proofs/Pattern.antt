@@ -22,11 +22,13 @@ unfolding ofBits
 ofBits-is b = refl
 
 -- ---- its value
-fields-value : (s : Bool) (y t : ℕ) → y < 2047 → t < 2 ^ 52 → HasValue (ofFields binary64 s y t) s (value (y * 2 ^ 52 + t)) (2 ^ 1074)
+fields-value : (s : Bool) (y t : ℕ) → y < 2047 → t < 2 ^ 52
+    → HasValue (ofFields binary64 s y t) s (value (y * 2 ^ 52 + t)) (2 ^ 1074)
 unfolding ofFields
 fields-value s zero t h l =
     let e : 0 * 2 ^ 52 + t ≡ t = omega arith in
-    subst (λ (v : ℕ). HasValue (odd 53 s t 0 1074) s v (2 ^ 1074)) (mul-one t ∙ sym (value-small t (omega arith)) ∙ ap value (sym e))
+    subst (λ (v : ℕ). HasValue (odd 53 s t 0 1074) s v (2 ^ 1074))
+    (mul-one t ∙ sym (value-small t (omega arith)) ∙ ap value (sym e))
     (odd-sign 53 s t 0 1074)
 fields-value s (suc y) t h l =
     let n : suc y ≡ 2047 → ⊥ = λ q. omega arith in
@@ -43,7 +45,8 @@ bits-value b h =
     let t = b % 2 ^ 52 in
     let i : y * 2 ^ 52 + t ≡ b % 2 ^ 63 = omega arith in
     rw (ofBits-is b)
-    (subst (λ (v : ℕ). HasValue (ofFields binary64 s y t) s (value v) (2 ^ 1074)) i (fields-value s y t (omega arith) (omega arith)))
+    (subst (λ (v : ℕ). HasValue (ofFields binary64 s y t) s (value v) (2 ^ 1074)) i
+    (fields-value s y t (omega arith) (omega arith)))
 
 -- ---- a number's pattern: above 0 and below the infinity's
 top-none : (s : Bool) (t : ℕ) → T (number (ofFields binary64 s 2047 t)) → ⊥
@@ -74,16 +77,19 @@ pattern-of b h =
       ],
       elim (lt-or-le y 2047) [
         | inl l ↦ omega arith
-        | inr l ↦ let c : y ≡ 2047 = omega arith in absurd (top-none s t (subst (λ (z : ℕ). T (number (ofFields binary64 s z t))) c f))
+        | inr l ↦ let c : y ≡ 2047 = omega arith in absurd
+            (top-none s t (subst (λ (z : ℕ). T (number (ofFields binary64 s z t))) c f))
       ],
     )
 
-pub pattern : (x : Float) → T (fits binary64 x) → T (number x) → (0 < toBits binary64 x % 2 ^ 63) × (toBits binary64 x % 2 ^ 63 < infinity)
+pub pattern : (x : Float) → T (fits binary64 x) → T (number x)
+    → (0 < toBits binary64 x % 2 ^ 63) × (toBits binary64 x % 2 ^ 63 < infinity)
 pattern x f h = pattern-of (toBits binary64 x) (subst (λ (z : Float). T (number z)) (sym (ofBits-toBits binary64 x f)) h)
 
 -- ---- back from the bits, three times
 pub same-three : (a b c : Float) → T (fits binary64 a) → T (fits binary64 b) → T (fits binary64 c)
-    → fused (ofBits binary64 (toBits binary64 a)) (ofBits binary64 (toBits binary64 b)) (ofBits binary64 (toBits binary64 c)) ≡ fused a b c
+    → fused (ofBits binary64 (toBits binary64 a)) (ofBits binary64 (toBits binary64 b))
+    (ofBits binary64 (toBits binary64 c)) ≡ fused a b c
 same-three a b c p q r = rw (ofBits-toBits binary64 a p, ofBits-toBits binary64 b q, ofBits-toBits binary64 c r)
 
 -- the test for a normal number

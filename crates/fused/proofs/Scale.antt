@@ -21,7 +21,8 @@ scaled-high b l u =
     let v : value b ≡ m * 2 ^ y = value-high b l ∙ ap (λ (x : ℕ). x * 2 ^ y) (add-comm (2 ^ 52) (b % 2 ^ 52)) in
     record {
       finite = u;
-      same = ap (λ (x : ℕ). x * 2 ^ 64) v ∙ mul-assoc m (2 ^ y) (2 ^ 64) ∙ ap (λ (x : ℕ). m * x) (sym (pow-add 2 y 64) ∙ ap (λ (x : ℕ). 2 ^ x) i);
+      same = ap (λ (x : ℕ). x * 2 ^ 64) v ∙ mul-assoc m (2 ^ y) (2 ^ 64)
+          ∙ ap (λ (x : ℕ). m * x) (sym (pow-add 2 y 64) ∙ ap (λ (x : ℕ). 2 ^ x) i);
       low = omega arith;
       high = omega arith;
       least = omega arith;

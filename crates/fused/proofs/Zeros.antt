@@ -58,9 +58,11 @@ product-zero s t u m n k e d g z w =
     mul-one (m * n * up (e +ℤ d)) ∙ ap (λ (x : ℕ). x * up (e +ℤ d)) z ∙ zero-mul (up (e +ℤ d)) ∙ sym (zero-mul (down (e +ℤ d))) in
     ap (λ (x : Float). add binary64 x (fin u k g)) rounded
     ∙ add-values (fin v 0 (pos 0)) (fin u k g) v u 0 (k * up g) 1 (down g) (omega arith) (down-pos g) (refl, refl) (refl, refl)
-    ∙ sym (add-values (fin v (m * n) (e +ℤ d)) (fin u k g) v u 0 (k * up g) 1 (down g) (omega arith) (down-pos g) (refl, none) (refl, refl))
+    ∙ sym (add-values (fin v (m * n) (e +ℤ d)) (fin u k g) v u 0 (k * up g) 1 (down g) (omega arith) (down-pos g) (refl, none)
+    (refl, refl))
 
-pub first-zero : {a : Float} (b c : Float) → finite b ≡ true → finite c ≡ true → Zero a → add binary64 (mul binary64 a b) c ≡ fused a b c
+pub first-zero : {a : Float} (b c : Float) → finite b ≡ true → finite c ≡ true → Zero a
+    → add binary64 (mul binary64 a b) c ≡ fused a b c
 first-zero nan c p q (a-zero s e) = absurd (true≢false (sym p))
 first-zero (inf t) c p q (a-zero s e) = absurd (true≢false (sym p))
 first-zero (fin t n d) nan p q (a-zero s e) = absurd (true≢false (sym q))
@@ -68,7 +70,8 @@ first-zero (fin t n d) (inf u) p q (a-zero s e) = absurd (true≢false (sym q))
 first-zero (fin t n d) (fin u k g) p q (a-zero s e) =
     product-zero s t u 0 n k e d g (zero-mul n) (ap (λ (x : ℕ). x * (n * up d)) (zero-mul (up e)) ∙ zero-mul (n * up d))
 
-pub second-zero : (a : Float) {b : Float} (c : Float) → finite a ≡ true → finite c ≡ true → Zero b → add binary64 (mul binary64 a b) c ≡ fused a b c
+pub second-zero : (a : Float) {b : Float} (c : Float) → finite a ≡ true → finite c ≡ true → Zero b
+    → add binary64 (mul binary64 a b) c ≡ fused a b c
 second-zero nan c p q (a-zero s e) = absurd (true≢false (sym p))
 second-zero (inf t) c p q (a-zero s e) = absurd (true≢false (sym p))
 second-zero (fin t n d) nan p q (a-zero s e) = absurd (true≢false (sym q))

@@ -11,7 +11,8 @@ plain : fused (fin false 1 (pos 1)) (fin false 3 (pos 0)) (fin false 1 (pos 2)) 
 unfolding fused add
 plain = refl
 
--- cancellation, with x = 1 + 2 ^ -52: x * x - (1 + 2 ^ -51) is 2 ^ -104, while the product rounded first is 1 + 2 ^ -51, and would leave 0
+-- cancellation, with x = 1 + 2 ^ -52: x * x - (1 + 2 ^ -51) is 2 ^ -104, while the product rounded first is 1 + 2 ^ -51, and
+-- would leave 0
 cancels : fused (bits 0x3ff0_0000_0000_0001) (bits 0x3ff0_0000_0000_0001) (bits 0xbff0_0000_0000_0002) ≡ fin false 1 (negsuc 103)
 unfolding fused add ofBits
 cancels = refl

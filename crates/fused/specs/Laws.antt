@@ -1,4 +1,5 @@
--- What `fused` is at finite numbers: `round` of the exact fraction a * b + c, with IEEE 754's sign; the f64 nearest to it, and no other.
+-- What `fused` is at finite numbers: `round` of the exact fraction a * b + c, with IEEE 754's sign; the f64 nearest to it, and no
+-- other.
 -- Assumes nothing.
 use Prim.Native.Nat.{ℕ, suc, _+_, _-_, _*_, _^_, _≤_, _<_}
 use mathlib.Core.Path.{_≡_, refl, sym, ap, ap₂, _∙_}
@@ -66,7 +67,8 @@ sum-power (negsuc a) (pos b) =
     ap (λ (x : ℕ). up z * x) (mul-one (2 ^ suc a)) ∙ sub-power b (suc a) ∙ ap (λ (x : ℕ). x * down z) (sym (one-mul (2 ^ b)))
 sum-power (negsuc a) (negsuc b) =
     let i : suc a + suc b ≡ suc (suc (a + b)) = omega arith in
-    one-mul (2 ^ suc a * 2 ^ suc b) ∙ sym (pow-add 2 (suc a) (suc b)) ∙ ap (λ (z : ℕ). 2 ^ z) i ∙ sym (one-mul (2 ^ suc (suc (a + b))))
+    one-mul (2 ^ suc a * 2 ^ suc b) ∙ sym (pow-add 2 (suc a) (suc b)) ∙ ap (λ (z : ℕ). 2 ^ z) i
+    ∙ sym (one-mul (2 ^ suc (suc (a + b))))
 
 cross-three : (m n U U1 U2 E E1 E2 N v G K : ℕ) → U * (E1 * E2) ≡ U1 * U2 * E → m * U1 * G ≡ N * E1 → n * U2 * K ≡ v * E2
     → m * n * U * (G * K) * (E1 * E2) ≡ N * v * E * (E1 * E2)
@@ -157,4 +159,5 @@ module _ (a b c : Float) (s t u : Bool) (A B C G H K : ℕ) (g : 0 < G) (h : 0 <
   pub nearest-fused : (n : ℕ) → Nearest (fraction size whole) n → fused a b c ≡ signed w n
   nearest-fused n r =
       by-pattern n
-      (sym (rounded-fraction size whole whole-pos) ∙ nearest-rounded (fraction size whole) (fraction-number size whole whole-pos) n r)
+      (sym (rounded-fraction size whole whole-pos)
+      ∙ nearest-rounded (fraction size whole) (fraction-number size whole whole-pos) n r)

@@ -1,4 +1,5 @@
-// The bench for C: the verdict on a knee, and the decrement of two peaks. 0 with the places written, or the number with none touched.
+// The bench for C: the verdict on a knee, and the decrement of two peaks. 0 with the places written, or the number with none
+// touched.
 use decay::Decay;
 use drag::Judged;
 ghost use mathlib.Core.Path.{_≡_};

@@ -9,8 +9,8 @@ use writing::least;
 ghost use Prim.Native.Nat.{_≤_};
 ghost use lib.ListN.{length};
 
-// What stands in the window: the file's place at which it begins, the place in it of the next job and how many bytes came; whether
-// the file has ended, and whether a read failed.
+// What stands in the window: the file's place at which it begins, the place in it of the next job and how many bytes came;
+// whether the file has ended, and whether a read failed.
 pub struct Window {
     pub from: u64,
     pub at: usize,

@@ -15,8 +15,8 @@ pub const LINE: usize = 640;
 
 const LINES: usize = 192;
 
-// Which line may come next, 0 a header and 1 more than its number else; how many lines came, how much is held of the next, and whether
-// something was wrong, which was said.
+// Which line may come next, 0 a header and 1 more than its number else; how many lines came, how much is held of the next, and
+// whether something was wrong, which was said.
 pub struct Standing {
     pub next: usize,
     pub lines: u64,

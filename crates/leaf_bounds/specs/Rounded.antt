@@ -2,7 +2,8 @@
 use Prim.Native.Nat.{ℕ, _+_, _*_, _^_, _≤_, _<_}
 use mathlib.Core.Path.{_≡_, refl, sym, _∙_}
 use mathlib.Core.Bool.{Bool, true, false}
-use native.Mathlib.Nat.{add-le-add, le-add-right, le-trans, le-of-eq, lt-of-le-of-lt, mul-one, one-mul, mul-le-mul-right, zero-lt-suc}
+use native.Mathlib.Nat.{add-le-add, le-add-right, le-trans, le-of-eq, lt-of-le-of-lt, mul-one, one-mul, mul-le-mul-right}
+use native.Mathlib.Nat.{zero-lt-suc}
 use native.Mathlib.Omega.{arith}
 use lib.Pow.{pow-add, pow-pos, pow-mono, pow-lt}
 use lib.Ieee.{Float, Format, low, round, sub}

@@ -28,8 +28,8 @@ isCel (Cel kc p a b) = true
 unfoldable pub countText : ℕ → ℕ → List ℕ
 countText n after = decimal 9 n ++ after ∷ []
 
--- the words of document 02, 2026-04, each with a blank: "closed", "infinite", "agm", "duplication", "joint", "taylor", "reduction",
--- and "loop" (2026-09)
+-- the words of document 02, 2026-04, each with a blank: "closed", "infinite", "agm", "duplication", "joint", "taylor",
+-- "reduction", and "loop" (2026-09)
 unfoldable pub roadText : Road → List ℕ
 roadText Closed = 99 ∷ 108 ∷ 111 ∷ 115 ∷ 101 ∷ 100 ∷ 32 ∷ []
 roadText Infinite = 105 ∷ 110 ∷ 102 ∷ 105 ∷ 110 ∷ 105 ∷ 116 ∷ 101 ∷ 32 ∷ []

@@ -1,7 +1,8 @@
 -- The number kept of a word, moved up by one where the rest says so. Assumes nothing.
 use Prim.Native.Nat.{ℕ, suc, _+_, _-_, _*_, _/_, _%_, _^_, _≤_, _<_, compare, Ordering, Ordering·lt, Ordering·eq, Ordering·gt}
 use mathlib.Core.Path.{_≡_, refl, sym, ap, _∙_}
-use native.Mathlib.Nat.{le-trans, lt-of-le-of-lt, lt-of-lt-of-le, le-of-eq, pow-suc, div-mul-le-self, div-eq-of-lt, mod-lt, mod-eq-of-lt, div-lt-iff-lt-mul}
+use native.Mathlib.Nat.{le-trans, lt-of-le-of-lt, lt-of-lt-of-le, le-of-eq, pow-suc, div-mul-le-self, div-eq-of-lt, mod-lt}
+use native.Mathlib.Nat.{mod-eq-of-lt, div-lt-iff-lt-mul}
 use native.Mathlib.Omega.{arith}
 use lib.Pow.{pow-pos, pow-mono, pow-lt, split, pow-add}
 use lib.Ieee.{nearest}
@@ -30,7 +31,8 @@ pub near-half : (q r k : ℕ) → 0 < k → nearest q (compare r (2 ^ (k - 1))) 
 near-half q r k p =
     let i : suc (k - 1) ≡ k = omega arith in
     let e : 2 ^ (k - 1) * 2 ≡ 2 ^ k = sym (pow-suc 2 (k - 1)) ∙ ap (λ (z : ℕ). 2 ^ z) i in
-    ap (λ (o : Ordering). nearest q o) (sym (scaled-compare r (2 ^ (k - 1)) 2 (omega arith)) ∙ ap (λ (z : ℕ). compare (r * 2) z) e)
+    ap (λ (o : Ordering). nearest q o)
+    (sym (scaled-compare r (2 ^ (k - 1)) 2 (omega arith)) ∙ ap (λ (z : ℕ). compare (r * 2) z) e)
 
 -- ---- what is kept of a word v above its k lowest digits: all of them and more, all of them, some
 pub none-kept : (v k : ℕ) → v < 2 ^ 64 → 64 < k → 0 ≡ nearest (v / 2 ^ k) (compare (v % 2 ^ k * 2) (2 ^ k))
@@ -40,7 +42,8 @@ none-kept v k l h =
     let b : v * 2 < 2 ^ k = omega arith in
     rw (div-eq-of-lt a, mod-eq-of-lt a, lt-compare (v * 2) (2 ^ k) b)
 
-pub word-below : (v k : ℕ) → v < 2 ^ 64 → k ≡ 64 → nearest 0 (compare v (2 ^ 63)) ≡ nearest (v / 2 ^ k) (compare (v % 2 ^ k * 2) (2 ^ k))
+pub word-below : (v k : ℕ) → v < 2 ^ 64 → k ≡ 64
+    → nearest 0 (compare v (2 ^ 63)) ≡ nearest (v / 2 ^ k) (compare (v % 2 ^ k * 2) (2 ^ k))
 word-below v k l e =
     let a : v / 2 ^ 64 ≡ 0 = omega arith in
     let b : v % 2 ^ 64 ≡ v = omega arith in

@@ -1,4 +1,5 @@
--- The rounding of a word v with a sticky bit, which stands for X / Y, is `round` of X / Y. The number is X / Y * 2 ^ e units of 2 ^ -2296.
+-- The rounding of a word v with a sticky bit, which stands for X / Y, is `round` of X / Y. The number is X / Y * 2 ^ e units of 2
+-- ^ -2296.
 -- Normal and subnormal results differ only in how many digits are kept; overflow is past the last pattern. Assumes nothing.
 use Prim.Native.Nat.{ℕ, _+_, _-_, _*_, _/_, _%_, _^_, _≤_, _<_, compare, Ordering}
 use mathlib.Core.Path.{_≡_, refl, sym, ap, _∙_, subst}
@@ -42,7 +43,8 @@ beside : (T S : ℕ) → T * S * 2 ^ 1074 ≡ T * (S * 2 ^ 1074)
 beside = ring 2 (λ T S. T :* S :* con (2 ^ 1074) ≈ T :* (S :* con (2 ^ 1074))) tt
 
 -- ---- q digits kept of v, with k above 1 in the exponent's field
-module _ (X Y v q r e k J : ℕ) (p : 0 < Y) (j : Jam X Y v) (d : q * (4 * J) + r ≡ v) (l : r < 4 * J) (s : 2 ^ 1222 * 2 ^ k ≡ 4 * J * 2 ^ e)
+module _ (X Y v q r e k J : ℕ) (p : 0 < Y) (j : Jam X Y v) (d : q * (4 * J) + r ≡ v) (l : r < 4 * J)
+    (s : 2 ^ 1222 * 2 ^ k ≡ 4 * J * 2 ^ e)
     (b : (k ≡ 0) ⊎ (2 ^ 52 ≤ q)) (u : q < 2 ^ 53) where
   D : Digits X Y q r (4 * J)
   D = jam-digits X Y v q r J p j d l
@@ -73,7 +75,8 @@ module _ (X Y v q r e k J : ℕ) (p : 0 < Y) (j : Jam X Y v) (d : q * (4 * J) + 
       rw (scale-is Y (4 * J) (2 ^ e) (2 ^ k) s, around (D .rest) (2 ^ e))
       (scaled-compare (D .rest * 2) (Y * (4 * J)) (2 ^ e * 2 ^ 1074) unit ∙ D .half)
 
-  pub round-digits : k * 2 ^ 52 + q < infinity → ofBits binary64 (k * 2 ^ 52 + nearest q (compare (r * 2) (4 * J))) ≡ round binary64 false num den
+  pub round-digits : k * 2 ^ 52 + q < infinity
+      → ofBits binary64 (k * 2 ^ 52 + nearest q (compare (r * 2) (4 * J))) ≡ round binary64 false num den
   round-digits h =
       let o = compare (r * 2) (4 * J) in
       let c : Compared o (rest * 2) (den * 2 ^ k) =
@@ -137,12 +140,14 @@ module _ (s : Bool) (X Y v e : ℕ) (p : 0 < Y) (j : Jam X Y v) (lo : 2 ^ 63 ≤
     word-high n r b g =
         answer ((e - 1211) * 2 ^ 52 + n) r
         (rw (g, near-half (v / 2048) (v % 2048) 11 (omega arith))
-        (round-digits X Y v (v / 2048) (v % 2048) e (e - 1211) 512 p j (omega arith) (omega arith) high-scale (inr (omega arith)) (omega arith)
+        (round-digits X Y v (v / 2048) (v % 2048) e (e - 1211) 512 p j (omega arith) (omega arith) high-scale (inr (omega arith))
+        (omega arith)
         (omega arith)))
 
     pub word-over : (r : Float) → 2046 ≤ e - 1211 → Signed infinity r → Answer r
     word-over r b =
         answer infinity r
         (infinity-is
-        ∙ round-over X Y v (v / 2048) (v % 2048) e (e - 1211) 512 p j (omega arith) (omega arith) high-scale (inr (omega arith)) (omega arith)
+        ∙ round-over X Y v (v / 2048) (v % 2048) e (e - 1211) 512 p j (omega arith) (omega arith) high-scale (inr (omega arith))
+        (omega arith)
         (omega arith))

@@ -5,7 +5,8 @@ use mathlib.Core.Bool.{Bool, true, false, cond}
 use lib.Ieee.{Float, binary64, round, neg}
 use Rattle.rounding.specs.Sign.{round-neg}
 
-pub round-sign : (s : Bool) (a c : ℕ) (x r : Float) → x ≡ round binary64 false a c → r ≡ cond s (neg x) x → r ≡ round binary64 s a c
+pub round-sign : (s : Bool) (a c : ℕ) (x r : Float) → x ≡ round binary64 false a c → r ≡ cond s (neg x) x
+    → r ≡ round binary64 s a c
 round-sign true a c x r e f = f ∙ ap neg e ∙ sym (round-neg a c)
 round-sign false a c x r e f = f ∙ e
 

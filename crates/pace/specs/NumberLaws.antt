@@ -49,7 +49,12 @@ pub part-short : (l : List ℕ) (at step k : ℕ) → step ≤ k → length (tak
 part-short l at step k h = rw length-take (omega arith)
 
 pub newlines-few : (l : List ℕ) (at step r : ℕ) → r ≡ newlines (take (at + step - at) (drop at l)) → r ≤ step
-newlines-few l at step r e = omega (arith, newlines-most (take (at + step - at) (drop at l)), part-short l at step step (omega arith))
+newlines-few l at step r e = omega (
+  arith,
+  newlines-most (take (at + step - at) (drop at l)),
+  part-short l at step step
+      (omega arith),
+)
 
 -- more than all is all
 take-min : (l : List ℕ) (size : ℕ) → take (min (length l) size) l ≡ take size l

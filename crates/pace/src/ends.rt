@@ -1,5 +1,5 @@
-// How many lines end in a block. The bytes are counted by parts of 224, so that a part's count is one byte: so sixteen bytes go in one
-// instruction, and a block costs less than a hundredth of its answers.
+// How many lines end in a block. The bytes are counted by parts of 224, so that a part's count is one byte: so sixteen bytes go
+// in one instruction, and a block costs less than a hundredth of its answers.
 use writing::least;
 ghost use mathlib.Core.Path.{_≡_};
 ghost use Prim.Native.Nat.{_≤_};

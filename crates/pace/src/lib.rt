@@ -1,4 +1,5 @@
-// The numbers of a line of progress: how many lines end in a block, how much was done in a second, what part of the input was read.
+// The numbers of a line of progress: how many lines end in a block, how much was done in a second, what part of the input was
+// read.
 mod ends;
 mod numbers;
 

@@ -51,8 +51,8 @@ pub fn rate(done: u64, before: u64, now: u64, then: u64) -> u64
     since(done, before) / (now - then)
 }
 
-// Whether the clock is asked after a block of this length, of which so many bytes came, with so many read before it and after it: where the
-// block was not full, so that the input is slow, and else at every stride.
+// Whether the clock is asked after a block of this length, of which so many bytes came, with so many read before it and after it:
+// where the block was not full, so that the input is slow, and else at every stride.
 pub fn due(length: usize, size: usize, before: u64, after: u64) -> bool
     ensures { λ r. ⌜ r ≡ dueOf length size before after ⌝ }
 {

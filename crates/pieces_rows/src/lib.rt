@@ -1,5 +1,5 @@
-// The tables of the short polynomials: for each sixty-fourth of the range a row of twelve coefficients. They are enclosure's `row`,
-// in code.
+// The tables of the short polynomials: for each sixty-fourth of the range a row of twelve coefficients. They are enclosure's
+// `row`, in code.
 mod euler;
 mod odd;
 mod row;

@@ -1,5 +1,5 @@
--- The polynomial of RC near equal arguments: 1 - y / 3 + y² / 5 - .. + y⁸ / 17, by Horner's rule from the highest coefficient, product and
--- sum rounded apart (document 01, "What the leaves mean"). Definitions only.
+-- The polynomial of RC near equal arguments: 1 - y / 3 + y² / 5 - .. + y⁸ / 17, by Horner's rule from the highest coefficient,
+-- product and sum rounded apart (document 01, "What the leaves mean"). Definitions only.
 use Prim.Native.Nat.{ℕ, zero, suc, _+_, _*_, _%_}
 use mathlib.Core.Bool.{cond}
 use lib.IntN.{pos, negsuc}

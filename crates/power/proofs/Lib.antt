@@ -1,4 +1,5 @@
--- `Fours`: powers of four, shut. `Odd`: a middle's square times the cube. `OneWord`: the bound of one word. `Limbs`: the exact product.
+-- `Fours`: powers of four, shut. `Odd`: a middle's square times the cube. `OneWord`: the bound of one word. `Limbs`: the exact
+-- product.
 -- `Law`: which pattern is the answer's. `Special`: NaN, zeros, infinities, negative numbers.
 mod Fours
 mod Odd

@@ -9,7 +9,8 @@ use Rattle.rounding.specs.Value.{infinity-is}
 use Rattle.binary64.specs.Tests.{plus-zero, Zero, a-zero, is-zero, zero-is, above-all, number-above}
 use Rattle.power.specs.Power.{power}
 
-pub power-of-infinity : (x : Float) → T (fits binary64 x) → infinity ≤ toBits binary64 x → lt plus-zero x ≡ true → plus-zero ≡ power x
+pub power-of-infinity : (x : Float) → T (fits binary64 x) → infinity ≤ toBits binary64 x → lt plus-zero x ≡ true
+    → plus-zero ≡ power x
 power-of-infinity x f l h = at ∙ ap power (sym (above-all x f l h))
   where
     at : plus-zero ≡ power (inf false)

@@ -1,10 +1,11 @@
 // The power -3/2 of an f64, exactly rounded, at every f64.
 //
-// `guess` finds it by plain f64 arithmetic; nothing is proved of that. `is_clear` tests it in whole numbers: the middles beside it
-// are squared, multiplied by the number's cube and compared with one. What passes is proved to be the answer. Where one word does
-// not tell, or the guess is wrong, `search` finds the answer, in a bounded number of steps. A caller does not wait for the test:
-// the processor runs on past it. Which of these found the answer is told beside it, so that a program can count how good the guess
-// is; `pow_neg_3_2` leaves it away.
+// `guess` finds it by plain f64 arithmetic; nothing is proved of that. `is_clear` tests it in whole numbers: the middles beside
+// it are squared, multiplied by the number's cube and compared with one. What passes is proved to be the answer. Where one word
+// does not tell, or the guess is wrong, `search` finds the answer, in a bounded number of steps. A caller does not wait for the
+// test:
+// the processor runs on past it. Which of these found the answer is told beside it, so that a program can count how good the
+// guess is; `pow_neg_3_2` leaves it away.
 mod bound;
 mod exact;
 mod guess;

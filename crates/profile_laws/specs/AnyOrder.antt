@@ -26,7 +26,8 @@ use Rattle.rg_order.specs.Plain.{Plain}
 use Rattle.rg_order.specs.PlainLaws.{told-apart}
 use Rattle.rg_order.specs.Seen.{at, smaller-below, below3-permuted, nan-permuted}
 use Rattle.rg_order.specs.AnyOrder.{rg-any-order}
-use Rattle.profile.specs.Profile.{rfUpward, rfPlain, rdUpward, rdPlain, rgPlain, rjUpward, rjPlain, profileRf, profileRd, profileRg, profileRj}
+use Rattle.profile.specs.Profile.{rfUpward, rfPlain, rdUpward, rdPlain, rgPlain, rjUpward, rjPlain, profileRf, profileRd}
+use Rattle.profile.specs.Profile.{profileRg, profileRj}
 use Rattle.profile_arguments.specs.Arguments.{plusZero, sized, sized2, sized3, sized4}
 use Rattle.profile_answers.specs.ProfileAnswers.{profileOf}
 use Rattle.profile_laws.specs.Statement.{Reordered, rc, rf, rd, rg, rj}

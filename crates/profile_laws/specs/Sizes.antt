@@ -25,7 +25,8 @@ use Rattle.units.specs.Statement.{least, most}
 use Rattle.demands.specs.Total.{rcNumbers, rfNumbers, rdNumbers, rgNumbers, rjSignedNumbers, celNumbers}
 use Rattle.demands.specs.Total.{rc-only, rf-only, rd-only, rg-only, rj-positive-only, cel-only}
 use Rattle.rg_order.specs.Seen.{at}
-use Rattle.profile.specs.Profile.{outside-profile, rcPlain, rfUpward, rfPlain, rdUpward, rdPlain, rgPlain, rjUpward, rjPlain, profileRc, profileRf, profileRd, profileRg, profileRj}
+use Rattle.profile.specs.Profile.{outside-profile, rcPlain, rfUpward, rfPlain, rdUpward, rdPlain, rgPlain, rjUpward, rjPlain}
+use Rattle.profile.specs.Profile.{profileRc, profileRf, profileRd, profileRg, profileRj}
 use Rattle.profile_arguments.specs.Arguments.{plusZero, sized, sized2, sized3, sized4}
 use Rattle.profile_answers.specs.ProfileAnswers.{profileOf}
 use Rattle.profile_laws.specs.Statement.{Passes}

@@ -36,7 +36,8 @@ use Rattle.units_rg.specs.Rg.{rg-scales}
 use Rattle.units_rj.specs.Rj.{rj-positive-scales}
 use Rattle.rg_order.specs.Seen.{at}
 use Rattle.demands.specs.Units.{up, down}
-use Rattle.profile.specs.Profile.{rcPlain, rfUpward, rfPlain, rdUpward, rdPlain, rgPlain, rjUpward, rjPlain, profileRc, profileRf, profileRd, profileRg, profileRj}
+use Rattle.profile.specs.Profile.{rcPlain, rfUpward, rfPlain, rdUpward, rdPlain, rgPlain, rjUpward, rjPlain, profileRc, profileRf}
+use Rattle.profile.specs.Profile.{profileRd, profileRg, profileRj}
 use Rattle.profile_arguments.specs.Arguments.{plusZero, sized, sized2, sized3, sized4}
 use Rattle.profile_answers.specs.ProfileAnswers.{profileOf}
 use Rattle.profile_laws.specs.Statement.{Factor, InUnits, rc, rf, rd, rg, rj, Passes}

@@ -1,5 +1,5 @@
-// How far long work has come: a line on standard error at each second of the clock, where it was asked for. Standard output is never
-// touched.
+// How far long work has come: a line on standard error at each second of the clock, where it was asked for. Standard output is
+// never touched.
 mod meter;
 mod say;
 

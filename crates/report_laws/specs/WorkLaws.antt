@@ -118,7 +118,15 @@ six-jobs (j ∷ js) k =
     let es = entriesOf js in
     let o = once f (k .0) in
     let h = six-jobs js (k .1) in
-    omega (arith, one-call f 1 c es, one-call f 2 c es, one-call f 3 c es, one-call f 4 c es, one-call f 5 c es, one-call f 6 c es)
+    omega (
+      arith,
+      one-call f 1 c es,
+      one-call f 2 c es,
+      one-call f 3 c es,
+      one-call f 4 c es,
+      one-call f 5 c es,
+      one-call f 6 c es,
+    )
 
 -- a function's calls, where there are fewer than 2 ^ 32
 word-calls : (es : List Entry) (k : ℕ) → k < 6 → six es < 2 ^ 32 → getD (reportOf es) (k * 64) 0 ≡ callsOf (countsOf (suc k) es)

@@ -155,8 +155,10 @@ counted-swap ws f g a b h =
     swap k l = unfold ofFunction in go (eqb f (suc k)) (eqb g (suc k))
       where
         go : (s t : Bool)
-            → cond t (blockAdded (cond s (blockAdded (blockIn ws k) a) (blockIn ws k)) b) (cond s (blockAdded (blockIn ws k) a) (blockIn ws k))
-            ≡ cond s (blockAdded (cond t (blockAdded (blockIn ws k) b) (blockIn ws k)) a) (cond t (blockAdded (blockIn ws k) b) (blockIn ws k))
+            → cond t (blockAdded (cond s (blockAdded (blockIn ws k) a) (blockIn ws k)) b)
+            (cond s (blockAdded (blockIn ws k) a) (blockIn ws k))
+            ≡ cond s (blockAdded (cond t (blockAdded (blockIn ws k) b) (blockIn ws k)) a)
+            (cond t (blockAdded (blockIn ws k) b) (blockIn ws k))
         go true true = added-swap (blockIn ws k) a b l
         go true false = refl
         go false true = refl

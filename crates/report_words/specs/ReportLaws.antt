@@ -139,7 +139,8 @@ module _ (os : List ℕ) (o : length os ≡ 384) where
 
       go : (t : Bool) → eqb k j ≡ t
           → (suc k ≤ j → j < suc k + left
-          → blockIn (blocksJoined (suc k) left (withBlock ws k b) os) j ≡ blockJoined (blockIn (withBlock ws k b) j) (blockIn os j))
+          → blockIn (blocksJoined (suc k) left (withBlock ws k b) os) j ≡ blockJoined (blockIn (withBlock ws k b) j)
+          (blockIn os j))
           → blockIn (blocksJoined (suc k) left (withBlock ws k b) os) j ≡ blockJoined (blockIn ws j) (blockIn os j)
       go true e rest =
           let f = eqb-true k j e in
@@ -161,7 +162,8 @@ module _ (ws os : List ℕ) (h : length ws ≡ 384) (o : length os ≡ 384) wher
   words-long = ap length is-joined ∙ blocks-long os o 6 0 ws (omega arith) h
 
   pub words-block : (k : ℕ) → k < 6 → blockIn (wordsJoined ws os) k ≡ blockJoined (blockIn ws k) (blockIn os k)
-  words-block k l = ap (λ (v : List ℕ). blockIn v k) is-joined ∙ blocks-at os o 6 0 ws (omega arith) h k (omega arith) (omega arith)
+  words-block k l = ap (λ (v : List ℕ). blockIn v k) is-joined
+      ∙ blocks-at os o 6 0 ws (omega arith) h k (omega arith) (omega arith)
 
 -- "Two partial reports can be joined, and the result is the report of both lists"
 counts-both : (f : ℕ) (es fs : List Entry) → countsOf f (es ++ fs) ≡ countsOf f es ++ countsOf f fs

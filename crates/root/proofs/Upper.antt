@@ -1,10 +1,11 @@
--- The root's digits, by the upper word of their square, and its exponent. C has the digits of the root at the left end of a word, T those of the
--- number at the scale of that upper word, and t is C / 2 ^ 53. Assumes nothing.
+-- The root's digits, by the upper word of their square, and its exponent. C has the digits of the root at the left end of a word,
+-- T those of the number at the scale of that upper word, and t is C / 2 ^ 53. Assumes nothing.
 use Prim.Native.Nat.{ℕ, _+_, _-_, _*_, _/_, _%_, _^_, _≤_, _<_}
 use mathlib.Core.Path.{_≡_, sym, ap, _∙_, subst}
 use mathlib.Core.Logic.{inl, inr}
 use mathlib.Core.List.{[], _∷_}
-use native.Mathlib.Nat.{mul-le-mul, div-mul-le-self, lt-div-mul-add, le-div-iff-mul-le, le-of-mul-le-mul-right, lt-of-mul-lt-mul-right}
+use native.Mathlib.Nat.{mul-le-mul, div-mul-le-self, lt-div-mul-add, le-div-iff-mul-le, le-of-mul-le-mul-right}
+use native.Mathlib.Nat.{lt-of-mul-lt-mul-right}
 use native.Mathlib.Omega.{arith}
 use Rattle.algebra.specs.Ring.{con, nxt, _:+_, _:*_, _≈_, _⊩_, _times_≼_, below}
 use Rattle.algebra.specs.Order.{lt-or-le}
@@ -76,16 +77,20 @@ held-is T C H d v a b p q e h l w f z =
     }
 
 -- ---- the 53 digits c of the root, 11 places higher, and the number n that is so scaled, 10 places higher
-above-low : (n c : ℕ) → c * 2 ^ 11 * (c * 2 ^ 11) < n * 2 ^ 10 * 2 ^ 64 + c * 2 ^ 11 * 2 ^ 11 → c * c * 2 ^ 22 < (n * 2 ^ 52 + c) * 2 ^ 22
+above-low : (n c : ℕ) → c * 2 ^ 11 * (c * 2 ^ 11) < n * 2 ^ 10 * 2 ^ 64 + c * 2 ^ 11 * 2 ^ 11
+    → c * c * 2 ^ 22 < (n * 2 ^ 52 + c) * 2 ^ 22
 above-low =
     below 2 (λ n c.
-    (con 1 times nxt (c :* con (2 ^ 11) :* (c :* con (2 ^ 11))) ≼ n :* con (2 ^ 10) :* con (2 ^ 64) :+ c :* con (2 ^ 11) :* con (2 ^ 11)) ∷ []
+    (con 1 times nxt (c :* con (2 ^ 11) :* (c :* con (2 ^ 11))) ≼ n :* con (2 ^ 10) :* con (2 ^ 64) :+ c :* con (2 ^ 11) :* con
+    (2 ^ 11)) ∷ []
     ⊩ nxt (c :* c :* con (2 ^ 22)) ≈ (n :* con (2 ^ 52) :+ c) :* con (2 ^ 22)) tt
 
-within-low : (n c : ℕ) → n * 2 ^ 10 * 2 ^ 64 ≤ c * 2 ^ 11 * (c * 2 ^ 11) + c * 2 ^ 11 * 2 ^ 11 → n * 2 ^ 52 * 2 ^ 22 ≤ (c * c + c) * 2 ^ 22
+within-low : (n c : ℕ) → n * 2 ^ 10 * 2 ^ 64 ≤ c * 2 ^ 11 * (c * 2 ^ 11) + c * 2 ^ 11 * 2 ^ 11
+    → n * 2 ^ 52 * 2 ^ 22 ≤ (c * c + c) * 2 ^ 22
 within-low =
     below 2 (λ n c.
-    (con 1 times n :* con (2 ^ 10) :* con (2 ^ 64) ≼ c :* con (2 ^ 11) :* (c :* con (2 ^ 11)) :+ c :* con (2 ^ 11) :* con (2 ^ 11)) ∷ []
+    (con 1 times n :* con (2 ^ 10) :* con (2 ^ 64) ≼ c :* con (2 ^ 11) :* (c :* con (2 ^ 11)) :+ c :* con (2 ^ 11) :* con
+    (2 ^ 11)) ∷ []
     ⊩ n :* con (2 ^ 52) :* con (2 ^ 22) ≈ (c :* c :+ c) :* con (2 ^ 22)) tt
 
 pub held-digits : (n c : ℕ) → Held (n * 2 ^ 10) (c * 2 ^ 11) → RootDigits n c

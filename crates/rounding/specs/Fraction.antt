@@ -1,11 +1,14 @@
--- At a fraction p / q, `rounded` is the library's `round`, by which every operator on f64 is defined: one notion of rounding serves both.
+-- At a fraction p / q, `rounded` is the library's `round`, by which every operator on f64 is defined: one notion of rounding
+-- serves both.
 -- Assumes nothing.
-use Prim.Native.Nat.{ℕ, zero, suc, _+_, _-_, _*_, _/_, _%_, _^_, _≤_, _<_, compare, Ordering, Ordering·lt, Ordering·eq, Ordering·gt}
+use Prim.Native.Nat.{ℕ, zero, suc, _+_, _-_, _*_, _/_, _%_, _^_, _≤_, _<_, compare, Ordering, Ordering·lt, Ordering·eq}
+use Prim.Native.Nat.{Ordering·gt}
 use mathlib.Core.Path.{_≡_, refl, sym, ap, _∙_, subst}
 use mathlib.Core.Bool.{true, false, not, true≢false}
 use mathlib.Core.Logic.{_⊎_, inl, inr}
 use mathlib.Core.List.{[], _∷_}
-use native.Mathlib.Nat.{le-of-eq, le-of-lt, le-trans, le-antisymm, mul-le-mul-right, lt-of-mul-lt-mul-right, mul-div-cancel, mul-pos, mod-lt, div-add-mod', div-div-eq-div-mul, le-div-iff-mul-le, eq-zero-or-pos, zero-add, mul-one}
+use native.Mathlib.Nat.{le-of-eq, le-of-lt, le-trans, le-antisymm, mul-le-mul-right, lt-of-mul-lt-mul-right, mul-div-cancel}
+use native.Mathlib.Nat.{mul-pos, mod-lt, div-add-mod', div-div-eq-div-mul, le-div-iff-mul-le, eq-zero-or-pos, zero-add, mul-one}
 use native.Mathlib.Omega.{arith}
 use borrow.Author.Tests.{le-ltb}
 use lib.Dec.{T, eqb, leb→le}
@@ -47,9 +50,11 @@ bits-of (fin false m e) v h =
     ap (λ (n : ℕ). 0 + (size n - 53) * 2 ^ 52 + n / 2 ^ (size n - 53)) d
     ∙ ap (λ (z : ℕ). z + v / 2 ^ (size v - 53)) (zero-add ((size v - 53) * 2 ^ 52))
 
-pub one-float : (x y : Float) (v : ℕ) → T (fits binary64 x) → T (fits binary64 y) → HasValue x false v (2 ^ 1074) → HasValue y false v (2 ^ 1074)
+pub one-float : (x y : Float) (v : ℕ) → T (fits binary64 x) → T (fits binary64 y) → HasValue x false v (2 ^ 1074)
+    → HasValue y false v (2 ^ 1074)
     → x ≡ y
-one-float x y v f g h k = sym (ofBits-toBits binary64 x f) ∙ ap (λ (b : ℕ). ofBits binary64 b) (bits-of x v h ∙ sym (bits-of y v k))
+one-float x y v f g h k = sym (ofBits-toBits binary64 x f)
+    ∙ ap (λ (b : ℕ). ofBits binary64 b) (bits-of x v h ∙ sym (bits-of y v k))
     ∙ ofBits-toBits binary64 y g
 
 -- ---- p / q is w * Y units and t / q more, with Y = 2 ^ k and t below q * Y
@@ -58,15 +63,18 @@ under = below 6 (λ A w Y t p q. (q times nxt A ≼ con 2 :* (w :* Y)) ∷ (con 
     ∷ (con 1 times con 1 ≼ q) ∷ [] ⊩ nxt (A :* q) ≈ p :* con (2 ^ 1075)) tt
 
 over : (A w Y t p q : ℕ) → 2 * ((w + 1) * Y) < A → p * 2 ^ 1074 ≤ w * (q * Y) + t → t < q * Y → p * 2 ^ 1075 < A * q
-over = below 6 (λ A w Y t p q. (q times nxt (con 2 :* ((w :+ con 1) :* Y)) ≼ A) ∷ (con 2 times p :* con (2 ^ 1074) ≼ w :* (q :* Y) :+ t)
+over = below 6 (λ A w Y t p q.
+    (q times nxt (con 2 :* ((w :+ con 1) :* Y)) ≼ A) ∷ (con 2 times p :* con (2 ^ 1074) ≼ w :* (q :* Y) :+ t)
     ∷ (con 2 times nxt t ≼ q :* Y) ∷ [] ⊩ nxt (p :* con (2 ^ 1075)) ≈ A :* q) tt
 
 mid-gt : (w Y t p q : ℕ) → p * 2 ^ 1074 ≤ w * (q * Y) + t → t * 2 < q * Y → p * 2 ^ 1075 < (w * Y + (w + 1) * Y) * q
-mid-gt = below 5 (λ w Y t p q. (con 2 times p :* con (2 ^ 1074) ≼ w :* (q :* Y) :+ t) ∷ (con 1 times nxt (t :* con 2) ≼ q :* Y) ∷ []
+mid-gt = below 5 (λ w Y t p q.
+    (con 2 times p :* con (2 ^ 1074) ≼ w :* (q :* Y) :+ t) ∷ (con 1 times nxt (t :* con 2) ≼ q :* Y) ∷ []
     ⊩ nxt (p :* con (2 ^ 1075)) ≈ (w :* Y :+ (w :+ con 1) :* Y) :* q) tt
 
 mid-lt : (w Y t p q : ℕ) → w * (q * Y) + t ≤ p * 2 ^ 1074 → q * Y < t * 2 → (w * Y + (w + 1) * Y) * q < p * 2 ^ 1075
-mid-lt = below 5 (λ w Y t p q. (con 2 times w :* (q :* Y) :+ t ≼ p :* con (2 ^ 1074)) ∷ (con 1 times nxt (q :* Y) ≼ t :* con 2) ∷ []
+mid-lt = below 5 (λ w Y t p q.
+    (con 2 times w :* (q :* Y) :+ t ≼ p :* con (2 ^ 1074)) ∷ (con 1 times nxt (q :* Y) ≼ t :* con 2) ∷ []
     ⊩ nxt ((w :* Y :+ (w :+ con 1) :* Y) :* q) ≈ p :* con (2 ^ 1075)) tt
 
 mid-eq : (w Y t p q : ℕ) → w * (q * Y) + t ≡ p * 2 ^ 1074 → q * Y ≡ t * 2 → (w * Y + (w + 1) * Y) * q ≡ p * 2 ^ 1075
@@ -83,10 +91,12 @@ unfolding units
 units-over r k h = rw (le-ltb (r * 2 ^ k) (2 ^ 2098) h)
 
 value-le : (j n : ℕ) → j ≤ n → value j ≤ value n
-value-le j n h = elim (lt-or-le j n) [ inl l ↦ le-of-lt (value-lt j n l) | inr l ↦ let e : j ≡ n = le-antisymm h l in le-of-eq (ap value e) ]
+value-le j n h = elim (lt-or-le j n)
+    [ inl l ↦ le-of-lt (value-lt j n l) | inr l ↦ let e : j ≡ n = le-antisymm h l in le-of-eq (ap value e) ]
 
 -- ---- the patterns P, of w * Y units, and suc P, of one Y more: `rounded` picks one of the two, by how 2 * t compares with q * Y
-module _ (p q k w t : ℕ) (Q : 0 < q) (K : (k ≡ 0) ⊎ (2 ^ 52 ≤ w)) (W : w < 2 ^ 53) (E : w * (q * 2 ^ k) + t ≡ p * 2 ^ 1074) (L : t < q * 2 ^ k) where
+module _ (p q k w t : ℕ) (Q : 0 < q) (K : (k ≡ 0) ⊎ (2 ^ 52 ≤ w)) (W : w < 2 ^ 53) (E : w * (q * 2 ^ k) + t ≡ p * 2 ^ 1074)
+    (L : t < q * 2 ^ k) where
   abbrev v : Cut
   v = fraction p q
 
@@ -95,7 +105,8 @@ module _ (p q k w t : ℕ) (Q : 0 < q) (K : (k ≡ 0) ⊎ (2 ^ 52 ≤ w)) (W : w
 
   value-in : (n j : ℕ) → n ≡ k * 2 ^ 52 + j → w ≤ j → j ≤ 2 ^ 53 → value n ≡ j * 2 ^ k
   value-in n j e h u = ap value e ∙ elim K [
-    | inl z ↦ let f : k * 2 ^ 52 + j ≡ j = omega arith in ap value f ∙ value-small j u ∙ sym (mul-one j) ∙ ap (λ (x : ℕ). j * 2 ^ x) (sym z)
+    | inl z ↦ let f : k * 2 ^ 52 + j ≡ j = omega arith in ap value f ∙ value-small j u ∙ sym (mul-one j)
+        ∙ ap (λ (x : ℕ). j * 2 ^ x) (sym z)
     | inr l ↦ value-at k j (omega arith) u
   ]
 
@@ -135,7 +146,8 @@ module _ (p q k w t : ℕ) (Q : 0 < q) (K : (k ≡ 0) ⊎ (2 ^ 52 ≤ w)) (W : w
   parity : P % 2 ≡ w % 2
   parity = omega arith
 
-  pub pick : (o : Ordering) → Compared o (t * 2) (q * 2 ^ k) → P < infinity → rounded v ≡ ofBits binary64 (k * 2 ^ 52 + nearest w o)
+  pub pick : (o : Ordering) → Compared o (t * 2) (q * 2 ^ k) → P < infinity
+      → rounded v ≡ ofBits binary64 (k * 2 ^ 52 + nearest w o)
   pick Ordering·lt c u =
       here (gt-passed v P (gt-compare (middle P (suc P) * q) (p * 2 ^ 1075)
       (rw (value-P, value-next) (mid-gt w (2 ^ k) t p q (le-of-eq (sym E)) c)))) (omega arith)
@@ -150,7 +162,8 @@ module _ (p q k w t : ℕ) (Q : 0 < q) (K : (k ≡ 0) ⊎ (2 ^ 52 ≤ w)) (W : w
         | inl l ↦
             let z : P % 2 ≡ 0 = omega (arith, parity) in
             let f : P ≡ k * 2 ^ 52 + (w + w % 2) = omega arith in
-            here (subst (λ (o : Ordering). T (not (nearer o P))) (sym m) (subst (λ (r : ℕ). T (not (eqb r 1))) (sym z) tt)) (omega arith)
+            here (subst (λ (o : Ordering). T (not (nearer o P))) (sym m) (subst (λ (r : ℕ). T (not (eqb r 1))) (sym z) tt))
+            (omega arith)
             ∙ ap (λ (z : ℕ). ofBits binary64 z) f
         | inr l ↦
             let z : P % 2 ≡ 1 = omega (arith, parity) in
@@ -174,12 +187,14 @@ module _ (p q k w t : ℕ) (Q : 0 < q) (K : (k ≡ 0) ⊎ (2 ^ 52 ≤ w)) (W : w
       let e : value n ≡ r * 2 ^ k = value-in n r refl a (omega arith) in
       elim (lt-or-le n infinity) [
         | inl l ↦
-            one-float (ofBits binary64 n) (units binary64 false r k) (r * 2 ^ k) (ofBits-fits binary64 n) f (rw e at (value-is n l))
+            one-float (ofBits binary64 n) (units binary64 false r k) (r * 2 ^ k) (ofBits-fits binary64 n) f
+            (rw e at (value-is n l))
             (units-val binary64 false r k (subst (λ (z : ℕ). r * 2 ^ k < z) value-infinity
             (subst (λ (z : ℕ). z < value infinity) e (value-lt n infinity l))))
         | inr l ↦
             let i : n ≡ infinity = omega arith in
-            ap (λ (z : ℕ). ofBits binary64 z) i ∙ infinity-is ∙ sym (units-over r k (le-of-eq (sym value-infinity ∙ ap value (sym i) ∙ e)))
+            ap (λ (z : ℕ). ofBits binary64 z) i ∙ infinity-is
+            ∙ sym (units-over r k (le-of-eq (sym value-infinity ∙ ap value (sym i) ∙ e)))
       ]
 
 -- THE LAW
@@ -206,7 +221,8 @@ rounded-fraction p q Q =
           ∙ same p q k w (N % u) Q K W E L (nearest w o) (nearest-ge w o) (nearest-le w o) l
           (subst (λ (z : Float). T (fits binary64 z)) is (round-fits binary64 false p q))
           ∙ sym is
-      | inr l ↦ beyond p q k w (N % u) Q K W E L l ∙ sym (is ∙ overflow p q k w (N % u) Q K W E L (nearest w o) (nearest-ge w o) l)
+      | inr l ↦ beyond p q k w (N % u) Q K W E L l
+          ∙ sym (is ∙ overflow p q k w (N % u) Q K W E L (nearest w o) (nearest-ge w o) l)
     ]
   where
     room : (z : ℕ) → 0 < z - 53 → 52 + (z - 53) < z

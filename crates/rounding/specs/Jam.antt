@@ -8,8 +8,8 @@ use native.Mathlib.Omega.{arith}
 use Rattle.algebra.specs.Ring.{con, nxt, _:+_, _:*_, _≈_, _⊩_, _times_≼_, ring, below}
 use Rattle.algebra.specs.Order.{lt-or-le, same-compare, scaled-compare}
 
--- w stands for X / Y: it is equal, or w is odd and X / Y lies between the even numbers beside it. So w and X / Y compare alike with every
--- even number.
+-- w stands for X / Y: it is equal, or w is odd and X / Y lies between the even numbers beside it. So w and X / Y compare alike
+-- with every even number.
 pub data Jam (X Y w : ℕ) : Type 0 where
   exact : w * Y ≡ X → Jam X Y w
   between : (h : ℕ) → w ≡ 2 * h + 1 → 2 * h * Y < X → X < (2 * h + 2) * Y → Jam X Y w
@@ -42,7 +42,8 @@ jam-add X Y w n (between h e l u) =
 
 -- the even number 2 * n less X / Y: the difference is D / Y
 pub from-exact : (X Y w v D n : ℕ) → X ≡ w * Y → v + w ≡ 2 * n → 2 * n * Y ≡ D + X → v * Y ≡ D
-from-exact = ring 6 (λ X Y w v D n. (con 1 times X ≼ w :* Y) ∷ (Y times v :+ w ≼ con 2 :* n) ∷ (con 1 times con 2 :* n :* Y ≼ D :+ X) ∷ []
+from-exact = ring 6 (λ X Y w v D n.
+    (con 1 times X ≼ w :* Y) ∷ (Y times v :+ w ≼ con 2 :* n) ∷ (con 1 times con 2 :* n :* Y ≼ D :+ X) ∷ []
     ⊩ v :* Y ≈ D) tt
 
 from-low : (g h X Y D n : ℕ) → X < (2 * h + 2) * Y → g + h + 1 ≤ n → 2 * n * Y ≤ D + X → 2 * g * Y < D
@@ -58,11 +59,13 @@ jam-from X Y w v D n (exact e) a b = exact (from-exact X Y w v D n (sym e) a b)
 jam-from X Y w v D n (between h e l u) a b =
     let g = n - h - 1 in
     let c : g + h + 1 ≡ n = omega arith in
-    between g (omega arith) (from-low g h X Y D n u (le-of-eq c) (le-of-eq b)) (from-high g h X Y D n l (le-of-eq (sym c)) (le-of-eq (sym b)))
+    between g (omega arith) (from-low g h X Y D n u (le-of-eq c) (le-of-eq b))
+    (from-high g h X Y D n l (le-of-eq (sym c)) (le-of-eq (sym b)))
 
 -- X / Y less the even number 2 * n
 pub less-exact : (X Y w v D n : ℕ) → w * Y ≡ X → v + 2 * n ≡ w → X ≡ D + 2 * n * Y → v * Y ≡ D
-less-exact = ring 6 (λ X Y w v D n. (con 1 times w :* Y ≼ X) ∷ (Y times v :+ con 2 :* n ≼ w) ∷ (con 1 times X ≼ D :+ con 2 :* n :* Y) ∷ []
+less-exact = ring 6 (λ X Y w v D n.
+    (con 1 times w :* Y ≼ X) ∷ (Y times v :+ con 2 :* n ≼ w) ∷ (con 1 times X ≼ D :+ con 2 :* n :* Y) ∷ []
     ⊩ v :* Y ≈ D) tt
 
 less-low : (g h X Y D n : ℕ) → 2 * h * Y < X → g + n ≤ h → X ≤ D + 2 * n * Y → 2 * g * Y < D
@@ -78,7 +81,8 @@ jam-less X Y w v D n (exact e) a b = exact (less-exact X Y w v D n e (sym a) b)
 jam-less X Y w v D n (between h e l u) a b =
     let g = h - n in
     let c : g + n ≡ h = omega arith in
-    between g (omega arith) (less-low g h X Y D n l (le-of-eq c) (le-of-eq b)) (less-high g h X Y D n u (le-of-eq (sym c)) (le-of-eq (sym b)))
+    between g (omega arith) (less-low g h X Y D n l (le-of-eq c) (le-of-eq b))
+    (less-high g h X Y D n u (le-of-eq (sym c)) (le-of-eq (sym b)))
 
 -- ---- one jam after another
 step-exact : (X Y w v K : ℕ) → w * Y ≡ X → v * K ≡ w → v * (Y * K) ≡ X
@@ -119,19 +123,23 @@ even-times v K k =
 
 pub jam-jam : (X Y w v K : ℕ) → 0 < Y → K % 2 ≡ 0 → Jam X Y w → Jam w K v → Jam X (Y * K) v
 jam-jam X Y w v K p k (exact e) (exact f) = exact (step-exact X Y w v K e f)
-jam-jam X Y w v K p k (exact e) (between h f l u) = between h f (wide-low X Y w (2 * h) K p l e) (wide-high X Y w (2 * h + 2) K p u e)
+jam-jam X Y w v K p k (exact e) (between h f l u) = between h f (wide-low X Y w (2 * h) K p l e)
+    (wide-high X Y w (2 * h + 2) K p u e)
 jam-jam X Y w v K p k (between g e l u) (exact f) = absurd (omega (arith, even-times v K k))
 jam-jam X Y w v K p k (between g e l u) (between h f i j) =
     let a : 2 * h * K ≤ 2 * g = omega (arith, twice h K) in
     let b : 2 * g + 2 ≤ (2 * h + 2) * K = omega (arith, twice (h + 1) K, again h K) in
-    between h f (lt-of-le-of-lt (step-low X Y (2 * g) (2 * h) K a) l) (lt-of-lt-of-le u (step-high X Y (2 * g + 2) (2 * h + 2) K b))
+    between h f (lt-of-le-of-lt (step-low X Y (2 * g) (2 * h) K a) l)
+    (lt-of-lt-of-le u (step-high X Y (2 * g + 2) (2 * h + 2) K b))
 
 -- ---- a quotient with its remainder kept
 floor-low : (W A f r a : ℕ) → a ≤ f → f * A + r ≤ W → 0 < r → a * A < W
-floor-low = below 5 (λ W A f r a. (A times a ≼ f) ∷ (con 1 times f :* A :+ r ≼ W) ∷ (con 1 times con 1 ≼ r) ∷ [] ⊩ nxt (a :* A) ≈ W) tt
+floor-low = below 5 (λ W A f r a. (A times a ≼ f) ∷ (con 1 times f :* A :+ r ≼ W) ∷ (con 1 times con 1 ≼ r) ∷ [] ⊩ nxt
+    (a :* A) ≈ W) tt
 
 floor-high : (W A f r a : ℕ) → f + 1 ≤ a → W ≤ f * A + r → r < A → W < a * A
-floor-high = below 5 (λ W A f r a. (A times f :+ con 1 ≼ a) ∷ (con 1 times W ≼ f :* A :+ r) ∷ (con 1 times nxt r ≼ A) ∷ [] ⊩ nxt W ≈ a :* A) tt
+floor-high = below 5 (λ W A f r a.
+    (A times f :+ con 1 ≼ a) ∷ (con 1 times W ≼ f :* A :+ r) ∷ (con 1 times nxt r ≼ A) ∷ [] ⊩ nxt W ≈ a :* A) tt
 
 pub jam-floor : (W A f r : ℕ) → f * A + r ≡ W → r < A → 0 < r → Jam W A (f / 2 * 2 + 1)
 jam-floor W A f r e l p =
@@ -140,7 +148,8 @@ jam-floor W A f r e l p =
     (floor-low W A f r (2 * h) (omega arith) (le-of-eq e) p)
     (floor-high W A f r (2 * h + 2) (omega arith) (le-of-eq (sym e)) l)
 
--- ---- the digits from a multiple of 4 on: q of them are kept, and the rest compares with the half of K as the remainder of w does
+-- ---- the digits from a multiple of 4 on: q of them are kept, and the rest compares with the half of K as the remainder of w
+-- does
 pub record Digits (X Y q r K : ℕ) : Type 0 where
   pub rest : ℕ
   pub whole : q * (Y * K) + rest ≡ X
@@ -170,13 +179,15 @@ order-d = below 4 (λ T Y s J. (con 2 times nxt T ≼ (con 2 :* s :+ con 2) :* Y
     ⊩ nxt (T :* con 2) ≈ Y :* (con 4 :* J)) tt
 
 order-e : (T Y s J : ℕ) → 2 * s * Y < T → J ≤ s → Y * (4 * J) < T * 2
-order-e = below 4 (λ T Y s J. (con 2 times nxt (con 2 :* s :* Y) ≼ T) ∷ (con 4 :* Y times J ≼ s) ∷ [] ⊩ nxt (Y :* (con 4 :* J)) ≈ T :* con 2) tt
+order-e = below 4 (λ T Y s J. (con 2 times nxt (con 2 :* s :* Y) ≼ T) ∷ (con 4 :* Y times J ≼ s) ∷ [] ⊩ nxt
+    (Y :* (con 4 :* J)) ≈ T :* con 2) tt
 
 four-times : (q J : ℕ) → q * (4 * J) ≡ 4 * (q * J)
 four-times = ring 2 (λ q J. q :* (con 4 :* J) ≈ con 4 :* (q :* J)) tt
 
 rest-low : (X Y h q s K : ℕ) → h * Y < X → q * K + s ≤ h → q * (Y * K) + s * Y < X
-rest-low = below 6 (λ X Y h q s K. (con 1 times nxt (h :* Y) ≼ X) ∷ (Y times q :* K :+ s ≼ h) ∷ [] ⊩ nxt (q :* (Y :* K) :+ s :* Y) ≈ X) tt
+rest-low = below 6 (λ X Y h q s K. (con 1 times nxt (h :* Y) ≼ X) ∷ (Y times q :* K :+ s ≼ h) ∷ [] ⊩ nxt
+    (q :* (Y :* K) :+ s :* Y) ≈ X) tt
 
 rest-high : (X Y h q s K : ℕ) → X < (h + 2) * Y → h ≤ q * K + s → X < q * (Y * K) + (s + 2) * Y
 rest-high = below 6 (λ X Y h q s K. (con 1 times nxt X ≼ (h :+ con 2) :* Y) ∷ (Y times h ≼ q :* K :+ s) ∷ []

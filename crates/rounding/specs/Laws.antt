@@ -1,4 +1,5 @@
--- What `rounded` answers: the pattern whose value is nearest to v, the even one of two that are equally near; and it is the only one.
+-- What `rounded` answers: the pattern whose value is nearest to v, the even one of two that are equally near; and it is the only
+-- one.
 -- Assumes nothing.
 use Prim.Native.Nat.{ℕ, zero, suc, _+_, _*_, _%_, _^_, _≤_, _<_, Ordering, Ordering·lt, Ordering·eq, Ordering·gt}
 use mathlib.Core.Path.{_≡_, refl, sym, ap, subst}
@@ -22,8 +23,8 @@ pub record Number (v : Cut) : Type 0 where
 abbrev pub middle : ℕ → ℕ → ℕ
 middle i j = value i + value j
 
--- The pattern n is nearest to v, of all up to the infinity's: v is not below the middle between n and a lower one, and not above that
--- between n and a higher one.
+-- The pattern n is nearest to v, of all up to the infinity's: v is not below the middle between n and a lower one, and not above
+-- that between n and a higher one.
 -- Where it is at such a middle, n is even.
 pub record Nearest (v : Cut) (n : ℕ) : Type 0 where
   pub held : n ≤ infinity
@@ -93,7 +94,8 @@ module _ (v : Cut) (num : Number v) where
   before (suc b) t =
       let r = reached-suc v (suc b) t in
       let h : b < infinity = omega (arith, r .0) in
-      reach v b h (lt-passed v b (under (middle b (suc b)) (middle (suc b) (suc (suc b))) (omega (arith, value-lt b (suc (suc b)) (omega arith)))
+      reach v b h (lt-passed v b
+      (under (middle b (suc b)) (middle (suc b) (suc (suc b))) (omega (arith, value-lt b (suc (suc b)) (omega arith)))
       (nearer-le (v (middle (suc b) (suc (suc b))) (2 ^ 1075)) (suc b) (r .1))))
 
   pub all-before : (j n : ℕ) → j ≤ n → T (reached v n) → T (reached v j)
@@ -110,7 +112,8 @@ module _ (v : Cut) (num : Number v) where
   pub found-at : (n : ℕ) → T (reached v n) → T (not (reached v (suc n))) → found v ≡ n
   found-at n a b = elim (lt-or-le (found v) n) [
     | inl l ↦ absurd (not-lower (found v) n (found-next v) a l)
-    | inr l ↦ elim (lt-or-le n (found v)) [ inl g ↦ absurd (not-lower n (found v) b (found-reached v) g) | inr g ↦ le-antisymm g l ]
+    | inr l ↦ elim (lt-or-le n (found v))
+        [ inl g ↦ absurd (not-lower n (found v) b (found-reached v) g) | inr g ↦ le-antisymm g l ]
   ]
 
   pub rounded-at : (n : ℕ) → T (reached v n) → T (not (reached v (suc n))) → rounded v ≡ ofBits binary64 n
@@ -128,7 +131,8 @@ module _ (v : Cut) (num : Number v) where
   lower-of (suc b) a j h =
       let p = nearer-le (v (middle b (suc b)) (2 ^ 1075)) b (reached-suc v b a .1) in
       elim (lt-or-le j b) [
-        | inl l ↦ subst (λ (o : Ordering). T (isLe o)) (sym (under (middle j (suc b)) (middle b (suc b)) (omega (arith, value-lt j b l)) p)) tt
+        | inl l ↦ subst (λ (o : Ordering). T (isLe o))
+            (sym (under (middle j (suc b)) (middle b (suc b)) (omega (arith, value-lt j b l)) p)) tt
         | inr l ↦ let e : j ≡ b = omega arith in rw e p
       ]
 
@@ -159,14 +163,16 @@ module _ (v : Cut) (num : Number v) where
       let r = reached-suc v b a .1 in
       elim (lt-or-le j b) [
         | inl l ↦ absurd (not-both (v (middle j (suc b)) (2 ^ 1075))
-            (under (middle j (suc b)) (middle b (suc b)) (omega (arith, value-lt j b l)) (nearer-le (v (middle b (suc b)) (2 ^ 1075)) b r)) e)
+            (under (middle j (suc b)) (middle b (suc b)) (omega (arith, value-lt j b l))
+            (nearer-le (v (middle b (suc b)) (2 ^ 1075)) b r)) e)
         | inr l ↦
             let f : j ≡ b = omega arith in
             let o : b % 2 ≡ 1 = eqb→eq (b % 2) 1 (subst T (at-tie b (rw f at e)) r) in
             omega arith
       ]
 
-  even-higher : (n : ℕ) → T (not (reached v (suc n))) → (j : ℕ) → n < j → j ≤ infinity → v (middle n j) (2 ^ 1075) ≡ Ordering·eq → n % 2 ≡ 0
+  even-higher : (n : ℕ) → T (not (reached v (suc n))) → (j : ℕ) → n < j → j ≤ infinity → v (middle n j) (2 ^ 1075) ≡ Ordering·eq
+      → n % 2 ≡ 0
   even-higher n b j h u e =
       let no : T (passed v n) → ⊥ = λ p. T-not (reached v (suc n)) b (reach v n (omega arith) p) in
       elim (lt-or-le (suc n) j) [
@@ -189,12 +195,18 @@ module _ (v : Cut) (num : Number v) where
     even = λ j u d e.
         elim (lt-or-le j n) [
           | inl l ↦ even-lower n a j l e
-          | inr l ↦ elim (lt-or-le n j) [ inl g ↦ even-higher n b j g u (rw add-comm at e) | inr g ↦ absurd (d (le-antisymm g l)) ]
+          | inr l ↦ elim (lt-or-le n j)
+              [ inl g ↦ even-higher n b j g u (rw add-comm at e) | inr g ↦ absurd (d (le-antisymm g l)) ]
         ];
   }
 
   pub rounded-nearest : (n : ℕ) × (rounded v ≡ ofBits binary64 n) × Nearest v n
-  rounded-nearest = (found v, rounded-at (found v) (found-reached v) (found-next v), nearest-of (found v) (found-reached v) (found-next v))
+  rounded-nearest = (
+    found v,
+    rounded-at (found v) (found-reached v) (found-next v),
+    nearest-of (found v) (found-reached v)
+        (found-next v),
+  )
 
   nearest-reached : (n : ℕ) → Nearest v n → T (reached v n)
   nearest-reached zero r = unfold reached in tt

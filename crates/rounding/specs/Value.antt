@@ -1,4 +1,5 @@
--- The value of a pattern: each pattern's is above the one before, and it is the value of the f64 that has the pattern. Assumes nothing.
+-- The value of a pattern: each pattern's is above the one before, and it is the value of the f64 that has the pattern. Assumes
+-- nothing.
 use Prim.Native.Nat.{ℕ, zero, suc, _+_, _-_, _*_, _/_, _%_, _^_, _≤_, _<_}
 use mathlib.Core.Path.{_≡_, refl, sym, ap, _∙_, subst}
 use mathlib.Core.Bool.{false}
@@ -57,7 +58,8 @@ value-suc b = elim (lt-or-le b (2 ^ 52)) [
       let y = b / 2 ^ 52 - 1 in
       let c = 2 ^ 52 + b % 2 ^ 52 in
       let e : suc b ≡ y * 2 ^ 52 + (c + 1) = omega arith in
-      ap value e ∙ value-at y (c + 1) (omega arith) (omega arith) ∙ add-mul c 1 (2 ^ y) ∙ ap (λ (z : ℕ). c * 2 ^ y + z) (one-mul (2 ^ y))
+      ap value e ∙ value-at y (c + 1) (omega arith) (omega arith) ∙ add-mul c 1 (2 ^ y)
+      ∙ ap (λ (z : ℕ). c * 2 ^ y + z) (one-mul (2 ^ y))
       ∙ ap (λ (z : ℕ). z + 2 ^ y) (sym (value-high b l))
 ]
 
@@ -88,7 +90,8 @@ fields-high y t h = let e : suc y ≡ 2047 → ⊥ = λ q. omega arith in rw (ne
 pub value-is : (b : ℕ) → b < infinity → HasValue (ofBits binary64 b) false (value b) (2 ^ 1074)
 value-is b h =
     let m : b % 2 ^ 63 ≡ b = omega arith in
-    let s : ofBits binary64 b ≡ ofFields binary64 false (b / 2 ^ 52) (b % 2 ^ 52) = ofBits-is b ∙ rw (lt-leb (2 ^ 63) b (omega arith), m) in
+    let s : ofBits binary64 b ≡ ofFields binary64 false (b / 2 ^ 52) (b % 2 ^ 52) = ofBits-is b
+    ∙ rw (lt-leb (2 ^ 63) b (omega arith), m) in
     rw s (elim (lt-or-le b (2 ^ 52)) [
       | inl l ↦
           let e : b / 2 ^ 52 ≡ 0 = omega arith in

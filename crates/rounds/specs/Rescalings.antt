@@ -118,7 +118,8 @@ cel-steps : (kc p a b : Float) → Within 30 0 (celSteps kc p a b .way)
 unfolding celSteps celFrom loopAt
 cel-steps kc p a b =
     let s = celPass (celBegin kc p a b) in
-    capped-holds celNext celNear celFound celSpent (λ f. Within 30 0 (f .way)) (celCap - 1) (λ t n h. counted (n + 1) (omega arith))
+    capped-holds celNext celNear celFound celSpent (λ f. Within 30 0 (f .way)) (celCap - 1)
+    (λ t n h. counted (n + 1) (omega arith))
     (λ t n h. counted (n + 1) (omega arith)) (celCap - 1) (celNear s) s 0 (omega arith)
 
 cel-entry : (kc p a b : Float) → Few 30 0 (cel kc p a b)

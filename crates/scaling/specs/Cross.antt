@@ -1,8 +1,9 @@
--- Two pairs of numbers in the same proportion, a : m and b : n: what a comparison of a with b says, and a sum's sign, is what it says of m with
--- n. It serves twice: from a float's data to its units, and from one run to the other.
+-- Two pairs of numbers in the same proportion, a : m and b : n: what a comparison of a with b says, and a sum's sign, is what it
+-- says of m with n. It serves twice: from a float's data to its units, and from one run to the other.
 use mathlib.Core.Path.{_≡_, refl, sym, ap, ap₂, _∙_, subst₂}
 use Prim.Native.Nat.{ℕ, _+_, _-_, _*_, _<_}
-use native.Mathlib.Nat.{mul-comm, mul-sub, mul-lt-mul-of-pos-right, lt-of-mul-lt-mul-right, eq-of-mul-eq-mul-right, add-mul, zero-mul}
+use native.Mathlib.Nat.{mul-comm, mul-sub, mul-lt-mul-of-pos-right, lt-of-mul-lt-mul-right, eq-of-mul-eq-mul-right, add-mul}
+use native.Mathlib.Nat.{zero-mul}
 use mathlib.Core.Bool.{Bool, true, false, _&&_, _||_, Bool·beq, cond}
 use lib.Dec.{T, ltb, eqb, ltb→lt, lt→ltb, eqb→eq}
 use lib.Ieee.{below, level}
@@ -26,7 +27,8 @@ sub-mul a b c = mul-comm (a - b) c ∙ mul-sub c a b ∙ ap₂ _-_ (mul-comm c a
 
 ltb-cross : (p q a b m n : ℕ) → 0 < p → 0 < q → a * p ≡ m * q → b * p ≡ n * q → ltb a b ≡ ltb m n
 ltb-cross p q a b m n P Q ea eb =
-    same (ltb a b) (ltb m n) (λ h. lt→ltb m n (lt-of-mul-lt-mul-right q (subst₂ _<_ ea eb (mul-lt-mul-of-pos-right (ltb→lt a b h) P))))
+    same (ltb a b) (ltb m n) (λ h. lt→ltb m n
+    (lt-of-mul-lt-mul-right q (subst₂ _<_ ea eb (mul-lt-mul-of-pos-right (ltb→lt a b h) P))))
     (λ h. lt→ltb a b (lt-of-mul-lt-mul-right p (subst₂ _<_ (sym ea) (sym eb) (mul-lt-mul-of-pos-right (ltb→lt m n h) Q))))
 
 eqb-cross : (p q a b m n : ℕ) → 0 < p → 0 < q → a * p ≡ m * q → b * p ≡ n * q → eqb a b ≡ eqb m n
@@ -48,13 +50,16 @@ module _ (p q a b m n : ℕ) (P : 0 < p) (Q : 0 < q) (ea : a * p ≡ m * q) (eb 
   below-cross true true = ltb-cross p q b a n m P Q eb ea
 
   pub level-cross : (s t : Bool) → level s a t b ≡ level s m t n
-  level-cross s t = ap₂ (λ x y. x && (Bool·beq s t || y)) (eqb-cross p q a b m n P Q ea eb) (eqb-cross p q a 0 m 0 P Q ea (zero-cross p q))
+  level-cross s t = ap₂ (λ x y. x && (Bool·beq s t || y)) (eqb-cross p q a b m n P Q ea eb)
+      (eqb-cross p q a 0 m 0 P Q ea (zero-cross p q))
 
   pub addS-cross : (s t : Bool) → addS s a t b ≡ addS s m t n
-  addS-cross s t = ap₂ (λ x y. cond (Bool·beq s t) s (cond x t (s && y))) (ltb-cross p q a b m n P Q ea eb) (ltb-cross p q b a n m P Q eb ea)
+  addS-cross s t = ap₂ (λ x y. cond (Bool·beq s t) s (cond x t (s && y))) (ltb-cross p q a b m n P Q ea eb)
+      (ltb-cross p q b a n m P Q eb ea)
 
   pub addN-cross : (s t : Bool) → addN s a t b * p ≡ addN s m t n * q
-  addN-cross s t = ap (λ x. cond (Bool·beq s t) (a + b) (cond x (b - a) (a - b)) * p) (ltb-cross p q a b m n P Q ea eb) ∙ go (Bool·beq s t) (ltb m n)
+  addN-cross s t = ap (λ x. cond (Bool·beq s t) (a + b) (cond x (b - a) (a - b)) * p) (ltb-cross p q a b m n P Q ea eb)
+      ∙ go (Bool·beq s t) (ltb m n)
     where
       go : (x y : Bool) → cond x (a + b) (cond y (b - a) (a - b)) * p ≡ cond x (m + n) (cond y (n - m) (m - n)) * q
       go true y = plus-cross

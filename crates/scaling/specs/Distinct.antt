@@ -20,7 +20,8 @@ use Rattle.scaling.specs.Tests.{eq-two}
 
 unfoldable pub distinctK : Format → Kind → Kind → Kind
 unfolding sumK
-distinctK f A B = let K = sumK f A (negK B) in record { any = true; zer = false; lo = K .lo; hi = K .hi; g = K .g; u = K .u; d = K .d }
+distinctK f A B = let K = sumK f A
+    (negK B) in record { any = true; zer = false; lo = K .lo; hi = K .hi; g = K .g; u = K .u; d = K .d }
 
 unlevel : (m n : ℕ) → T (not (level false m false n)) → m ≡ n → ⊥
 unlevel m n h e = T-not (level false m false n) h (and-i (eqb m n) true (eq→eqb e) tt)
@@ -44,7 +45,8 @@ off-zero f A B {s} {m} i h = record {
   to = i .to;
 }
 
-pub distinct-two : {f : Format} {k : ℕ} {A B : Kind} {x x' y y' : Float} (a : Two f k A x x') (b : Two f k B y y') → T (not (eq x y)) → T (level? A B)
+pub distinct-two : {f : Format} {k : ℕ} {A B : Kind} {x x' y y' : Float} (a : Two f k A x x') (b : Two f k B y y')
+    → T (not (eq x y)) → T (level? A B)
     → T (not (A .any || B .any)) → T (sumOk f A (negK B)) → Two f k (distinctK f A B) (sub f x y) (sub f x' y')
 unfolding distinctK sumK sub-two sum-two summed neg-two
 distinct-two {f} {k} {A} {B} a b h w p ok =
@@ -52,7 +54,8 @@ distinct-two {f} {k} {A} {B} a b h w p ok =
     let S : a .s ≡ false = a .in-first .sign (nor-l (A .any) (B .any) p) in
     let R : b .s ≡ false = b .in-first .sign (nor-r (A .any) (B .any) p) in
     let M = some-apart (a .m) (b .m) (a .s) (b .s) S R (subst (λ (t : Bool). T (not t)) (eq-units (a .first) (b .first)) h) in
-    let N = some-apart (a .n) (b .n) (a .s) (b .s) S R (subst (λ (t : Bool). T (not t)) (eq-two a b w ∙ eq-units (a .second) (b .second)) h) in
+    let N = some-apart (a .n) (b .n) (a .s) (b .s) S R
+    (subst (λ (t : Bool). T (not t)) (eq-two a b w ∙ eq-units (a .second) (b .second)) h) in
     record {
       s = t .s;
       m = t .m;

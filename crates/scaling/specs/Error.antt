@@ -1,5 +1,5 @@
--- How far `near` can be off: a fraction in the normal range is changed by at most 2 ^ (1 - prec) of itself, either way. Two bounds, from
--- below and from above.
+-- How far `near` can be off: a fraction in the normal range is changed by at most 2 ^ (1 - prec) of itself, either way. Two
+-- bounds, from below and from above.
 use mathlib.Core.Path.{_≡_, sym, ap}
 use Prim.Native.Nat.{ℕ, suc, _+_, _-_, _*_, _/_, _%_, _^_, _≤_, _<_, compare}
 use native.Mathlib.Nat.{le-trans, le-of-eq, mul-pos, div-mul-le-self, lt-div-mul-add, le-div-iff-mul-le, div-div-eq-div-mul}
@@ -66,5 +66,6 @@ module _ (f : Format) (n d : ℕ) (D : 0 < d) (normal : 2 ^ (prec f - 1) * d ≤
       let h : q * u ≤ n = div-mul-le-self n u in
       let g : c ≤ suc q = nearest-le q (compare (n % u * 2) u) in
       le-trans (le-of-eq (ap (λ z. 2 ^ (prec f - 1) * z) near-is))
-      (below 5 (λ t n q u c. (t :* u times c ≼ nxt q) ∷ (u times t ≼ q) ∷ (nxt t times q :* u ≼ n) ∷ [] ⊩ t :* (c :* u) ≈ nxt t :* n) tt
+      (below 5 (λ t n q u c. (t :* u times c ≼ nxt q) ∷ (u times t ≼ q) ∷ (nxt t times q :* u ≼ n)
+      ∷ [] ⊩ t :* (c :* u) ≈ nxt t :* n) tt
       (2 ^ (prec f - 1)) n q u c g many h)

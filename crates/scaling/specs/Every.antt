@@ -1,5 +1,5 @@
--- A test that computes, at each number below n: so that a kind that depends on the round is tested for all rounds at once. `every 11 test tt`
--- costs one computation, however many lines cite it.
+-- A test that computes, at each number below n: so that a kind that depends on the round is tested for all rounds at once. `every
+-- 11 test tt` costs one computation, however many lines cite it.
 use Prim.Native.Nat.{ℕ, zero, suc, _<_}
 use native.Mathlib.Nat.{le-suc-iff}
 use native.Mathlib.Omega.{arith}

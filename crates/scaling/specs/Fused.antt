@@ -1,5 +1,6 @@
--- The rule of `Two` for the fused multiply-add. The exact product of two floats is a whole number of units as long as their last places reach so
--- far, which a test on the grains says; then the step is a sum like any other, of any signs, and scales without a bound from below.
+-- The rule of `Two` for the fused multiply-add. The exact product of two floats is a whole number of units as long as their last
+-- places reach so far, which a test on the grains says; then the step is a sum like any other, of any signs, and scales without a
+-- bound from below.
 use mathlib.Core.Path.{_≡_, refl, sym, ap, ap₂, _∙_, subst}
 use mathlib.Core.Logic.{inl, inr}
 use Prim.Native.Nat.{ℕ, _+_, _-_, _*_, _^_, _≤_, _<_, min}
@@ -25,7 +26,8 @@ use Rattle.scaling.specs.Within.{least-l, least-r}
 use Rattle.scaling.specs.Two.{Two, twice, under, products}
 
 -- ---- the step on units: x * y + z, where the product of the units is p * 2 ^ 1074
-module _ {x y z : Float} {s t u : Bool} {l m n : ℕ} (X : Is binary64 x s l) (Y : Is binary64 y t m) (Z : Is binary64 z u n) (p : ℕ)
+module _ {x y z : Float} {s t u : Bool} {l m n : ℕ} (X : Is binary64 x s l) (Y : Is binary64 y t m) (Z : Is binary64 z u n)
+    (p : ℕ)
     (whole : l * m ≡ p * 2 ^ 1074) where
   abbrev v : Bool
   v = unlike s t
@@ -37,7 +39,8 @@ module _ {x y z : Float} {s t u : Bool} {l m n : ℕ} (X : Is binary64 x s l) (Y
   left l m p L h =
       mul-one (l * m * L) ∙ ring 4 (λ l m p L. (L times l :* m ≼ p :* L) ∷ [] ⊩ l :* m :* L ≈ p :* (L :* L)) tt l m p L h
 
-  pub fused-units : near binary64 (addN v p u n) 1 < overflow binary64 → Is binary64 (fused x y z) (addS v p u n) (near binary64 (addN v p u n) 1)
+  pub fused-units : near binary64 (addN v p u n) 1 < overflow binary64
+      → Is binary64 (fused x y z) (addS v p u n) (near binary64 (addN v p u n) 1)
   fused-units h =
       let q = L * L in
       let Q : 0 < q = mul-pos (pow-pos 1074) (pow-pos 1074) in
@@ -54,7 +57,8 @@ module _ {x y z : Float} {s t u : Bool} {l m n : ℕ} (X : Is binary64 x s l) (Y
     where
       scaled : (a n L : ℕ) → a * 1 ≡ n * (L * L) → a * L * 1 ≡ n * (L * L * L)
       scaled a n L e =
-          mul-one (a * L) ∙ ring 3 (λ a n L. (L times a ≼ n :* (L :* L)) ∷ [] ⊩ a :* L ≈ n :* (L :* L :* L)) tt a n L (sym (mul-one a) ∙ e)
+          mul-one (a * L) ∙ ring 3 (λ a n L. (L times a ≼ n :* (L :* L)) ∷ [] ⊩ a :* L ≈ n :* (L :* L :* L)) tt a n L
+          (sym (mul-one a) ∙ e)
 
 -- ---- the exact product
 pub record Whole (g m n : ℕ) : Type 0 where
@@ -92,9 +96,11 @@ fusedK A B C = record {
 -- the product has the addend's weight, nothing overflows, and the product is whole
 unfoldable pub fusedOk : Kind → Kind → Kind → Bool
 unfolding fusedK
-fusedOk A B C = (eqb (A .u + B .u) (C .u) && eqb (A .d + B .d) (C .d)) && ltb (fusedK A B C .hi) (overflow binary64) && leb 1074 (A .g + B .g)
+fusedOk A B C = (eqb (A .u + B .u) (C .u) && eqb (A .d + B .d) (C .d)) && ltb (fusedK A B C .hi) (overflow binary64) && leb 1074
+    (A .g + B .g)
 
-fused-in : {A B C : Kind} {s t u : Bool} {l m n : ℕ} → In A s l → In B t m → In C u n → (w : Whole (A .g + B .g - 1074) l m) → Multiple (C .g) n
+fused-in : {A B C : Kind} {s t u : Bool} {l m n : ℕ} → In A s l → In B t m → In C u n → (w : Whole (A .g + B .g - 1074) l m)
+    → Multiple (C .g) n
     → In (fusedK A B C) (addS (unlike s t) (w .p) u n) (near binary64 (addN (unlike s t) (w .p) u n) 1)
 unfolding fusedK
 fused-in {A} {B} {C} {s} {t} {u} {l} {m} {n} a b c w M =
@@ -104,7 +110,8 @@ fused-in {A} {B} {C} {s} {t} {u} {l} {m} {n} a b c w M =
     record {
       sign = λ i. absurd i;
       from =
-          elim (sum-from binary64 v (w .p) u n h (coarser g h (least-l g (C .g)) (w .grain)) (coarser (C .g) h (least-r g (C .g)) M)) [
+          elim (sum-from binary64 v (w .p) u n h (coarser g h (least-l g (C .g)) (w .grain))
+          (coarser (C .g) h (least-r g (C .g)) M)) [
             | inl z ↦ inl (tt, z)
             | inr k ↦ inr k
           ];
@@ -112,7 +119,8 @@ fused-in {A} {B} {C} {s} {t} {u} {l} {m} {n} a b c w M =
           near-mono binary64 (addN v (w .p) u n) 1 (A .hi * B .hi + C .hi * 2 ^ 1074) (2 ^ 1074) (zero-lt-suc 0) (pow-pos 1074)
           (le-trans (mul-le-mul-right (2 ^ 1074) (sum-le v u (w .p) n))
           (le-trans (le-of-eq (add-mul (w .p) n (2 ^ 1074) ∙ ap (λ z. z + n * 2 ^ 1074) (sym (w .is))))
-          (le-trans (add-le-add (mul-le-mul (a .to) (b .to)) (mul-le-mul-right (2 ^ 1074) (c .to))) (le-of-eq (sym (mul-one _))))));
+          (le-trans (add-le-add (mul-le-mul (a .to) (b .to)) (mul-le-mul-right (2 ^ 1074) (c .to)))
+          (le-of-eq (sym (mul-one _))))));
     }
   where
     sum-le : (v u : Bool) (p n : ℕ) → addN v p u n ≤ p + n
@@ -123,7 +131,8 @@ fused-in {A} {B} {C} {s} {t} {u} {l} {m} {n} a b c w M =
         go false true = omega arith
         go false false = omega arith
 
-pub fused-two : {k : ℕ} {A B C : Kind} {x y z x' y' z' : Float} → Two binary64 k A x x' → Two binary64 k B y y' → Two binary64 k C z z'
+pub fused-two : {k : ℕ} {A B C : Kind} {x y z x' y' z' : Float} → Two binary64 k A x x' → Two binary64 k B y y'
+    → Two binary64 k C z z'
     → T (fusedOk A B C) → Two binary64 k (fusedK A B C) (fused x y z) (fused x' y' z')
 unfolding fusedK fusedOk
 fused-two {k} {A} {B} {C} {x} {y} {z} {x'} {y'} {z'} a b c ok =
@@ -143,7 +152,8 @@ fused-two {k} {A} {B} {C} {x} {y} {z} {x'} {y'} {z'} a b c ok =
     let P = pow-pos (k * C .d) in
     let Q = pow-pos (k * C .u) in
     let e =
-    product-tie k (A .u) (A .d) (B .u) (B .d) (C .u) (C .d) (a .m) (a .n) (b .m) (b .n) (w .p) (w' .p) U D (a .tie) (b .tie) (w .is) (w' .is) in
+    product-tie k (A .u) (A .d) (B .u) (B .d) (C .u) (C .d) (a .m) (a .n) (b .m) (b .n) (w .p) (w' .p) U D (a .tie) (b .tie)
+    (w .is) (w' .is) in
     let S = addS-cross p q (w' .p) (c .n) (w .p) (c .m) P Q e (c .tie) v (c .s) in
     let N = addN-cross p q (w' .p) (c .n) (w .p) (c .m) P Q e (c .tie) v (c .s) in
     let i = fused-in (a .in-first) (b .in-first) (c .in-first) w (c .grain) in
@@ -160,7 +170,8 @@ fused-two {k} {A} {B} {C} {x} {y} {z} {x'} {y'} {z'} a b c ok =
       in-first = i;
       in-second = subst (λ r. In (fusedK A B C) r n') S j;
       grain =
-          sum-grain binary64 v (w .p) (c .s) (c .m) h (coarser g h (least-l g (C .g)) (w .grain)) (coarser (C .g) h (least-r g (C .g)) (c .grain));
+          sum-grain binary64 v (w .p) (c .s) (c .m) h (coarser g h (least-l g (C .g)) (w .grain))
+          (coarser (C .g) h (least-r g (C .g)) (c .grain));
       grain-second =
           sum-grain binary64 v (w' .p) (c .s) (c .n) h (coarser g h (least-l g (C .g)) (w' .grain))
           (coarser (C .g) h (least-r g (C .g)) (c .grain-second));
@@ -171,12 +182,14 @@ fused-two {k} {A} {B} {C} {x} {y} {z} {x'} {y'} {z'} a b c ok =
     }
   where
     product-tie : (k au ad bu bd cu cd m n m' n' p p' : ℕ) → au + bu ≡ cu → ad + bd ≡ cd → n * 2 ^ (k * ad) ≡ m * 2 ^ (k * au)
-        → n' * 2 ^ (k * bd) ≡ m' * 2 ^ (k * bu) → m * m' ≡ p * 2 ^ 1074 → n * n' ≡ p' * 2 ^ 1074 → p' * 2 ^ (k * cd) ≡ p * 2 ^ (k * cu)
+        → n' * 2 ^ (k * bd) ≡ m' * 2 ^ (k * bu) → m * m' ≡ p * 2 ^ 1074 → n * n' ≡ p' * 2 ^ 1074
+        → p' * 2 ^ (k * cd) ≡ p * 2 ^ (k * cu)
     product-tie k au ad bu bd cu cd m n m' n' p p' U D e e' w w' =
         let L = 2 ^ 1074 in
         eq-of-mul-eq-mul-right L (pow-pos 1074) (p' * 2 ^ (k * cd)) (p * 2 ^ (k * cu))
         (ap (λ z. p' * z * L) (ap (λ z. 2 ^ (k * z)) (sym D) ∙ twice k ad bd)
-        ∙ ring 4 (λ p' L nn d. (d times p' :* L ≼ nn) ∷ [] ⊩ p' :* d :* L ≈ nn :* d) tt p' L (n * n') (2 ^ (k * ad) * 2 ^ (k * bd)) (sym w')
+        ∙ ring 4 (λ p' L nn d. (d times p' :* L ≼ nn) ∷ [] ⊩ p' :* d :* L ≈ nn :* d) tt p' L (n * n')
+        (2 ^ (k * ad) * 2 ^ (k * bd)) (sym w')
         ∙ sym (mul-one _)
         ∙ products n m n' m' (2 ^ (k * ad)) (2 ^ (k * au)) (2 ^ (k * bd)) (2 ^ (k * bu)) 1 e e'
         ∙ mul-one _

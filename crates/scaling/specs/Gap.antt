@@ -1,5 +1,6 @@
--- Two floats that differ do so by a part in 2 ^ (prec + 1) of the larger at least: what lies between them is a multiple of the smaller's last
--- place. So a quotient like (x - y) / x, which bounds alone would let be tiny, is never so; and a lower bound from elsewhere enters a kind.
+-- Two floats that differ do so by a part in 2 ^ (prec + 1) of the larger at least: what lies between them is a multiple of the
+-- smaller's last place. So a quotient like (x - y) / x, which bounds alone would let be tiny, is never so; and a lower bound from
+-- elsewhere enters a kind.
 use mathlib.Core.Path.{_≡_, sym, ap, ap₂, _∙_}
 use mathlib.Core.Logic.{inl, inr}
 use Prim.Native.Nat.{ℕ, _+_, _-_, _*_, _^_, _≤_, _<_}
@@ -21,7 +22,8 @@ use Rattle.scaling.specs.Two.{Two}
 unfoldable pub raiseK : ℕ → Kind → Kind
 raiseK l A = record { any = A .any; zer = A .zer; lo = l; hi = A .hi; g = A .g; u = A .u; d = A .d }
 
-pub raise-two : {f : Format} {k : ℕ} {A : Kind} {x y : Float} (l : ℕ) (a : Two f k A x y) → l ≤ a .m → l ≤ a .n → Two f k (raiseK l A) x y
+pub raise-two : {f : Format} {k : ℕ} {A : Kind} {x y : Float} (l : ℕ) (a : Two f k A x y) → l ≤ a .m → l ≤ a .n
+    → Two f k (raiseK l A) x y
 unfolding raiseK
 raise-two l a p q = record {
   s = a .s;
@@ -42,7 +44,8 @@ multiples-apart : (g x y : ℕ) → Multiple g x → Multiple g y → y < x → 
 multiples-apart g x y a b h =
     let e : x - y ≡ (a .c - b .c) * 2 ^ g = ap₂ _-_ (a .is) (b .is) ∙ sym (sub-mul (a .c) (b .c) (2 ^ g)) in
     elim (either (a .c) (b .c)) [
-      | inl l ↦ absurd (clash x y h (le-trans (le-of-eq (a .is)) (le-trans (mul-le-mul-right (2 ^ g) l) (le-of-eq (sym (b .is))))))
+      | inl l ↦ absurd (clash x y h
+          (le-trans (le-of-eq (a .is)) (le-trans (mul-le-mul-right (2 ^ g) l) (le-of-eq (sym (b .is))))))
       | inr l ↦
           let c : 1 ≤ a .c - b .c = omega arith in
           le-trans (le-of-eq (sym (one-mul (2 ^ g)))) (le-trans (mul-le-mul-right (2 ^ g) c) (le-of-eq (sym e)))
@@ -70,7 +73,8 @@ gap-least {f} {x} {y} X Y h =
         let top : 2 ^ (z - 1) ≤ x = size-reaches x (z - 1) (let r : z - 1 < z = omega arith in r) in
         let s : z - 1 ≤ size y = half x y (z - 1) l top in
         let M = coarser (last f x) g (let r : g ≤ z - p = omega arith in r) (multiple x X (let r : x ≤ x = omega arith in r)) in
-        let N = coarser (last f y) g (let r : g ≤ size y - p = omega arith in r) (multiple y Y (let r : y ≤ y = omega arith in r)) in
+        let N = coarser (last f y) g (let r : g ≤ size y - p = omega arith in r)
+        (multiple y Y (let r : y ≤ y = omega arith in r)) in
         let d = multiples-apart g x y M N h in
         le-trans (le-of-lt (size-lt x))
         (le-trans (pow-mono (let r : z ≤ g + (p + 1) = omega arith in r))
@@ -84,7 +88,8 @@ gap-least {f} {x} {y} X Y h =
                   absurd
                   (let b = size-lt y in
                   let c : 2 * 2 ^ size y ≤ 2 ^ i =
-                  le-trans (le-of-eq (ap (λ (z : ℕ). z) (sym (pow-add 2 1 (size y))))) (pow-mono (let r : 1 + size y ≤ i = omega arith in r)) in
+                  le-trans (le-of-eq (ap (λ (z : ℕ). z) (sym (pow-add 2 1 (size y)))))
+                  (pow-mono (let r : 1 + size y ≤ i = omega arith in r)) in
                   let r : ⊥ = omega arith in r)
             ]
 
@@ -101,7 +106,8 @@ near-half f n =
           let e : 2 ^ (z - 1) ≤ near f n 1 =
           le-trans (le-of-eq (sym (one-mul (2 ^ (z - 1))) ∙ sym (near-exact f 1 (z - 1) 1 (zero-lt-suc 0) (pow-lt (digits f)))))
           (near-le f 1 (zero-lt-suc 0) (le-trans (le-of-eq (mul-one (1 * 2 ^ (z - 1)) ∙ one-mul (2 ^ (z - 1)))) top)) in
-          let d : 2 ^ z ≡ 2 * 2 ^ (z - 1) = ap (λ (i : ℕ). 2 ^ i) (let r : z ≡ 1 + (z - 1) = omega arith in r) ∙ pow-add 2 1 (z - 1) in
+          let d : 2 ^ z ≡ 2 * 2 ^ (z - 1) = ap (λ (i : ℕ). 2 ^ i) (let r : z ≡ 1 + (z - 1) = omega arith in r)
+          ∙ pow-add 2 1 (z - 1) in
           omega arith
     ]
 
@@ -114,9 +120,11 @@ ratio-least f x y w i X Y h W u e =
     le-trans (le-trans u (gap-least X Y h))
     (le-trans (mul-le-mul-right (2 ^ (prec f + 1)) (near-half f (x - y)))
     (le-of-eq (ring 2 (λ d q. con 2 :* d :* q ≈ d :* (con 2 :* q)) tt d (2 ^ (prec f + 1))
-    ∙ ap (λ (z : ℕ). d * z) (sym (pow-add 2 1 (prec f + 1)) ∙ ap (λ (z : ℕ). 2 ^ z) (let r : 1 + (prec f + 1) ≡ prec f + 2 = omega arith in r))))) in
+    ∙ ap (λ (z : ℕ). d * z) (sym (pow-add 2 1 (prec f + 1))
+    ∙ ap (λ (z : ℕ). 2 ^ z) (let r : 1 + (prec f + 1) ≡ prec f + 2 = omega arith in r))))) in
     let l : 2 ^ low f ≡ 2 ^ i * 2 ^ (prec f + 2) = ap (λ (z : ℕ). 2 ^ z) (sym e) ∙ pow-add 2 i (prec f + 2) in
     le-trans (le-of-eq (sym (one-mul (2 ^ i)) ∙ sym (near-exact f 1 i 1 (zero-lt-suc 0) (pow-lt (digits f)))))
     (near-mono f (1 * 2 ^ i * 1) 1 (d * 2 ^ low f) w (zero-lt-suc 0) W
-    (le-trans (below 4 (λ i x d q. (i times x ≼ d :* q) ∷ [] ⊩ con 1 :* i :* con 1 :* x ≈ d :* (i :* q) :* con 1) tt (2 ^ i) w d (2 ^ (prec f + 2)) a)
+    (le-trans (below 4 (λ i x d q. (i times x ≼ d :* q) ∷ [] ⊩ con 1 :* i :* con 1 :* x ≈ d :* (i :* q) :* con 1) tt (2 ^ i) w d
+    (2 ^ (prec f + 2)) a)
     (le-of-eq (ap (λ (z : ℕ). d * z * 1) (sym l)))))

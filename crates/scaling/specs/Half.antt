@@ -1,5 +1,5 @@
--- Rounding changes a fraction in the normal range, and every whole number, by less than a factor of two, either way. Crude, and enough wherever only
--- a bound is wanted.
+-- Rounding changes a fraction in the normal range, and every whole number, by less than a factor of two, either way. Crude, and
+-- enough wherever only a bound is wanted.
 use mathlib.Core.Path.{_≡_, sym, ap, _∙_}
 use Prim.Native.Nat.{ℕ, suc, _-_, _*_, _^_, _≤_, _<_}
 use mathlib.Core.Logic.{inl, inr}
@@ -28,7 +28,8 @@ module _ (f : Format) (n d : ℕ) (D : 0 < d) (normal : 2 ^ (prec f - 1) * d ≤
 -- a whole number (the other way is `near-half`)
 pub whole-more : (f : Format) (n : ℕ) → near f n 1 ≤ 2 * n
 whole-more f n = elim (either (2 ^ (prec f - 1)) n) [
-  | inl h ↦ le-trans (le-of-eq (sym (mul-one (near f n 1)))) (half-more f n 1 (zero-lt-suc 0) (le-trans (le-of-eq (mul-one (2 ^ (prec f - 1)))) h))
+  | inl h ↦ le-trans (le-of-eq (sym (mul-one (near f n 1))))
+      (half-more f n 1 (zero-lt-suc 0) (le-trans (le-of-eq (mul-one (2 ^ (prec f - 1)))) h))
   | inr h ↦ le-trans (le-of-eq (exact n (lt-of-lt-of-le h (pow-mono (let r : prec f - 1 ≤ prec f = omega arith in r)))))
       (let r : n ≤ 2 * n = omega arith in r)
 ]

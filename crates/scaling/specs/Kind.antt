@@ -1,6 +1,6 @@
--- What is known of a float before it is computed: its `Kind`. It may say that the float is not negative, and it bounds the float's units, zero
--- set apart. Each operation has a kind for its result, which computes, and a test that nothing overflows and that the result is not rounded
--- below the normal range.
+-- What is known of a float before it is computed: its `Kind`. It may say that the float is not negative, and it bounds the
+-- float's units, zero set apart. Each operation has a kind for its result, which computes, and a test that nothing overflows and
+-- that the result is not rounded below the normal range.
 use mathlib.Core.Path.{_≡_, sym, ap, ap₂, _∙_}
 use mathlib.Core.Logic.{_⊎_, inl, inr}
 use Prim.Native.Nat.{ℕ, _+_, _-_, _*_, _^_, _≤_, _<_, zero-le, min, max}
@@ -12,8 +12,10 @@ use lib.Ieee.{Format, prec, low, size}
 use lib.Ieee.Scale.{overflow}
 use Rattle.scaling.specs.Near.{near, near-mono, near-same, near-scale, near-zero}
 
--- `any`: it may be negative. `zer`: it may be zero. Otherwise it has from `lo` to `hi` units. Either way it has a multiple of 2 ^ g units.
--- `u` and `d` are its weight: where the arguments of weight 1 are multiplied by 2 ^ k, it is multiplied by 2 ^ (k * u) / 2 ^ (k * d).
+-- `any`: it may be negative. `zer`: it may be zero. Otherwise it has from `lo` to `hi` units. Either way it has a multiple of 2 ^
+-- g units.
+-- `u` and `d` are its weight: where the arguments of weight 1 are multiplied by 2 ^ k, it is multiplied by 2 ^ (k * u) / 2 ^ (k *
+-- d).
 pub record Kind : Type 0 where
   pub any : Bool
   pub zer : Bool
@@ -90,9 +92,10 @@ near-norm f P D t pos (inl e) =
     ∙ ap (λ (z : ℕ). z * 2 ^ t) (sym (ap (λ (z : ℕ). near f z D) e ∙ near-zero f D pos))
 near-norm f P D t pos (inr h) = near-scale f P D t pos h
 
--- Two fractions that differ by powers of two round so, if both are zero or normal. If the powers are the same, the fractions are, and round alike
--- anywhere.
-pub near-tie : (f : Format) (P D P' D' t t' : ℕ) → 0 < D → 0 < D' → P' * 2 ^ t' * D ≡ P * 2 ^ t * D' → (t ≡ t') ⊎ (Norm f P D × Norm f P' D')
+-- Two fractions that differ by powers of two round so, if both are zero or normal. If the powers are the same, the fractions are,
+-- and round alike anywhere.
+pub near-tie : (f : Format) (P D P' D' t t' : ℕ) → 0 < D → 0 < D' → P' * 2 ^ t' * D ≡ P * 2 ^ t * D'
+    → (t ≡ t') ⊎ (Norm f P D × Norm f P' D')
     → near f P' D' * 2 ^ t' ≡ near f P D * 2 ^ t
 near-tie f P D P' D' t t' pos pos' e (inl w) =
     ap₂ (λ y z. y * 2 ^ z)
@@ -122,7 +125,8 @@ mulK f A B = record {
 
 unfoldable pub mulOk : Format → Kind → Kind → Bool
 unfolding mulK
-mulOk f A B = ltb (mulK f A B .hi) (overflow f) && (eqb (A .u + B .u) (A .d + B .d) || leb (2 ^ (prec f - 1) * 2 ^ low f) (A .lo * B .lo))
+mulOk f A B = ltb (mulK f A B .hi)
+    (overflow f) && (eqb (A .u + B .u) (A .d + B .d) || leb (2 ^ (prec f - 1) * 2 ^ low f) (A .lo * B .lo))
 
 -- ---- the quotient: the divisor is not zero
 unfoldable pub divK : Format → Kind → Kind → Kind
@@ -140,7 +144,8 @@ divK f A B = record {
 unfoldable pub divOk : Format → Kind → Kind → Bool
 unfolding divK
 divOk f A B =
-    ltb 0 (floor B) && ltb (divK f A B .hi) (overflow f) && (eqb (A .u + B .d) (A .d + B .u) || leb (2 ^ (prec f - 1) * B .hi) (A .lo * 2 ^ low f))
+    ltb 0 (floor B) && ltb (divK f A B .hi)
+    (overflow f) && (eqb (A .u + B .d) (A .d + B .u) || leb (2 ^ (prec f - 1) * B .hi) (A .lo * 2 ^ low f))
 
 -- ---- the sum of two that are not negative, of one weight
 unfoldable pub plusK : Format → Kind → Kind → Kind
@@ -167,7 +172,16 @@ plusOk f A B = level? A B && ltb (plusK f A B .hi) (overflow f) && not (A .any |
 -- ---- the sum of any two of one weight: it may be zero, and otherwise it is no less than the power of two that divides both
 unfoldable pub sumK : Format → Kind → Kind → Kind
 unfolding near
-sumK f A B = record { any = true; zer = true; lo = 2 ^ min (A .g) (B .g); hi = near f (A .hi + B .hi) 1; g = min (A .g) (B .g); u = A .u; d = A .d }
+sumK f A B = record {
+  any = true;
+  zer = true;
+  lo = 2 ^ min (A .g) (B .g);
+  hi = near f (A .hi + B .hi) 1;
+  g = min (A .g)
+      (B .g);
+  u = A .u;
+  d = A .d;
+}
 
 unfoldable pub sumOk : Format → Kind → Kind → Bool
 unfolding sumK
@@ -208,7 +222,16 @@ abbrev pub absK : Kind → Kind
 absK A = record { any = false; zer = A .zer; lo = A .lo; hi = A .hi; g = A .g; u = A .u; d = A .d }
 
 abbrev pub maxK : Kind → Kind → Kind
-maxK A B = record { any = false; zer = false; lo = max (floor A) (floor B); hi = max (A .hi) (B .hi); g = min (A .g) (B .g); u = A .u; d = A .d }
+maxK A B = record {
+  any = false;
+  zer = false;
+  lo = max (floor A) (floor B);
+  hi = max (A .hi) (B .hi);
+  g = min (A .g)
+      (B .g);
+  u = A .u;
+  d = A .d;
+}
 
 abbrev pub maxOk : Kind → Kind → Bool
 maxOk A B = level? A B && not (A .any || B .any)

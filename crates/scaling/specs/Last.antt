@@ -1,5 +1,5 @@
--- A float of lo units or more is a multiple of the last place that lo has. A sum of two multiples of a power of two is one too, rounded or
--- not, so it is zero or no less.
+-- A float of lo units or more is a multiple of the last place that lo has. A sum of two multiples of a power of two is one too,
+-- rounded or not, so it is zero or no less.
 use mathlib.Core.Path.{_≡_, sym, ap, _∙_, subst}
 use mathlib.Core.Logic.{_⊎_, inl, inr}
 use Prim.Native.Nat.{ℕ, zero, suc, _+_, _-_, _*_, _%_, _^_, _≤_, _<_}
@@ -45,24 +45,29 @@ digits-of {f} {x = fin t zero e} {n = n} a = record {
   small = pow-pos (prec f);
 }
 digits-of {f} {x = fin t (suc m) (pos k)} {n = n} a =
-    let o = and₃ (eqb (suc m % 2) 1 && ltb (suc m) (2 ^ prec f)) (leb 1 (2 ^ low f)) (ltb (suc m * 2 ^ k) (2 ^ suc (emax f) * 1)) (a .fit) in
+    let o = and₃ (eqb (suc m % 2) 1 && ltb (suc m) (2 ^ prec f)) (leb 1 (2 ^ low f)) (ltb (suc m * 2 ^ k) (2 ^ suc (emax f) * 1))
+    (a .fit) in
     record {
       M = suc m;
       j = k + low f;
-      is = sym (mul-one n) ∙ sym (a .val .1) ∙ mul-assoc (suc m) (2 ^ k) (2 ^ low f) ∙ ap (λ z. suc m * z) (sym (pow-add 2 k (low f)));
+      is = sym (mul-one n) ∙ sym (a .val .1) ∙ mul-assoc (suc m) (2 ^ k) (2 ^ low f)
+          ∙ ap (λ z. suc m * z) (sym (pow-add 2 k (low f)));
       small = ltb→lt (suc m) (2 ^ prec f) (and-r (eqb (suc m % 2) 1) (ltb (suc m) (2 ^ prec f)) (o .0));
     }
 digits-of {f} {x = fin t (suc m) (negsuc k)} {n = n} a =
     let o =
-    and₃ (eqb (suc m % 2) 1 && ltb (suc m) (2 ^ prec f)) (leb (2 ^ suc k) (2 ^ low f)) (ltb (suc m * 1) (2 ^ suc (emax f) * 2 ^ suc k)) (a .fit) in
+    and₃ (eqb (suc m % 2) 1 && ltb (suc m) (2 ^ prec f)) (leb (2 ^ suc k) (2 ^ low f))
+    (ltb (suc m * 1) (2 ^ suc (emax f) * 2 ^ suc k)) (a .fit) in
     let l : suc k ≤ low f = pow-le (suc k) (low f) (leb→le (2 ^ suc k) (2 ^ low f) (o .1)) in
-    let e : 2 ^ (low f - suc k) * 2 ^ suc k ≡ 2 ^ low f = sym (pow-add 2 (low f - suc k) (suc k)) ∙ ap (λ (x : ℕ). 2 ^ x) (back (low f) (suc k) l) in
+    let e : 2 ^ (low f - suc k) * 2 ^ suc k ≡ 2 ^ low f = sym (pow-add 2 (low f - suc k) (suc k))
+    ∙ ap (λ (x : ℕ). 2 ^ x) (back (low f) (suc k) l) in
     record {
       M = suc m;
       j = low f - suc k;
       is = eq-of-mul-eq-mul-right (2 ^ suc k) (pow-pos (suc k)) n (suc m * 2 ^ (low f - suc k))
           (sym (a .val .1)
-          ∙ ring 4 (λ m l p q. (m times l ≼ p :* q) ∷ [] ⊩ m :* con 1 :* l ≈ m :* p :* q) tt (suc m) (2 ^ low f) (2 ^ (low f - suc k)) (2 ^ suc k)
+          ∙ ring 4 (λ m l p q. (m times l ≼ p :* q) ∷ [] ⊩ m :* con 1 :* l ≈ m :* p :* q) tt (suc m) (2 ^ low f)
+          (2 ^ (low f - suc k)) (2 ^ suc k)
           (sym e));
       small = ltb→lt (suc m) (2 ^ prec f) (and-r (eqb (suc m % 2) 1) (ltb (suc m) (2 ^ prec f)) (o .0));
     }
@@ -79,12 +84,15 @@ is-under {f} {x = fin t zero e} {n = n} a =
     subst (λ z. z < overflow f) (sym none) (pow-pos (low f + suc (emax f)))
 is-under {f} {x = fin t (suc m) e} {n = n} a =
     let q =
-    and₃ (eqb (suc m % 2) 1 && ltb (suc m) (2 ^ prec f)) (leb (down e) (2 ^ low f)) (ltb (suc m * up e) (2 ^ suc (emax f) * down e)) (a .fit) .2 in
-    let e' : 2 ^ suc (emax f) * 2 ^ low f ≡ overflow f = mul-comm (2 ^ suc (emax f)) (2 ^ low f) ∙ sym (pow-add 2 (low f) (suc (emax f))) in
+    and₃ (eqb (suc m % 2) 1 && ltb (suc m) (2 ^ prec f)) (leb (down e) (2 ^ low f))
+    (ltb (suc m * up e) (2 ^ suc (emax f) * down e)) (a .fit) .2 in
+    let e' : 2 ^ suc (emax f) * 2 ^ low f ≡ overflow f = mul-comm (2 ^ suc (emax f)) (2 ^ low f)
+    ∙ sym (pow-add 2 (low f) (suc (emax f))) in
     lt-of-mul-lt-mul-right (down e)
     (lt-of-le-of-lt (le-of-eq (sym (a .val .1)))
     (lt-of-lt-of-le (mul-lt-mul-of-pos-right (ltb→lt (suc m * up e) (2 ^ suc (emax f) * down e) q) (pow-pos (low f)))
-    (le-of-eq (ring 4 (λ b d l o. (d times b :* l ≼ o) ∷ [] ⊩ b :* d :* l ≈ o :* d) tt (2 ^ suc (emax f)) (down e) (2 ^ low f) (overflow f) e'))))
+    (le-of-eq (ring 4 (λ b d l o. (d times b :* l ≼ o) ∷ [] ⊩ b :* d :* l ≈ o :* d) tt (2 ^ suc (emax f)) (down e) (2 ^ low f)
+    (overflow f) e'))))
 
 pub record Multiple (g n : ℕ) : Type 0 where
   pub c : ℕ
@@ -105,14 +113,16 @@ size-mono a b h = size-le a (size b) (lt-of-le-of-lt h (size-lt b))
 pub multiple : {f : Format} {n : ℕ} (lo : ℕ) → Digits f n → lo ≤ n → Multiple (last f lo) n
 multiple {f} {n} lo D h =
     let j = D .j in
-    let z : size n ≤ prec f + j = size-le n (prec f + j) (subst (λ z. z < 2 ^ (prec f + j)) (sym (D .is)) (shl-lt (prec f) j (D .small))) in
+    let z : size n ≤ prec f + j = size-le n (prec f + j)
+    (subst (λ z. z < 2 ^ (prec f + j)) (sym (D .is)) (shl-lt (prec f) j (D .small))) in
     let z' : size lo ≤ size n = size-mono lo n h in
     let g : ℕ = last f lo in
     let l : g ≤ j = omega arith in
     coarser j g l (record { c = D .M; is = D .is })
 
 pub last-grain : {f : Format} {K : Kind} {s : Bool} {m : ℕ} → In K s m → Digits f m → Multiple (last f (K .lo)) m
-last-grain {f} {K} a D = elim (a .from) [ inl x ↦ record { c = 0; is = x .1 ∙ sym (zero-mul (2 ^ last f (K .lo))) } | inr l ↦ multiple (K .lo) D l ]
+last-grain {f} {K} a D = elim
+    (a .from) [ inl x ↦ record { c = 0; is = x .1 ∙ sym (zero-mul (2 ^ last f (K .lo))) } | inr l ↦ multiple (K .lo) D l ]
 
 -- ---- the sum of two multiples of 2 ^ g is zero or no less than that
 module _ (f : Format) (s : Bool) (m : ℕ) (t : Bool) (n g : ℕ) (a : Multiple g m) (b : Multiple g n) where
@@ -123,7 +133,8 @@ module _ (f : Format) (s : Bool) (m : ℕ) (t : Bool) (n g : ℕ) (a : Multiple 
   unfolding part
   parts =
       ap (λ z. near f z 1)
-      (sym (mul-one (addN s m t n)) ∙ addN-cross 1 (2 ^ g) m n (a .c) (b .c) (zero-lt-suc 0) (pow-pos g) (mul-one m ∙ a .is) (mul-one n ∙ b .is) s t)
+      (sym (mul-one (addN s m t n))
+      ∙ addN-cross 1 (2 ^ g) m n (a .c) (b .c) (zero-lt-suc 0) (pow-pos g) (mul-one m ∙ a .is) (mul-one n ∙ b .is) s t)
       ∙ near-whole f part g
 
   pub sum-grain : Multiple g (near f (addN s m t n) 1)
@@ -132,7 +143,8 @@ module _ (f : Format) (s : Bool) (m : ℕ) (t : Bool) (n g : ℕ) (a : Multiple 
   pub sum-from : (near f (addN s m t n) 1 ≡ 0) ⊎ (2 ^ g ≤ near f (addN s m t n) 1)
   sum-from =
       elim (eq-zero-or-pos part) [
-        | inl z ↦ inl (parts ∙ ap (λ z. near f z 1 * 2 ^ g) z ∙ ap (λ z. z * 2 ^ g) (near-zero f 1 (zero-lt-suc 0)) ∙ zero-mul (2 ^ g))
+        | inl z ↦ inl (parts ∙ ap (λ z. near f z 1 * 2 ^ g) z ∙ ap (λ z. z * 2 ^ g) (near-zero f 1 (zero-lt-suc 0))
+            ∙ zero-mul (2 ^ g))
         | inr h ↦
             inr (subst (λ z. 2 ^ g ≤ z) (sym parts)
             (le-trans (le-of-eq (sym (one-mul (2 ^ g))))

@@ -1,9 +1,10 @@
--- Why a series is taken only at small arguments: the bound q times the power w stays 64 times ahead of a first difference D, so q below the
--- mean makes D / (mean * w) at most 1/64. All of it is about units: l is the number of units in 1.
+-- Why a series is taken only at small arguments: the bound q times the power w stays 64 times ahead of a first difference D, so q
+-- below the mean makes D / (mean * w) at most 1/64. All of it is about units: l is the number of units in 1.
 use mathlib.Core.Path.{_≡_, sym, ap, _∙_}
 use mathlib.Core.Logic.{inl, inr}
 use Prim.Native.Nat.{ℕ, _+_, _-_, _*_, _^_, _≤_, _<_}
-use native.Mathlib.Nat.{le-trans, le-of-eq, le-of-lt, lt-of-lt-of-le, lt-of-le-of-lt, mul-one, mul-assoc, mul-pos, mul-lt-mul-of-pos-right}
+use native.Mathlib.Nat.{le-trans, le-of-eq, le-of-lt, lt-of-lt-of-le, lt-of-le-of-lt, mul-one, mul-assoc, mul-pos}
+use native.Mathlib.Nat.{mul-lt-mul-of-pos-right}
 use native.Mathlib.Nat.{not-le-of-lt, zero-lt-suc}
 use native.Mathlib.Omega.{arith}
 use mathlib.Core.List.{[], _∷_}
@@ -16,7 +17,8 @@ use Rattle.scaling.specs.Last.{Digits}
 
 -- ---- a float is not changed by rounding; a quarter and four times it are exact
 pub on-grid : {f : Format} {n : ℕ} → Digits f n → near f n 1 ≡ n
-on-grid {f} {n} D = ap (λ z. near f z 1) (D .is ∙ sym (mul-one _)) ∙ near-exact f (D .M) (D .j) 1 (zero-lt-suc 0) (D .small) ∙ sym (D .is)
+on-grid {f} {n} D = ap (λ z. near f z 1) (D .is ∙ sym (mul-one _)) ∙ near-exact f (D .M) (D .j) 1 (zero-lt-suc 0) (D .small)
+    ∙ sym (D .is)
 
 pub shifted : {f : Format} {n : ℕ} (t : ℕ) → Digits f n → near f (n * 2 ^ t) 1 ≡ n * 2 ^ t
 shifted {f} {n} t D = near-whole f n t ∙ ap (λ z. z * 2 ^ t) (on-grid D)
@@ -58,14 +60,16 @@ abbrev pub Ahead : Format → ℕ → ℕ → ℕ → Type 0
 Ahead f D Q W = 64 * D * 2 ^ low f ≤ Q * W
 
 -- at the start: q is a constant of 64 or more times something that is no less than D, and w is 1
-pub ahead-start : (f : Format) (C M D : ℕ) → Digits f M → D ≤ M → 64 * 2 ^ low f ≤ C → Ahead f D (near f (C * M) (2 ^ low f)) (2 ^ low f)
+pub ahead-start : (f : Format) (C M D : ℕ) → Digits f M → D ≤ M → 64 * 2 ^ low f ≤ C
+    → Ahead f D (near f (C * M) (2 ^ low f)) (2 ^ low f)
 ahead-start f C M D G h c =
     let l = 2 ^ low f in
     let a : M * 64 ≤ near f (C * M) l =
     le-trans (le-of-eq (sym (shifted 6 G)))
     (near-mono f (M * 64) 1 (C * M) l (zero-lt-suc 0) (pow-pos (low f)) (below 3 (λ m l c. (m times con 64 :* l ≼ c) ∷ []
     ⊩ m :* con 64 :* l ≈ c :* m :* con 1) tt M l C c)) in
-    below 4 (λ d m l q. (con 64 :* l times d ≼ m) ∷ (l times m :* con 64 ≼ q) ∷ [] ⊩ con 64 :* d :* l ≈ q :* l) tt D M l (near f (C * M) l) h a
+    below 4 (λ d m l q. (con 64 :* l times d ≼ m) ∷ (l times m :* con 64 ≼ q) ∷ [] ⊩ con 64 :* d :* l ≈ q :* l) tt D M l
+    (near f (C * M) l) h a
 
 -- a round divides q by four and multiplies w by four
 pub ahead-step : (f : Format) (D Q W : ℕ) → Digits f Q → Digits f W → 2 ^ (prec f + 2) ≤ Q → Ahead f D Q W
@@ -74,7 +78,8 @@ ahead-step f D Q W G H big a =
     le-trans a
     (le-of-eq
     (ring 3 (λ q p w. (w times q ≼ p :* con 4) ∷ []
-    ⊩ q :* w ≈ p :* (w :* con 4)) tt Q (near f (Q * 2 ^ low f) (4 * 2 ^ low f)) W (sym (quarter G big)) ∙ ap (λ z. near f (Q * 2 ^ low f)
+    ⊩ q :* w ≈ p :* (w :* con 4)) tt Q (near f (Q * 2 ^ low f) (4 * 2 ^ low f)) W (sym (quarter G big))
+    ∙ ap (λ z. near f (Q * 2 ^ low f)
     (4 * 2 ^ low f) * z) (sym (four-times H))))
 
 -- at the end: q is below the mean A
@@ -87,7 +92,8 @@ ahead-end f D Q W A i G e a h pos =
     let b : D * 64 ≤ E =
     le-trans (le-of-eq (sym (shifted 6 G)))
     (near-mono f (D * 64) 1 (A * W) l (zero-lt-suc 0) (pow-pos (low f))
-    (below 5 (λ d l q w a. (con 1 times con 64 :* d :* l ≼ q :* w) ∷ (w times q ≼ a) ∷ [] ⊩ d :* con 64 :* l ≈ a :* w :* con 1) tt D l Q W A a h)) in
+    (below 5 (λ d l q w a. (con 1 times con 64 :* d :* l ≼ q :* w) ∷ (w times q ≼ a) ∷ [] ⊩ d :* con 64 :* l ≈ a :* w :* con 1) tt
+    D l Q W A a h)) in
     le-trans
     (near-mono f (D * l) E (1 * 2 ^ i * 1) 1 pos (zero-lt-suc 0)
     (below 4 (λ d l i e. (d times l ≼ i :* con 64) ∷ (i times d :* con 64 ≼ e) ∷ []

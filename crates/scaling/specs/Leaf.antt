@@ -1,5 +1,5 @@
--- Two rules more. A difference whose sign a test has shown is above zero. And a function of a float that is the same in both runs gives the
--- same in both: of it only bounds are asked.
+-- Two rules more. A difference whose sign a test has shown is above zero. And a function of a float that is the same in both runs
+-- gives the same in both: of it only bounds are asked.
 use mathlib.Core.Path.{_≡_, refl, sym, ap, ap₂, _∙_, subst}
 use mathlib.Core.Logic.{_⊎_, inl, inr}
 use Prim.Native.Nat.{ℕ, _-_, _*_, _^_, _<_}
@@ -24,7 +24,8 @@ use Rattle.scaling.specs.Tests.{same-float}
 -- ---- y - x, where x is below y and neither is negative
 unfoldable pub gapK : Format → Kind → Kind → Kind
 unfolding sumK
-gapK f B A = let K = sumK f B (negK A) in record { any = false; zer = false; lo = K .lo; hi = K .hi; g = K .g; u = K .u; d = K .d }
+gapK f B A = let K = sumK f B
+    (negK A) in record { any = false; zer = false; lo = K .lo; hi = K .hi; g = K .g; u = K .u; d = K .d }
 
 unfoldable pub gapOk : Format → Kind → Kind → Bool
 unfolding sumOk
@@ -61,7 +62,8 @@ gap-in f A B {s} {t} {m} {n} S N h i =
       to = i .to;
     }
 
-unfoldable pub gap-two : {f : Format} {k : ℕ} {A B : Kind} {x y x' y' : Float} (a : Two f k A x x') (b : Two f k B y y') → T (lt x y) → T (level? A B)
+unfoldable pub gap-two : {f : Format} {k : ℕ} {A B : Kind} {x y x' y' : Float} (a : Two f k A x x') (b : Two f k B y y')
+    → T (lt x y) → T (level? A B)
     → T (gapOk f B A) → Two f k (gapK f B A) (sub f y x) (sub f y' x')
 unfolding sub gapK gapOk sumK sumOk neg-two summed
 gap-two {f} {k} {A} {B} a b t w ok =
@@ -71,7 +73,8 @@ gap-two {f} {k} {A} {B} a b t w ok =
     let S : a .s ≡ false = a .in-first .sign (nor-l (A .any) (B .any) p) in
     let S' : b .s ≡ false = b .in-first .sign (nor-r (A .any) (B .any) p) in
     let h = ltb→lt (a .m) (b .m) (subst T (lt-units (a .first) (b .first) ∙ ap₂ (λ s t. below s (a .m) t (b .m)) S S') t) in
-    let h' = ltb→lt (a .n) (b .n) (subst T (lt-two a b w ∙ lt-units (a .second) (b .second) ∙ ap₂ (λ s t. below s (a .n) t (b .n)) S S') t) in
+    let h' = ltb→lt (a .n) (b .n)
+    (subst T (lt-two a b w ∙ lt-units (a .second) (b .second) ∙ ap₂ (λ s t. below s (a .n) t (b .n)) S S') t) in
     let N : not (a .s) ≡ true = ap not S in
     summed b c (gapK f B A) refl refl (and-l (level? B (negK A)) (ltb (sumK f B (negK A) .hi) (overflow f)) o)
     (and-r (level? B (negK A)) (ltb (sumK f B (negK A) .hi) (overflow f)) o)
@@ -79,16 +82,19 @@ gap-two {f} {k} {A} {B} a b t w ok =
     (gap-in f A B S' N h' (sum-in f (b .in-second) (c .in-second) (b .grain-second) (c .grain-second))) (inr refl)
 
 -- its units: the difference, rounded
-pub gap-units : {f : Format} {k : ℕ} {A B : Kind} {x y x' y' : Float} (a : Two f k A x x') (b : Two f k B y y') (t : T (lt x y)) (w : T (level? A B))
+pub gap-units : {f : Format} {k : ℕ} {A B : Kind} {x y x' y' : Float} (a : Two f k A x x') (b : Two f k B y y') (t : T (lt x y))
+    (w : T (level? A B))
     (ok : T (gapOk f B A))
-    → (a .m < b .m) × (a .n < b .n) × (gap-two a b t w ok .m ≡ near f (b .m - a .m) 1) × (gap-two a b t w ok .n ≡ near f (b .n - a .n) 1)
+    → (a .m < b .m) × (a .n < b .n) × (gap-two a b t w ok .m ≡ near f (b .m - a .m) 1)
+    × (gap-two a b t w ok .n ≡ near f (b .n - a .n) 1)
 unfolding gap-two gapOk
 gap-units {f} {k} {A} {B} a b t w ok =
     let p = and-r (sumOk f B (negK A)) (not (A .any || B .any)) ok in
     let S : a .s ≡ false = a .in-first .sign (nor-l (A .any) (B .any) p) in
     let S' : b .s ≡ false = b .in-first .sign (nor-r (A .any) (B .any) p) in
     let h = ltb→lt (a .m) (b .m) (subst T (lt-units (a .first) (b .first) ∙ ap₂ (λ s t. below s (a .m) t (b .m)) S S') t) in
-    let h' = ltb→lt (a .n) (b .n) (subst T (lt-two a b w ∙ lt-units (a .second) (b .second) ∙ ap₂ (λ s t. below s (a .n) t (b .n)) S S') t) in
+    let h' = ltb→lt (a .n) (b .n)
+    (subst T (lt-two a b w ∙ lt-units (a .second) (b .second) ∙ ap₂ (λ s t. below s (a .n) t (b .n)) S S') t) in
     let at : (m n : ℕ) → m < n → near f (addN (b .s) n (not (a .s)) m) 1 ≡ near f (n - m) 1 =
     λ m n l. ap (λ z. near f z 1) (ap₂ (λ s t. addN s n (not t) m) S' S ∙ larger m n l) in
     (h, h', at (a .m) (b .m) h, at (a .n) (b .n) h')
@@ -110,7 +116,8 @@ pub record Value (f : Format) (B : Kind) (x : Float) : Type 0 where
 abbrev pub Leaf : Format → (Float → Float) → Kind → Kind → Type 0
 Leaf f g A B = (x : Float) → Value f A x → (g x ≡ nan) ⊎ Value f B (g x)
 
-pub leaf-two : {f : Format} {k : ℕ} (g : Float → Float) {A B : Kind} {x y : Float} → Leaf f g A B → A .u ≡ A .d → B .u ≡ B .d → B .g ≡ last f (B .lo)
+pub leaf-two : {f : Format} {k : ℕ} (g : Float → Float) {A B : Kind} {x y : Float} → Leaf f g A B → A .u ≡ A .d → B .u ≡ B .d
+    → B .g ≡ last f (B .lo)
     → Two f k A x y → ((g x ≡ nan) × (g y ≡ nan)) ⊎ Two f k B (g x) (g y)
 leaf-two {f} {k} g {A} {B} {x} {y} L e e' q a =
     subst (λ z. ((g x ≡ nan) × (g z ≡ nan)) ⊎ Two f k B (g x) (g z)) (same-float a e)

@@ -1,5 +1,5 @@
--- A float that may be a zero of either sign, in two runs: sums and products of such floats, none below zero. Which of them are zero is a Boolean
--- that computes from those of the parts, so that one proof serves whichever argument is the zero.
+-- A float that may be a zero of either sign, in two runs: sums and products of such floats, none below zero. Which of them are
+-- zero is a Boolean that computes from those of the parts, so that one proof serves whichever argument is the zero.
 use mathlib.Core.Path.{_≡_, refl, sym, ap, _∙_}
 use Prim.Native.Nat.{ℕ, _+_, _-_, _*_, _^_, _≤_, _<_, zero-le}
 use native.Mathlib.Nat.{le-trans, le-of-eq, le-add-right, le-add-left, mul-le-mul, zero-mul, mul-zero, zero-lt-suc}
@@ -13,12 +13,14 @@ use lib.Ieee.Scale.{overflow}
 use Rattle.scaling.specs.Near.{near}
 use Rattle.scaling.specs.Cross.{addN}
 use Rattle.scaling.specs.Half.{half-less, half-more, whole-more}
-use Rattle.scaling.specs.Kind.{Kind, floor, floor-le, near-le, level?, nor-l, nor-r, mulK, mulOk, plusK, plusOk, within, and₃}
+use Rattle.scaling.specs.Kind.{Kind, floor, floor-le, near-le, level?, nor-l, nor-r, mulK, mulOk, plusK, plusOk, within}
+use Rattle.scaling.specs.Kind.{and₃}
 use Rattle.scaling.specs.Last.{Digits, digits-of}
 use Rattle.scaling.specs.Lead.{on-grid}
 use Rattle.scaling.specs.Two.{Two, mul-two, plus-two, summed}
 use Rattle.scaling.specs.One.{widen-two}
-use Rattle.scaling.specs.Nothing.{Nothing, no-products, no-product-first, no-product-last, no-sum, skip-first, skip-last, skip-first-units, skip-last-units}
+use Rattle.scaling.specs.Nothing.{Nothing, no-products, no-product-first, no-product-last, no-sum, skip-first, skip-last}
+use Rattle.scaling.specs.Nothing.{skip-first-units, skip-last-units}
 
 pub data Maybe (f : Format) (k : ℕ) (K : Kind) (x x' : Float) : Type 0 where
   none : Nothing f x x' → Maybe f k K x x'
@@ -47,7 +49,8 @@ solid? f K = not (K .any) && ltb 0 (floor K) && ltb (K .hi) (overflow f)
 
 module _ {f : Format} {k : ℕ} {A B : Kind} {x x' y y' : Float} (o : 0 < overflow f) where
   -- ---- a product
-  pub mul-maybe : Maybe f k A x x' → Maybe f k B y y' → T (solid? f A) → T (mulOk f A B) → Maybe f k (mulK f A B) (mul f x y) (mul f x' y')
+  pub mul-maybe : Maybe f k A x x' → Maybe f k B y y' → T (solid? f A) → T (mulOk f A B)
+      → Maybe f k (mulK f A B) (mul f x y) (mul f x' y')
   unfolding solid?
   mul-maybe (none z) (none w) s t = none (no-products o z w)
   mul-maybe (none z) (some b) s t = none (no-product-first o z b)
@@ -65,7 +68,8 @@ module _ {f : Format} {k : ℕ} {A B : Kind} {x x' y y' : Float} (o : 0 < overfl
   mul-some (some a) (some b) s t = refl
 
   -- ---- a sum, of a kind C that holds either part and both together
-  pub add-maybe : (C : Kind) → Maybe f k A x x' → Maybe f k B y y' → T (solid? f A && solid? f B) → T (plusOk f A B) → T (within A C)
+  pub add-maybe : (C : Kind) → Maybe f k A x x' → Maybe f k B y y' → T (solid? f A && solid? f B) → T (plusOk f A B)
+      → T (within A C)
       → T (within B C) → T (within (plusK f A B) C)
       → Maybe f k C (add f x y) (add f x' y')
   unfolding solid?
@@ -78,7 +82,8 @@ module _ {f : Format} {k : ℕ} {A B : Kind} {x x' y y' : Float} (o : 0 < overfl
       some (widen-two (skip-last o z a (h .0) (h .1) (h .2)) p)
   add-maybe C (some a) (some b) s t p q r = some (widen-two (plus-two a b t) r)
 
-  pub add-some : (C : Kind) (a : Maybe f k A x x') (b : Maybe f k B y y') (s : T (solid? f A && solid? f B)) (t : T (plusOk f A B))
+  pub add-some : (C : Kind) (a : Maybe f k A x x') (b : Maybe f k B y y') (s : T (solid? f A && solid? f B))
+      (t : T (plusOk f A B))
       (p : T (within A C)) (q : T (within B C))
       (r : T (within (plusK f A B) C)) → some? (add-maybe C a b s t p q r) ≡ some? a || some? b
   unfolding add-maybe
@@ -91,7 +96,8 @@ module _ {f : Format} {k : ℕ} {A B : Kind} {x x' y y' : Float} (o : 0 < overfl
 abbrev pub Sum : ℕ → ℕ → ℕ → Type 0
 Sum a b c = (a ≤ c) × (b ≤ c) × (c ≤ 2 * (a + b))
 
-sum-law : (f : Format) (m n : ℕ) (s t : Bool) → s ≡ false → t ≡ false → Digits f m → Digits f n → Sum m n (near f (addN s m t n) 1)
+sum-law : (f : Format) (m n : ℕ) (s t : Bool) → s ≡ false → t ≡ false → Digits f m → Digits f n
+    → Sum m n (near f (addN s m t n) 1)
 sum-law f m n s t e g M N = rw (e, g) (
   le-trans (le-of-eq (sym (on-grid M))) (near-le f 1 (zero-lt-suc 0) (le-add-right m n)),
   le-trans (le-of-eq (sym (on-grid N))) (near-le f 1 (zero-lt-suc 0) (le-add-left n m)),
@@ -105,10 +111,12 @@ only-last : (a b c : ℕ) → a ≡ 0 → c ≡ b → Sum a b c
 only-last a b c e g = (omega arith, omega arith, omega arith)
 
 module _ {f : Format} {k : ℕ} {A B : Kind} {x x' y y' : Float} (o : 0 < overflow f) (C : Kind) where
-  pub add-law : (a : Maybe f k A x x') (b : Maybe f k B y y') (s : T (solid? f A && solid? f B)) (t : T (plusOk f A B)) (p : T (within A C))
+  pub add-law : (a : Maybe f k A x x') (b : Maybe f k B y y') (s : T (solid? f A && solid? f B)) (t : T (plusOk f A B))
+      (p : T (within A C))
       (q : T (within B C))
       (r : T (within (plusK f A B) C))
-      → Sum (units a) (units b) (units (add-maybe o C a b s t p q r)) × Sum (units' a) (units' b) (units' (add-maybe o C a b s t p q r))
+      → Sum (units a) (units b) (units (add-maybe o C a b s t p q r)) × Sum (units' a) (units' b)
+      (units' (add-maybe o C a b s t p q r))
   unfolding add-maybe solid? widen-two plus-two summed plusOk
   add-law (none z) (none w) s t p q r = (only-first 0 0 0 refl refl, only-first 0 0 0 refl refl)
   add-law (none z) (some b) s t p q r =
@@ -147,8 +155,10 @@ module _ {f : Format} {k : ℕ} {A B : Kind} {x x' y y' : Float} (o : 0 < overfl
       × Product (2 ^ low f) (units' a) (units' b) (units' (mul-maybe o a b s t))
   unfolding mul-maybe mul-two normal?
   mul-law (none z) (none w) s t n = (no-product-law _ 0 0 0 refl refl, no-product-law _ 0 0 0 refl refl)
-  mul-law (none z) (some b) s t n = (no-product-law _ 0 (b .m) 0 refl (zero-mul (b .m)), no-product-law _ 0 (b .n) 0 refl (zero-mul (b .n)))
-  mul-law (some a) (none z) s t n = (no-product-law _ (a .m) 0 0 refl (mul-zero (a .m)), no-product-law _ (a .n) 0 0 refl (mul-zero (a .n)))
+  mul-law (none z) (some b) s t
+      n = (no-product-law _ 0 (b .m) 0 refl (zero-mul (b .m)), no-product-law _ 0 (b .n) 0 refl (zero-mul (b .n)))
+  mul-law (some a) (none z) s t
+      n = (no-product-law _ (a .m) 0 0 refl (mul-zero (a .m)), no-product-law _ (a .n) 0 0 refl (mul-zero (a .n)))
   mul-law (some a) (some b) s t n =
       let h = leb→le (2 ^ (prec f - 1) * 2 ^ low f) (floor A * floor B) n in (
         product-law f (a .m) (b .m) (le-trans h (mul-le-mul (floor-le (a .in-first)) (floor-le (b .in-first)))),

@@ -1,6 +1,7 @@
--- RD's mean a of x, y and three times z, each sum and the quotient by five rounded: x is above a by little more than y and z lie below it.
--- So the larger of the differences a - x, a - y, a - z, taken with their signs, bounds all three in size. (All numbers are units; T is
--- 2 ^ (prec - 1).)
+-- RD's mean a of x, y and three times z, each sum and the quotient by five rounded: x is above a by little more than y and z lie
+-- below it.
+-- So the larger of the differences a - x, a - y, a - z, taken with their signs, bounds all three in size. (All numbers are units;
+-- T is 2 ^ (prec - 1).)
 use mathlib.Core.Path.{_≡_, subst}
 use Prim.Native.Nat.{ℕ, suc, _+_, _-_, _*_, _≤_, _<_}
 use native.Mathlib.Nat.{le-trans, le-of-eq, mul-sub, mul-pos, le-of-mul-le-mul-left}
@@ -9,7 +10,8 @@ use mathlib.Core.List.{[], _∷_}
 use Rattle.algebra.specs.Ring.{con, nxt, _:+_, _:*_, _≈_, _⊩_, _times_≼_, ring, below}
 
 -- each rounding takes at most a part in T away (`near-not-less`); three of them at most four parts
-pub mean-not-less : (T x y w s v t a : ℕ) → 4 ≤ T → T * (x + y) ≤ suc T * s → T * w ≤ suc T * v → T * (s + v) ≤ suc T * t → T * t ≤ suc T * (5 * a)
+pub mean-not-less : (T x y w s v t a : ℕ) → 4 ≤ T → T * (x + y) ≤ suc T * s → T * w ≤ suc T * v → T * (s + v) ≤ suc T * t
+    → T * t ≤ suc T * (5 * a)
     → T * (x + y + w) ≤ (T + 4) * (5 * a)
 mean-not-less T x y w s v t a big h g j k =
     let e : 4 + (T - 4) ≡ T = omega arith in
@@ -29,7 +31,8 @@ mean-not-less T x y w s v t a big h g j k =
     let pos : 0 < T = omega arith in
     le-of-mul-le-mul-left
     (le-trans chain (le-trans
-    (below 3 (λ c d a. (con 5 :* a times c ≼ d) ∷ [] ⊩ c :* (con 5 :* a) ≈ d :* (con 5 :* a)) tt (suc T * suc T * suc T) (T * T * (T + 4)) a cube)
+    (below 3 (λ c d a. (con 5 :* a times c ≼ d) ∷ [] ⊩ c :* (con 5 :* a) ≈ d :* (con 5 :* a)) tt (suc T * suc T * suc T)
+    (T * T * (T + 4)) a cube)
     (le-of-eq (ring 2 (λ T a. T :* T :* (T :+ con 4) :* (con 5 :* a) ≈ T :* T :* ((T :+ con 4) :* (con 5 :* a))) tt T a))))
     (mul-pos pos pos)
 

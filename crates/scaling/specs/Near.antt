@@ -1,10 +1,11 @@
--- `near f n d`: the fraction n / d rounded to the digits that the format f keeps, where 1 is the format's smallest value (a unit) and nothing
--- overflows. It keeps the order, sees only the fraction's value, and a power of two goes through it: at a whole number always, and at a
--- fraction in the normal range.
+-- `near f n d`: the fraction n / d rounded to the digits that the format f keeps, where 1 is the format's smallest value (a unit)
+-- and nothing overflows. It keeps the order, sees only the fraction's value, and a power of two goes through it: at a whole
+-- number always, and at a fraction in the normal range.
 use mathlib.Core.Path.{_≡_, refl, sym, ap, _∙_, subst}
 use mathlib.Core.Logic.{_⊎_, inl, inr}
 use Prim.Native.Nat.{ℕ, zero, suc, _+_, _-_, _*_, _/_, _%_, _^_, _≤_, _<_, zero-le, compare, Ordering·lt, compare·zero-suc}
-use native.Mathlib.Nat.{le-trans, le-of-eq, le-antisymm, lt-of-lt-of-le, lt-of-le-of-lt, lt-irrefl, not-le-of-lt, eq-or-lt-of-le, mul-assoc}
+use native.Mathlib.Nat.{le-trans, le-of-eq, le-antisymm, lt-of-lt-of-le, lt-of-le-of-lt, lt-irrefl, not-le-of-lt, eq-or-lt-of-le}
+use native.Mathlib.Nat.{mul-assoc}
 use native.Mathlib.Nat.{mul-one, mul-pos, mul-le-mul-right, mul-div-cancel, mul-mod-left, le-div-iff-mul-le, div-div-eq-div-mul}
 use native.Mathlib.Nat.{zero-lt-suc}
 use native.Mathlib.Omega.{arith}
@@ -35,13 +36,15 @@ same-drop : (k a b c d : ℕ) → 0 < b → 0 < d → a * d ≤ c * b → closes
 same-drop k a b c d B D h =
     mul-le-mul-right (2 ^ k)
     (closest-mono a (b * 2 ^ k) c (d * 2 ^ k) (mul-pos B (pow-pos k)) (mul-pos D (pow-pos k))
-    (le-trans (le-of-eq (sym (mul-assoc a d (2 ^ k)))) (le-trans (mul-le-mul-right (2 ^ k) h) (le-of-eq (mul-assoc c b (2 ^ k))))))
+    (le-trans (le-of-eq (sym (mul-assoc a d (2 ^ k))))
+    (le-trans (mul-le-mul-right (2 ^ k) h) (le-of-eq (mul-assoc c b (2 ^ k))))))
 
 kept-le : (p n den : ℕ) → kept p n den ≤ 2 ^ p
 kept-le p n den =
     let k = drop p n den in
     let u = den * 2 ^ k in
-    le-trans (nearest-le (n / u) (compare (n % u * 2) u)) (subst (λ (x : ℕ). x < 2 ^ p) (div-div-eq-div-mul n den (2 ^ k)) (kept-lt p (n / den)))
+    le-trans (nearest-le (n / u) (compare (n % u * 2) u))
+    (subst (λ (x : ℕ). x < 2 ^ p) (div-div-eq-div-mul n den (2 ^ k)) (kept-lt p (n / den)))
 
 all-in-use : (z p : ℕ) → 0 < p → 0 < z - p → p - 1 + (z - p) < z
 all-in-use z p P h = omega arith
@@ -51,7 +54,8 @@ kept-ge p n den P K =
     let k = drop p n den in
     let u = den * 2 ^ k in
     let w = n / den in
-    let a : 2 ^ (p - 1) * 2 ^ k ≤ w = le-trans (le-of-eq (sym (pow-add 2 (p - 1) k))) (size-reaches w (p - 1 + k) (all-in-use (size w) p P K)) in
+    let a : 2 ^ (p - 1) * 2 ^ k ≤ w = le-trans (le-of-eq (sym (pow-add 2 (p - 1) k)))
+    (size-reaches w (p - 1 + k) (all-in-use (size w) p P K)) in
     le-trans (subst (λ (x : ℕ). 2 ^ (p - 1) ≤ x) (div-div-eq-div-mul n den (2 ^ k)) (le-div-iff-mul-le (pow-pos k) .1 a))
     (nearest-ge (n / u) (compare (n % u * 2) u))
 
@@ -73,7 +77,8 @@ near-mono f a b c d B D h =
           le-trans (mul-le-mul-right (2 ^ j) (kept-le p a b))
           (le-trans (le-of-eq (sym (pow-add 2 p j)))
           (le-trans (pow-mono (room p j k (digits f) l))
-          (le-trans (le-of-eq (pow-add 2 (p - 1) k)) (mul-le-mul-right (2 ^ k) (kept-ge p c d (digits f) (lt-of-le-of-lt zero-le l))))))
+          (le-trans (le-of-eq (pow-add 2 (p - 1) k))
+          (mul-le-mul-right (2 ^ k) (kept-ge p c d (digits f) (lt-of-le-of-lt zero-le l))))))
     ]
 
 pub near-same : (f : Format) (a b c d : ℕ) → 0 < b → 0 < d → a * d ≡ c * b → near f a b ≡ near f c d
@@ -88,7 +93,8 @@ near-scale f n d t D h =
     ∙ is-grid (n * 2 ^ t)
     ∙ grid-scale f n (d * l) t C
     (normal-of-fraction f n (d * l) C (below 4 (λ p d n l. (l times p :* d ≼ n) ∷ [] ⊩ p :* (d :* l) ≈ n :* l) tt _ _ _ _ h))
-    ∙ ap (λ (z : ℕ). z * 2 ^ t) (sym (is-grid n) ∙ near-same f (n * l) (d * l) n d C D (ring 3 (λ n l d. n :* l :* d ≈ n :* (d :* l)) tt _ _ _))
+    ∙ ap (λ (z : ℕ). z * 2 ^ t)
+    (sym (is-grid n) ∙ near-same f (n * l) (d * l) n d C D (ring 3 (λ n l d. n :* l :* d ≈ n :* (d :* l)) tt _ _ _))
   where
     is-grid : (m : ℕ) → near f (m * 2 ^ low f) (d * 2 ^ low f) ≡ grid f m (d * 2 ^ low f)
     is-grid m = unfold near in refl
@@ -100,7 +106,8 @@ above-zero (suc u) h = compare·zero-suc u
 
 closest-exact : (q u : ℕ) → 0 < u → closest (q * u) u ≡ q
 closest-exact q u h =
-    ap (λ (x : ℕ). nearest x (compare (q * u % u * 2) u)) (mul-div-cancel q h) ∙ ap (λ (x : ℕ). nearest q (compare (x * 2) u)) (mul-mod-left q u)
+    ap (λ (x : ℕ). nearest x (compare (q * u % u * 2) u)) (mul-div-cancel q h)
+    ∙ ap (λ (x : ℕ). nearest q (compare (x * 2) u)) (mul-mod-left q u)
     ∙ ap (λ o. nearest q o) (above-zero u h)
 
 spare : (z p j : ℕ) → z ≤ p + j → z - p ≤ j
@@ -112,11 +119,13 @@ near-exact f q j d D h =
     let p = prec f in
     let k = drop p n d in
     let k-le : k ≤ j =
-    spare (size (n / d)) p j (size-le (n / d) (p + j) (subst (λ (x : ℕ). x < 2 ^ (p + j)) (sym (mul-div-cancel (q * 2 ^ j) D)) (shl-lt p j h))) in
+    spare (size (n / d)) p j (size-le (n / d) (p + j)
+    (subst (λ (x : ℕ). x < 2 ^ (p + j)) (sym (mul-div-cancel (q * 2 ^ j) D)) (shl-lt p j h))) in
     let e : 2 ^ (j - k) * 2 ^ k ≡ 2 ^ j = sym (pow-add 2 (j - k) k) ∙ ap (λ (x : ℕ). 2 ^ x) (back j k k-le) in
     let r = q * 2 ^ (j - k) in
     let e' : n ≡ r * (d * 2 ^ k) =
-    ring 5 (λ q a b c d. (q :* d times a ≼ b :* c) ∷ [] ⊩ q :* a :* d ≈ q :* b :* (d :* c)) tt q (2 ^ j) (2 ^ (j - k)) (2 ^ k) d (sym e) in
+    ring 5 (λ q a b c d. (q :* d times a ≼ b :* c) ∷ [] ⊩ q :* a :* d ≈ q :* b :* (d :* c)) tt q (2 ^ j) (2 ^ (j - k)) (2 ^ k) d
+    (sym e) in
     opened n
     ∙ ap (λ (x : ℕ). closest x (d * 2 ^ k) * 2 ^ k) e'
     ∙ ap (λ (x : ℕ). x * 2 ^ k) (closest-exact r (d * 2 ^ k) (mul-pos D (pow-pos k)))
@@ -127,7 +136,8 @@ near-exact f q j d D h =
 
 pub near-zero : (f : Format) (d : ℕ) → 0 < d → near f 0 d ≡ 0
 near-zero f d D =
-    near-same f 0 d (0 * 2 ^ 0 * d) d D D (ring 1 (λ d. con 0 :* d ≈ con 0 :* con 1 :* d :* d) tt d) ∙ near-exact f 0 0 d D (pow-pos (prec f))
+    near-same f 0 d (0 * 2 ^ 0 * d) d D D (ring 1 (λ d. con 0 :* d ≈ con 0 :* con 1 :* d :* d) tt d)
+    ∙ near-exact f 0 0 d D (pow-pos (prec f))
 
 -- ---- a power of two goes through every whole number
 pub either : (a b : ℕ) → (a ≤ b) ⊎ (b < a)

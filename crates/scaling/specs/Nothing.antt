@@ -25,13 +25,16 @@ pub record Nothing (f : Format) (x y : Float) : Type 0 where
   pub first : Is f x s 0
   pub second : Is f y s 0
 
-no-product : (f : Format) {x y : Float} {s t : Bool} {n : ℕ} → Is f x s 0 → Is f y t n → 0 < overflow f → Is f (mul f x y) (unlike s t) 0
+no-product : (f : Format) {x y : Float} {s t : Bool} {n : ℕ} → Is f x s 0 → Is f y t n → 0 < overflow f
+    → Is f (mul f x y) (unlike s t) 0
 no-product f {x} {y} {s} {t} {n} X Y o =
-    let e : near f (0 * n) (2 ^ low f) ≡ 0 = ap (λ (z : ℕ). near f z (2 ^ low f)) (zero-mul n) ∙ near-zero f (2 ^ low f) (pow-pos (low f)) in
+    let e : near f (0 * n) (2 ^ low f) ≡ 0 = ap (λ (z : ℕ). near f z (2 ^ low f)) (zero-mul n)
+    ∙ near-zero f (2 ^ low f) (pow-pos (low f)) in
     subst (Is f (mul f x y) (unlike s t)) e (mul-units X Y (subst (λ (z : ℕ). z < overflow f) (sym e) o))
 
 -- ---- a float above zero and a zero, in either order
-zero-first : (f : Format) {x w : Float} {s : Bool} {n : ℕ} → Is f x s 0 → Is f w false n → 0 < n → n < overflow f → Is f (add f x w) false n
+zero-first : (f : Format) {x w : Float} {s : Bool} {n : ℕ} → Is f x s 0 → Is f w false n → 0 < n → n < overflow f
+    → Is f (add f x w) false n
 zero-first f {x} {w} {s} {n} X W h o = go s X
   where
     same : near f n 1 ≡ n
@@ -56,7 +59,8 @@ zero-first f {x} {w} {s} {n} X W h o = go s X
         pick' true t = refl
         pick' false t = absurd t
 
-zero-last : (f : Format) {x w : Float} {s : Bool} {n : ℕ} → Is f x s 0 → Is f w false n → n < overflow f → Is f (add f w x) false n
+zero-last : (f : Format) {x w : Float} {s : Bool} {n : ℕ} → Is f x s 0 → Is f w false n → n < overflow f
+    → Is f (add f w x) false n
 zero-last f {x} {w} {s} {n} X W o = go s X
   where
     same : near f n 1 ≡ n
@@ -103,10 +107,20 @@ module _ {f : Format} (o : 0 < overflow f) {x y : Float} (z : Nothing f x y) whe
   }
 
   pub no-products : {x' y' : Float} → Nothing f x' y' → Nothing f (mul f x x') (mul f y y')
-  no-products w = record { s = unlike (z .s) (w .s); first = no-product f (z .first) (w .first) o; second = no-product f (z .second) (w .second) o }
+  no-products w = record {
+    s = unlike (z .s) (w .s);
+    first = no-product f (z .first) (w .first) o;
+    second = no-product f
+        (z .second) (w .second) o;
+  }
 
   pub no-sum : {x' y' : Float} → Nothing f x' y' → Nothing f (add f x x') (add f y y')
-  no-sum w = record { s = addS (z .s) 0 (w .s) 0; first = two-zeros f (z .first) (w .first) o; second = two-zeros f (z .second) (w .second) o }
+  no-sum w = record {
+    s = addS (z .s) 0 (w .s) 0;
+    first = two-zeros f (z .first) (w .first) o;
+    second = two-zeros f (z .second)
+        (w .second) o;
+  }
 
   module _ {k : ℕ} {K : Kind} {w w' : Float} (a : Two f k K w w') (plus : T (not (K .any))) (some : T (ltb 0 (floor K)))
       (small : T (ltb (K .hi) (overflow f))) where
@@ -140,10 +154,12 @@ module _ {f : Format} (o : 0 < overflow f) {x y : Float} (z : Nothing f x y) whe
     }
 
     pub skip-first : Two f k K (add f x w) (add f y w')
-    skip-first = as-is (zero-first f (z .first) W M (under f (a .in-first) small)) (zero-first f (z .second) W' N (under f (a .in-second) small))
+    skip-first = as-is (zero-first f (z .first) W M (under f (a .in-first) small))
+        (zero-first f (z .second) W' N (under f (a .in-second) small))
 
     pub skip-last : Two f k K (add f w x) (add f w' y)
-    skip-last = as-is (zero-last f (z .first) W (under f (a .in-first) small)) (zero-last f (z .second) W' (under f (a .in-second) small))
+    skip-last = as-is (zero-last f (z .first) W (under f (a .in-first) small))
+        (zero-last f (z .second) W' (under f (a .in-second) small))
 
     -- of as many units
     pub skip-first-units : (skip-first .s ≡ false) × (skip-first .m ≡ a .m) × (skip-first .n ≡ a .n)
@@ -159,7 +175,8 @@ module _ {f : Format} (o : 0 < overflow f) {x y : Float} (z : Nothing f x y) whe
       where
         none : (n : ℕ) {v u : Float} → Is f v (z .s) 0 → Is f u false n → Is f (mul f u v) (unlike false (z .s)) 0
         none n {v} {u} R U =
-            let e : near f (n * 0) (2 ^ low f) ≡ 0 = ap (λ (i : ℕ). near f i (2 ^ low f)) (mul-zero n) ∙ near-zero f (2 ^ low f) (pow-pos (low f)) in
+            let e : near f (n * 0) (2 ^ low f) ≡ 0 = ap (λ (i : ℕ). near f i (2 ^ low f)) (mul-zero n)
+            ∙ near-zero f (2 ^ low f) (pow-pos (low f)) in
             subst (Is f (mul f u v) (unlike false (z .s))) e (mul-units U R (subst (λ (i : ℕ). i < overflow f) (sym e) o))
 
 -- ---- its root, and a zero as a float of any weight
@@ -182,7 +199,8 @@ root-nothing {x} {y} z = record {
   second = subst (λ (v : Float). Is binary64 v (z .s) 0) (sym (root-itself (z .second))) (z .second);
 }
 
-unfoldable pub nothing-two : {f : Format} {k : ℕ} {x y : Float} (K : Kind) (z : Nothing f x y) → z .s ≡ false → T (K .zer) → Two f k K x y
+unfoldable pub nothing-two : {f : Format} {k : ℕ} {x y : Float} (K : Kind) (z : Nothing f x y) → z .s ≡ false → T (K .zer)
+    → Two f k K x y
 nothing-two {f} {k} K z e t = record {
   s = z .s;
   m = 0;
@@ -197,7 +215,8 @@ nothing-two {f} {k} K z e t = record {
 }
 
 -- of a kind that allows any sign
-pub signed-nothing-two : {f : Format} {k : ℕ} {x y : Float} (K : Kind) (z : Nothing f x y) → T (K .any) → T (K .zer) → Two f k K x y
+pub signed-nothing-two : {f : Format} {k : ℕ} {x y : Float} (K : Kind) (z : Nothing f x y) → T (K .any) → T (K .zer)
+    → Two f k K x y
 signed-nothing-two {f} {k} K z any t = record {
   s = z .s;
   m = 0;

@@ -15,7 +15,8 @@ use Rattle.algebra.specs.Ring.{_:*_, _≈_, _⊩_, _times_≼_, ring}
 use Rattle.binary64.specs.Leaves.{absolute, maximum}
 use Rattle.scaling.specs.Near.{either}
 use Rattle.scaling.specs.Units.{Is, neg-units, lt-units}
-use Rattle.scaling.specs.Kind.{Kind, In, floor-le, and₃, nor-l, nor-r, level?, sumK, sumOk, allows, within, negK, absK, maxK, maxOk, sameK}
+use Rattle.scaling.specs.Kind.{Kind, In, floor-le, and₃, nor-l, nor-r, level?, sumK, sumOk, allows, within, negK, absK}
+use Rattle.scaling.specs.Kind.{maxK, maxOk, sameK}
 use Rattle.scaling.specs.Last.{digits-of, Multiple, coarser, multiple}
 use Rattle.scaling.specs.Within.{least-l, least-r}
 use Rattle.scaling.specs.Two.{Two, twice, sum-two, same-weight}
@@ -24,7 +25,8 @@ use Rattle.scaling.specs.Two.{Two, twice, sum-two, same-weight}
 pub shift : (k u d v e : ℕ) (m n : ℕ) → u + e ≡ v + d → n * 2 ^ (k * d) ≡ m * 2 ^ (k * u) → n * 2 ^ (k * e) ≡ m * 2 ^ (k * v)
 shift k u d v e m n w h =
     eq-of-mul-eq-mul-right (2 ^ (k * d)) (pow-pos (k * d)) _ _
-    (ring 5 (λ n e d m u. (e times n :* d ≼ m :* u) ∷ [] ⊩ n :* e :* d ≈ m :* (u :* e)) tt n (2 ^ (k * e)) (2 ^ (k * d)) m (2 ^ (k * u)) h
+    (ring 5 (λ n e d m u. (e times n :* d ≼ m :* u) ∷ [] ⊩ n :* e :* d ≈ m :* (u :* e)) tt n (2 ^ (k * e)) (2 ^ (k * d)) m
+    (2 ^ (k * u)) h
     ∙ ap (λ z. m * z) (sym (twice k u e) ∙ ap (λ z. 2 ^ (k * z)) w ∙ twice k v d)
     ∙ ring 3 (λ m v d. m :* (v :* d) ≈ m :* v :* d) tt m (2 ^ (k * v)) (2 ^ (k * d)))
 
@@ -70,7 +72,8 @@ widen-two {f} {k} {A} {B} a ok =
 unfoldable pub clipK : ℕ → Kind → Kind
 clipK h A = record { any = A .any; zer = A .zer; lo = A .lo; hi = h; g = A .g; u = A .u; d = A .d }
 
-pub clip-two : {f : Format} {k : ℕ} {A : Kind} {x y : Float} (h : ℕ) (a : Two f k A x y) → a .m ≤ h → a .n ≤ h → Two f k (clipK h A) x y
+pub clip-two : {f : Format} {k : ℕ} {A : Kind} {x y : Float} (h : ℕ) (a : Two f k A x y) → a .m ≤ h → a .n ≤ h
+    → Two f k (clipK h A) x y
 unfolding clipK
 clip-two h a p q = record {
   s = a .s;
@@ -100,7 +103,8 @@ neg-two a = record {
   tie = a .tie;
 }
 
-unfoldable pub sub-two : {f : Format} {k : ℕ} {A B : Kind} {x y x' y' : Float} → Two f k A x y → Two f k B x' y' → T (sumOk f A (negK B))
+unfoldable pub sub-two : {f : Format} {k : ℕ} {A B : Kind} {x y x' y' : Float} → Two f k A x y → Two f k B x' y'
+    → T (sumOk f A (negK B))
     → Two f k (sumK f A (negK B)) (sub f x x') (sub f y y')
 unfolding sub
 sub-two a b ok = sum-two a (neg-two b) ok
@@ -117,7 +121,8 @@ abs-units {x = nan} a = absurd (a .val)
 abs-units {x = inf t} a = absurd (a .val)
 abs-units {f} {x = fin t m e} a = record { fit = abs-fits f t m e (a .fit); val = (refl, a .val .1) }
 
-unfoldable pub abs-two : {f : Format} {k : ℕ} {A : Kind} {x y : Float} → Two f k A x y → Two f k (absK A) (absolute x) (absolute y)
+unfoldable pub abs-two : {f : Format} {k : ℕ} {A : Kind} {x y : Float} → Two f k A x y
+    → Two f k (absK A) (absolute x) (absolute y)
 abs-two a = record {
   s = false;
   m = a .m;
@@ -156,10 +161,12 @@ max-cross p q a b m n P Q e e' =
     ]
   where
     pick : m ≤ n → a ≤ b → max a b * p ≡ max m n * q
-    pick k h = let u : max a b ≡ b = omega arith in let v : n ≡ max m n = omega arith in ap (λ z. z * p) u ∙ e' ∙ ap (λ z. z * q) v
+    pick k h = let u : max a b ≡ b = omega arith in let v : n ≡ max m n = omega arith in ap (λ z. z * p) u ∙ e'
+        ∙ ap (λ z. z * q) v
 
     pick' : n ≤ m → b ≤ a → max a b * p ≡ max m n * q
-    pick' k h = let u : max a b ≡ a = omega arith in let v : m ≡ max m n = omega arith in ap (λ z. z * p) u ∙ e ∙ ap (λ z. z * q) v
+    pick' k h = let u : max a b ≡ a = omega arith in let v : m ≡ max m n = omega arith in ap (λ z. z * p) u ∙ e
+        ∙ ap (λ z. z * q) v
 
 pub max-in : {A B : Kind} {s t : Bool} {i j : ℕ} → In A s i → In B t j → In (maxK A B) false (max i j)
 max-in {A} {B} {i = i} {j} a b =
@@ -194,7 +201,8 @@ max-two {f} {k} {A} {B} {x} {y} {x'} {y'} a b ok =
       grain = max-grain (a .m) (b .m) (a .grain) (b .grain);
       grain-second = max-grain (a .n) (b .n) (a .grain-second) (b .grain-second);
       tie =
-          max-cross (2 ^ (k * A .d)) (2 ^ (k * A .u)) (a .n) (b .n) (a .m) (b .m) (pow-pos (k * A .d)) (pow-pos (k * A .u)) (a .tie)
+          max-cross (2 ^ (k * A .d)) (2 ^ (k * A .u)) (a .n) (b .n) (a .m) (b .m) (pow-pos (k * A .d)) (pow-pos (k * A .u))
+          (a .tie)
           (same-weight a b w);
     }
 

@@ -1,5 +1,5 @@
--- A choice that is the same in both runs keeps the two runs side by side. So do the smaller and the larger of two floats of any signs, which are
--- choices by a comparison.
+-- A choice that is the same in both runs keeps the two runs side by side. So do the smaller and the larger of two floats of any
+-- signs, which are choices by a comparison.
 use mathlib.Core.Path.{_≡_, sym, subst}
 use Prim.Native.Nat.{ℕ}
 use mathlib.Core.Bool.{Bool, true, false, not, cond}
@@ -27,8 +27,10 @@ module _ {f : Format} {k : ℕ} {A : Kind} {x y x' y' : Float} (a : Two f k A x 
 
   pub smaller-two : Two f k A (minimum x y) (minimum x' y')
   unfolding minimum
-  smaller-two = passed (cond (lt y x) y x) (cond (lt y' x') y' x') (choose (Two f k A) (lt y x) (lt y' x') (lt-two b a w) (λ t. b) (λ t. a))
+  smaller-two = passed (cond (lt y x) y x) (cond (lt y' x') y' x')
+      (choose (Two f k A) (lt y x) (lt y' x') (lt-two b a w) (λ t. b) (λ t. a))
 
   pub larger-two : Two f k A (maximum x y) (maximum x' y')
   unfolding maximum
-  larger-two = passed (cond (lt x y) y x) (cond (lt x' y') y' x') (choose (Two f k A) (lt x y) (lt x' y') (lt-two a b w) (λ t. b) (λ t. a))
+  larger-two = passed (cond (lt x y) y x) (cond (lt x' y') y' x')
+      (choose (Two f k A) (lt x y) (lt x' y') (lt-two a b w) (λ t. b) (λ t. a))

@@ -1,5 +1,5 @@
--- From statements about floats alone to their units, and back: a float that fits has units, `le` is the order of units, and to be a multiple
--- by a power of two is said of fractions as of units.
+-- From statements about floats alone to their units, and back: a float that fits has units, `le` is the order of units, and to be
+-- a multiple by a power of two is said of fractions as of units.
 use mathlib.Core.Path.{_≡_, refl, sym, ap, _∙_, subst}
 use mathlib.Core.Logic.{inl, inr}
 use Prim.Native.Nat.{ℕ, zero, suc, _-_, _*_, _%_, _^_, _≤_}
@@ -25,10 +25,13 @@ pub units-of : (f : Format) (x : Float) → T (fits f x) → T (finite x) → (n
 unfolding fits
 units-of f nan h t = absurd t
 units-of f (inf s) h t = absurd t
-units-of f (fin s zero e) h t = (0, record { fit = h; val = (refl, ring 3 (λ u l d. con 0 :* u :* l ≈ con 0 :* d) tt (up e) (2 ^ low f) (down e)) })
-units-of f (fin s (suc m) (pos k)) h t = (suc m * 2 ^ k * 2 ^ low f, record { fit = h; val = (refl, sym (mul-one (suc m * 2 ^ k * 2 ^ low f))) })
+units-of f (fin s zero e) h
+    t = (0, record { fit = h; val = (refl, ring 3 (λ u l d. con 0 :* u :* l ≈ con 0 :* d) tt (up e) (2 ^ low f) (down e)) })
+units-of f (fin s (suc m) (pos k)) h
+    t = (suc m * 2 ^ k * 2 ^ low f, record { fit = h; val = (refl, sym (mul-one (suc m * 2 ^ k * 2 ^ low f))) })
 units-of f (fin s (suc m) (negsuc k)) h t =
-    let o = and₃ (eqb (suc m % 2) 1 && ltb (suc m) (2 ^ prec f)) (leb (2 ^ suc k) (2 ^ low f)) (ltb (suc m * 1) (2 ^ suc (emax f) * 2 ^ suc k)) h in
+    let o = and₃ (eqb (suc m % 2) 1 && ltb (suc m) (2 ^ prec f)) (leb (2 ^ suc k) (2 ^ low f))
+    (ltb (suc m * 1) (2 ^ suc (emax f) * 2 ^ suc k)) h in
     let l : suc k ≤ low f = pow-le (suc k) (low f) (leb→le (2 ^ suc k) (2 ^ low f) (o .1)) in
     let e : 2 ^ (low f - suc k) * 2 ^ suc k ≡ 2 ^ low f =
     sym (pow-add 2 (low f - suc k) (suc k)) ∙ ap (λ (x : ℕ). 2 ^ x) (back (low f) (suc k) l) in (
@@ -37,7 +40,8 @@ units-of f (fin s (suc m) (negsuc k)) h t =
         fit = h;
         val = (
           refl,
-          ring 4 (λ m l p q. (m times l ≼ p :* q) ∷ [] ⊩ m :* con 1 :* l ≈ m :* p :* q) tt (suc m) (2 ^ low f) (2 ^ (low f - suc k)) (2 ^ suc k)
+          ring 4 (λ m l p q. (m times l ≼ p :* q) ∷ [] ⊩ m :* con 1 :* l ≈ m :* p :* q) tt (suc m) (2 ^ low f)
+              (2 ^ (low f - suc k)) (2 ^ suc k)
               (sym e),
         );
       },
@@ -85,7 +89,8 @@ pub units-le : {f : Format} {x y : Float} {m n : ℕ} → Is f x false m → Is 
 unfolding le
 units-le {f} {x} {y} {m} {n} X Y h =
     elim (eq-or-lt-of-le h) [
-      | inl e ↦ or-r (lt x y) (eq x y) (subst T (sym (eq-units X Y)) (and-i (eqb m n) (Bool·beq false false || eqb m 0) (eq→eqb e) tt))
+      | inl e ↦ or-r (lt x y) (eq x y)
+          (subst T (sym (eq-units X Y)) (and-i (eqb m n) (Bool·beq false false || eqb m 0) (eq→eqb e) tt))
       | inr l ↦ or-l (lt x y) (eq x y) (subst T (sym (lt-units X Y)) (lt→ltb m n l))
     ]
 

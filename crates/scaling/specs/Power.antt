@@ -1,9 +1,10 @@
--- The rule of `Two` for the power -3/2 of a float above zero. On units the power is `powerUnits`: it turns the order round, takes 4 ^ j units to
--- 2 ^ (2685 - 3 j), and 4 ^ t goes through it as 8 ^ -t while the result is normal.
+-- The rule of `Two` for the power -3/2 of a float above zero. On units the power is `powerUnits`: it turns the order round, takes
+-- 4 ^ j units to 2 ^ (2685 - 3 j), and 4 ^ t goes through it as 8 ^ -t while the result is normal.
 use mathlib.Core.Path.{_≡_, refl, sym, ap, ap₂, _∙_, subst, subst₂}
 use mathlib.Core.Logic.{inr}
 use Prim.Native.Nat.{ℕ, zero, suc, _+_, _-_, _*_, _/_, _^_, _≤_, _<_, compare, Ordering·eq}
-use native.Mathlib.Nat.{le-refl, le-trans, le-of-eq, lt-of-lt-of-le, lt-of-le-of-lt, lt-irrefl, mul-zero, mul-one, mul-pos, mul-le-mul}
+use native.Mathlib.Nat.{le-refl, le-trans, le-of-eq, lt-of-lt-of-le, lt-of-le-of-lt, lt-irrefl, mul-zero, mul-one, mul-pos}
+use native.Mathlib.Nat.{mul-le-mul}
 use native.Mathlib.Nat.{mul-le-mul-left, eq-of-mul-eq-mul-right}
 use native.Mathlib.Omega.{arith}
 use mathlib.Core.Bool.{Bool, false, not, _&&_}
@@ -43,7 +44,8 @@ pub power-anti : (m n : ℕ) → 0 < m → m ≤ n → powerUnits n ≤ powerUni
 unfolding powerUnits
 power-anti m n M h =
     units-mono (powerOf n (2 ^ 1074)) (powerOf m (2 ^ 1074)) (number-of m M)
-    (λ a. compare-weaker (a * a * cube n) whole (a * a * cube m) whole (mul-le-mul-left (a * a) (mul-le-mul (mul-le-mul h h) h)) (le-refl whole))
+    (λ a. compare-weaker (a * a * cube n) whole (a * a * cube m) whole (mul-le-mul-left (a * a) (mul-le-mul (mul-le-mul h h) h))
+    (le-refl whole))
 
 -- the pattern of 2 ^ (52 + i) units
 abbrev powerOfTwo : ℕ → ℕ
@@ -101,7 +103,8 @@ pub power-scale : (n t j : ℕ) → 0 < n → n * 2 ^ (2 * t) ≤ 2 ^ (2 * j) �
 unfolding powerUnits
 power-scale n t j N h g top =
     sym
-    (units-scale (powerOf (n * 2 ^ (2 * t)) (2 ^ 1074)) (powerOf n (2 ^ 1074)) (number-of (n * 2 ^ (2 * t)) (mul-pos N (pow-pos (2 * t))))
+    (units-scale (powerOf (n * 2 ^ (2 * t)) (2 ^ 1074)) (powerOf n (2 ^ 1074))
+    (number-of (n * 2 ^ (2 * t)) (mul-pos N (pow-pos (2 * t))))
     (number-of n N) (3 * t)
     shift (power-normal (n * 2 ^ (2 * t)) j h g) (power-found n top))
   where
@@ -117,11 +120,14 @@ power-scale n t j N h g top =
         ap (λ (z : ℕ). compare z whole)
         (ring 4 (λ a w n q.
         (a :* a :* n :* n :* n times w :* w ≼ q :* q :* q) ∷ []
-        ⊩ a :* w :* (a :* w) :* (n :* n :* n) ≈ a :* a :* (n :* q :* (n :* q) :* (n :* q))) tt a (2 ^ (3 * t)) n (2 ^ (2 * t)) (six t))
+        ⊩ a :* w :* (a :* w) :* (n :* n :* n) ≈ a :* a :* (n :* q :* (n :* q) :* (n :* q))) tt a (2 ^ (3 * t)) n (2 ^ (2 * t))
+        (six t))
 
 -- ---- the power of a float above zero
-pub power-value : {x : Float} {n : ℕ} → Is binary64 x false n → 0 < n → powerUnits n < 2 ^ 2098 → Is binary64 (power x) false (powerUnits n)
-power-value {x} {n} X N top = let r = form X in subst (λ z. Is binary64 (power z) false (powerUnits n)) (sym (r .is)) (go (r .m) (r .e) (r .units))
+pub power-value : {x : Float} {n : ℕ} → Is binary64 x false n → 0 < n → powerUnits n < 2 ^ 2098
+    → Is binary64 (power x) false (powerUnits n)
+power-value {x} {n} X N top = let r = form X in subst (λ z. Is binary64 (power z) false (powerUnits n)) (sym (r .is))
+    (go (r .m) (r .e) (r .units))
   where
     rounds : (m : ℕ) (e : ℤ) → power (fin false (suc m) e) ≡ rounded (powerOf (suc m * up e) (down e))
     rounds m e = unfold power in refl
@@ -132,7 +138,8 @@ power-value {x} {n} X N top = let r = form X in subst (λ z. Is binary64 (power 
     go : (m : ℕ) (e : ℤ) → m * up e * 2 ^ 1074 ≡ n * down e → Is binary64 (power (fin false m e)) false (powerUnits n)
     go zero e u =
         let z : n ≡ 0 =
-        eq-of-mul-eq-mul-right (down e) (down-pos e) n 0 (sym u ∙ ring 3 (λ u l d. con 0 :* u :* l ≈ con 0 :* d) tt (up e) (2 ^ 1074) (down e)) in
+        eq-of-mul-eq-mul-right (down e) (down-pos e) n 0
+        (sym u ∙ ring 3 (λ u l d. con 0 :* u :* l ≈ con 0 :* d) tt (up e) (2 ^ 1074) (down e)) in
         absurd (lt-irrefl 0 (subst (λ (i : ℕ). 0 < i) z N))
     go (suc m) e u =
         let v = powerOf n (2 ^ 1074) in
@@ -215,7 +222,8 @@ power-in A {m} z l h q r = record {
 no-overflow : (j m : ℕ) → T (powerFits j) → m ≤ 2 ^ (2685 - 3 * j) → m < 2 ^ 2098
 no-overflow j m t h = let g = fits-low j t in lt-of-le-of-lt h (pow-lt (let r : 2685 - 3 * j < 2098 = omega arith in r))
 
-pub power-two : {k : ℕ} {A : Kind} {x y : Float} → Two binary64 k A x y → T (powerOk A) → Two binary64 k (powerK A) (power x) (power y)
+pub power-two : {k : ℕ} {A : Kind} {x y : Float} → Two binary64 k A x y → T (powerOk A)
+    → Two binary64 k (powerK A) (power x) (power y)
 unfolding powerK powerOk
 power-two {k} {A} {x} {y} a ok =
     let f₁ = powerFits (under (A .lo)) in
@@ -246,11 +254,13 @@ power-two {k} {A} {x} {y} a ok =
       in-second = j;
       grain = last-grain i (digits-of p);
       grain-second = last-grain j (digits-of p');
-      tie = tied k (A .u / 2) (a .m) (a .n) (over (A .hi)) M e (four-above (A .hi) (a .n) (a .in-second .to)) (fits-high (over (A .hi)) r) top;
+      tie = tied k (A .u / 2) (a .m) (a .n) (over (A .hi)) M e (four-above (A .hi) (a .n) (a .in-second .to))
+          (fits-high (over (A .hi)) r) top;
     }
   where
     -- the second run's units are 4 ^ t times the first's
-    times-four : (k u d m n : ℕ) → T (eqb u (2 * (u / 2)) && eqb d 0) → n * 2 ^ (k * d) ≡ m * 2 ^ (k * u) → n ≡ m * 2 ^ (2 * (k * (u / 2)))
+    times-four : (k u d m n : ℕ) → T (eqb u (2 * (u / 2)) && eqb d 0) → n * 2 ^ (k * d) ≡ m * 2 ^ (k * u)
+        → n ≡ m * 2 ^ (2 * (k * (u / 2)))
     times-four k u d m n t e =
         let U = eqb→eq u (2 * (u / 2)) (and-l (eqb u (2 * (u / 2))) (eqb d 0) t) in
         let D = eqb→eq d 0 (and-r (eqb u (2 * (u / 2))) (eqb d 0) t) in

@@ -1,9 +1,10 @@
--- The rule of `Two` for the square root. On units the root is `rootUnits`: it keeps the order, takes 4 ^ j units to 2 ^ (537 + j), and 4 ^ t goes
--- through it as 2 ^ t, at a subnormal argument too, for a root is never subnormal.
+-- The rule of `Two` for the square root. On units the root is `rootUnits`: it keeps the order, takes 4 ^ j units to 2 ^ (537 +
+-- j), and 4 ^ t goes through it as 2 ^ t, at a subnormal argument too, for a root is never subnormal.
 use mathlib.Core.Path.{_≡_, refl, sym, ap, ap₂, _∙_, subst, subst₂, fun-ext}
 use mathlib.Core.Logic.{inl, inr}
 use Prim.Native.Nat.{ℕ, zero, suc, _+_, _-_, _*_, _/_, _^_, _≤_, _<_, compare, Ordering·eq}
-use native.Mathlib.Nat.{le-refl, le-trans, le-of-eq, le-of-lt, lt-of-le-of-lt, lt-of-lt-of-le, eq-zero-or-pos, eq-of-mul-eq-mul-right}
+use native.Mathlib.Nat.{le-refl, le-trans, le-of-eq, le-of-lt, lt-of-le-of-lt, lt-of-lt-of-le, eq-zero-or-pos}
+use native.Mathlib.Nat.{eq-of-mul-eq-mul-right}
 use native.Mathlib.Nat.{mul-assoc, mul-pos, mul-le-mul-right, zero-mul, zero-lt-suc}
 use native.Mathlib.Omega.{arith}
 use mathlib.Core.Bool.{Bool, false, not, _&&_}
@@ -57,7 +58,8 @@ unfolding rootUnits
 root-mono m n h =
     units-mono (rootOf m (2 ^ 1074)) (rootOf n (2 ^ 1074)) (number-of n)
     (λ a.
-    compare-weaker (a * a * 2 ^ 1074) (m * (2 ^ 1075 * 2 ^ 1075)) (a * a * 2 ^ 1074) (n * (2 ^ 1075 * 2 ^ 1075)) (le-refl (a * a * 2 ^ 1074))
+    compare-weaker (a * a * 2 ^ 1074) (m * (2 ^ 1075 * 2 ^ 1075)) (a * a * 2 ^ 1074) (n * (2 ^ 1075 * 2 ^ 1075))
+    (le-refl (a * a * 2 ^ 1074))
     (mul-le-mul-right (2 ^ 1075 * 2 ^ 1075) h))
 
 pub root-none : rootUnits 0 ≡ 0
@@ -77,7 +79,8 @@ powerOfTwo j = (485 + j) * 2 ^ 52 + 2 ^ 52
 pub root-at : (j : ℕ) → j ≤ 1049 → rootUnits (2 ^ (2 * j)) ≡ 2 ^ (537 + j)
 unfolding rootUnits
 root-at j h =
-    units-exact (rootOf (2 ^ (2 * j)) (2 ^ 1074)) (number-of (2 ^ (2 * j))) (powerOfTwo j) (let r : powerOfTwo j < infinity = omega arith in r) exact
+    units-exact (rootOf (2 ^ (2 * j)) (2 ^ 1074)) (number-of (2 ^ (2 * j))) (powerOfTwo j)
+    (let r : powerOfTwo j < infinity = omega arith in r) exact
     ∙ worth
   where
     worth : value (powerOfTwo j) ≡ 2 ^ (537 + j)
@@ -86,7 +89,8 @@ root-at j h =
     square : (w : ℕ) → 2 * (2 ^ 537 * w) * (2 * (2 ^ 537 * w)) * 2 ^ 1074 ≡ w * w * (2 ^ 1075 * 2 ^ 1075)
     square =
         ring 1 (λ w.
-        con 2 :* (con (2 ^ 537) :* w) :* (con 2 :* (con (2 ^ 537) :* w)) :* con (2 ^ 1074) ≈ w :* w :* (con (2 ^ 1075) :* con (2 ^ 1075))) tt
+        con 2 :* (con (2 ^ 537) :* w) :* (con 2 :* (con (2 ^ 537) :* w)) :* con
+        (2 ^ 1074) ≈ w :* w :* (con (2 ^ 1075) :* con (2 ^ 1075))) tt
 
     exact : rootOf (2 ^ (2 * j)) (2 ^ 1074) (2 * value (powerOfTwo j)) (2 ^ 1075) ≡ Ordering·eq
     exact =
@@ -103,7 +107,8 @@ root-under n h =
 
 root-found : (n : ℕ) → n ≤ 2 ^ 2098 → found (rootOf n (2 ^ 1074)) < infinity
 unfolding rootUnits unitsOf
-root-found n h = value-below (found (rootOf n (2 ^ 1074))) infinity (lt-of-lt-of-le (root-under n h) (le-of-eq (sym value-infinity)))
+root-found n h = value-below (found (rootOf n (2 ^ 1074))) infinity
+    (lt-of-lt-of-le (root-under n h) (le-of-eq (sym value-infinity)))
 
 pub root-scale : (n t : ℕ) → n * 2 ^ (2 * t) ≤ 2 ^ 2098 → rootUnits (n * 2 ^ (2 * t)) ≡ rootUnits n * 2 ^ t
 unfolding rootUnits
@@ -115,7 +120,8 @@ root-scale n t h =
           ∙ sym (zero-mul (2 ^ t))
           ∙ ap (λ i. i * 2 ^ t) (sym (ap rootUnits z ∙ root-none))
       | inr p ↦
-          units-scale (rootOf n (2 ^ 1074)) (rootOf (n * 2 ^ (2 * t)) (2 ^ 1074)) (number-of n) (number-of (n * 2 ^ (2 * t))) t shift (big p)
+          units-scale (rootOf n (2 ^ 1074)) (rootOf (n * 2 ^ (2 * t)) (2 ^ 1074)) (number-of n)
+          (number-of (n * 2 ^ (2 * t))) t shift (big p)
           (root-found (n * 2 ^ (2 * t)) h)
     ]
   where
@@ -153,7 +159,8 @@ root-value {x} {n} X =
         → Is binary64 (root (fin false m e)) false (rootUnits n)
     go zero e u X' =
         let z : n ≡ 0 =
-        eq-of-mul-eq-mul-right (down e) (down-pos e) n 0 (sym u ∙ ring 3 (λ u l d. con 0 :* u :* l ≈ con 0 :* d) tt (up e) (2 ^ 1074) (down e)) in
+        eq-of-mul-eq-mul-right (down e) (down-pos e) n 0
+        (sym u ∙ ring 3 (λ u l d. con 0 :* u :* l ≈ con 0 :* d) tt (up e) (2 ^ 1074) (down e)) in
         subst₂ (λ x i. Is binary64 x false i) (sym (keeps e)) (z ∙ sym (ap rootUnits z ∙ root-none)) X'
     go (suc m) e u X' =
         let h : n ≤ 2 ^ 2098 = le-of-lt (is-under X') in
@@ -177,7 +184,8 @@ rootK A = record {
 
 -- not negative, and of even weight; the bounds are those of floats
 unfoldable pub rootOk : Kind → Bool
-rootOk A = (not (A .any) && ltb 0 (A .lo) && leb (A .hi) (2 ^ 2098)) && (eqb (A .u) (2 * (A .u / 2)) && eqb (A .d) (2 * (A .d / 2)))
+rootOk A = (not (A .any) && ltb 0 (A .lo) && leb (A .hi) (2 ^ 2098))
+    && (eqb (A .u) (2 * (A .u / 2)) && eqb (A .d) (2 * (A .d / 2)))
 
 pub positive-size : (n : ℕ) → 0 < n → 0 < size n
 positive-size n h = size-above n 0 h
@@ -191,7 +199,8 @@ root-from lo m p l b =
     let J : 2 * j ≤ z - 1 = omega arith in
     let r = le-trans (size-reaches lo (z - 1) i) l in
     let k : z - 1 ≤ 2098 = pow-le (z - 1) 2098 (le-trans r b) in
-    le-trans (le-of-eq (sym (root-at j (let q : j ≤ 1049 = omega arith in q)))) (root-mono (2 ^ (2 * j)) m (le-trans (pow-mono J) r))
+    le-trans (le-of-eq (sym (root-at j (let q : j ≤ 1049 = omega arith in q))))
+    (root-mono (2 ^ (2 * j)) m (le-trans (pow-mono J) r))
 
 root-to : (hi m : ℕ) → m ≤ hi → hi ≤ 2 ^ 2098 → rootUnits m ≤ 2 ^ (537 + (size (hi - 1) + 1) / 2)
 root-to hi m l b =
@@ -230,12 +239,14 @@ root-up m n d c h e =
     let q : 2 * (d + c) ≡ 2 * c + 2 * d = omega arith in
     let s : n ≡ m * 2 ^ (2 * c) =
     eq-of-mul-eq-mul-right (2 ^ (2 * d)) (pow-pos (2 * d)) n (m * 2 ^ (2 * c))
-    (e ∙ ap (λ (z : ℕ). m * 2 ^ z) q ∙ ap (λ (z : ℕ). m * z) (pow-add 2 (2 * c) (2 * d)) ∙ sym (mul-assoc m (2 ^ (2 * c)) (2 ^ (2 * d)))) in
+    (e ∙ ap (λ (z : ℕ). m * 2 ^ z) q ∙ ap (λ (z : ℕ). m * z) (pow-add 2 (2 * c) (2 * d))
+    ∙ sym (mul-assoc m (2 ^ (2 * c)) (2 ^ (2 * d)))) in
     ap (λ (z : ℕ). z * 2 ^ d) (ap rootUnits s ∙ root-scale m c (subst (λ (z : ℕ). z ≤ 2 ^ 2098) s h))
     ∙ mul-assoc (rootUnits m) (2 ^ c) (2 ^ d)
     ∙ ap (λ (z : ℕ). rootUnits m * z) (sym (pow-add 2 c d) ∙ ap (λ (z : ℕ). 2 ^ z) (let r : c + d ≡ d + c = omega arith in r))
 
-root-tie : (m n d u : ℕ) → m ≤ 2 ^ 2098 → n ≤ 2 ^ 2098 → n * 2 ^ (2 * d) ≡ m * 2 ^ (2 * u) → rootUnits n * 2 ^ d ≡ rootUnits m * 2 ^ u
+root-tie : (m n d u : ℕ) → m ≤ 2 ^ 2098 → n ≤ 2 ^ 2098 → n * 2 ^ (2 * d) ≡ m * 2 ^ (2 * u)
+    → rootUnits n * 2 ^ d ≡ rootUnits m * 2 ^ u
 root-tie m n d u M N e =
     elim (lt-or-le u d) [
       | inl l ↦
@@ -275,6 +286,7 @@ root-two {k} {A} {x} {y} a ok =
       grain = last-grain i (digits-of p);
       grain-second = last-grain j (digits-of q);
       tie =
-          root-tie (a .m) (a .n) (k * (A .d / 2)) (k * (A .u / 2)) (le-of-lt (is-under (a .first))) (le-of-lt (is-under (a .second)))
+          root-tie (a .m) (a .n) (k * (A .d / 2)) (k * (A .u / 2)) (le-of-lt (is-under (a .first)))
+          (le-of-lt (is-under (a .second)))
           (ap (λ z. a .n * z) (sym (half k (A .d) D)) ∙ a .tie ∙ ap (λ z. a .m * z) (half k (A .u) U));
     }

@@ -1,6 +1,8 @@
--- What rounding once does to numbers in order and in proportion, told in units of 2 ^ -1074: it keeps the order, leaves an f64 as it is, and a
--- power of two goes through it in the normal range. The root and the power -3/2, which are roundings of cuts, have their laws from here.
-use Prim.Native.Nat.{ℕ, zero, suc, _+_, _-_, _*_, _/_, _%_, _^_, _≤_, _<_, compare, Ordering, Ordering·lt, Ordering·eq, Ordering·gt}
+-- What rounding once does to numbers in order and in proportion, told in units of 2 ^ -1074: it keeps the order, leaves an f64 as
+-- it is, and a power of two goes through it in the normal range. The root and the power -3/2, which are roundings of cuts, have
+-- their laws from here.
+use Prim.Native.Nat.{ℕ, zero, suc, _+_, _-_, _*_, _/_, _%_, _^_, _≤_, _<_, compare, Ordering, Ordering·lt, Ordering·eq}
+use Prim.Native.Nat.{Ordering·gt}
 use mathlib.Core.Path.{_≡_, refl, sym, ap, ap₂, _∙_, subst}
 use mathlib.Core.Bool.{false, not}
 use mathlib.Core.Logic.{inl, inr}
@@ -147,7 +149,8 @@ module _ (v v' : Cut) (num : Number v) (num' : Number v') (t : ℕ)
       let e : suc c ≡ suc b + t * 2 ^ 52 = omega arith in
       let p : c % 2 ≡ b % 2 = omega arith in
       let m : middle c (suc c) ≡ middle b (suc b) * 2 ^ t =
-      ap₂ _+_ (value-shift t b h) (ap value e ∙ value-shift t (suc b) (omega arith)) ∙ sym (add-mul (value b) (value (suc b)) (2 ^ t)) in
+      ap₂ _+_ (value-shift t b h) (ap value e ∙ value-shift t (suc b) (omega arith))
+      ∙ sym (add-mul (value b) (value (suc b)) (2 ^ t)) in
       ap (λ z. nearer (v' z (2 ^ 1075)) c) m
       ∙ ap (λ o. nearer o c) (shift (middle b (suc b)))
       ∙ nearer-parity (v (middle b (suc b)) (2 ^ 1075)) c b p
@@ -218,7 +221,8 @@ module _ (v v' : Cut) (num : Number v) (num' : Number v') (t : ℕ)
   units-scale fit =
       let n = found v in
       let fits : n + t * 2 ^ 52 ≤ infinity =
-      elim (lt-or-le infinity (n + t * 2 ^ 52)) [ inl l ↦ absurd (not-lower v' num' (found v') infinity (found-next v') (top l) fit) | inr l ↦ l ] in
+      elim (lt-or-le infinity (n + t * 2 ^ 52))
+      [ inl l ↦ absurd (not-lower v' num' (found v') infinity (found-next v') (top l) fit) | inr l ↦ l ] in
       let last : T (not (reached v' (suc (n + t * 2 ^ 52)))) =
       not-T (reached v' (suc (n + t * 2 ^ 52)))
       (λ r.

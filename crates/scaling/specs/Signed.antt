@@ -1,4 +1,5 @@
--- The larger of two floats of either sign, and the smaller: each run takes the same one. The part above zero of either is no more than the larger's.
+-- The larger of two floats of either sign, and the smaller: each run takes the same one. The part above zero of either is no more
+-- than the larger's.
 use mathlib.Core.Path.{_≡_, sym, ap, _∙_, subst, subst₂}
 use Prim.Native.Nat.{ℕ, _+_, _≤_, zero-le}
 use native.Mathlib.Nat.{le-refl, le-of-lt}
@@ -60,7 +61,8 @@ module _ {f : Format} {k : ℕ} {A : Kind} {x y x' y' : Float} (a : Two f k A x 
 
   pub larger-two : Larger (maximum x x') (maximum y y')
   larger-two =
-      subst₂ Larger (sym (opened x x' (a .first))) (sym (opened y y' (a .second) ∙ ap (λ (t : Bool). cond t y' y) (sym (lt-two a b w))))
+      subst₂ Larger (sym (opened x x' (a .first)))
+      (sym (opened y y' (a .second) ∙ ap (λ (t : Bool). cond t y' y) (sym (lt-two a b w))))
       (taken (lt x x') (λ h. h) (λ h. h))
     where
       opened : (u v : Float) {s : Bool} {n : ℕ} → Is f u s n → maximum u v ≡ cond (lt u v) v u

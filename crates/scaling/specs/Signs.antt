@@ -1,5 +1,5 @@
--- A float's sign, by the test against zero: it says the same in both runs, and what it says of the sign becomes part of the kind. A float that
--- is finite is no NaN and no infinity either, which an entry's first checks ask.
+-- A float's sign, by the test against zero: it says the same in both runs, and what it says of the sign becomes part of the kind.
+-- A float that is finite is no NaN and no infinity either, which an entry's first checks ask.
 use mathlib.Core.Path.{_≡_, refl, sym, ap, _∙_, subst}
 use Prim.Native.Nat.{ℕ, _+_, _*_, _^_, _<_}
 use native.Mathlib.Nat.{zero-mul}
@@ -53,7 +53,8 @@ module _ {f : Format} {k : ℕ} {A : Kind} {x y : Float} (a : Two f k A x y) whe
 abbrev pub aboveK : Kind → Kind
 aboveK A = record { any = false; zer = false; lo = A .lo; hi = A .hi; g = A .g; u = A .u; d = A .d }
 
-pub above-two : {f : Format} {k : ℕ} {A : Kind} {x y : Float} → Two f k A x y → T (not (lt x zero)) → T (not (eq x zero)) → Two f k (aboveK A) x y
+pub above-two : {f : Format} {k : ℕ} {A : Kind} {x y : Float} → Two f k A x y → T (not (lt x zero)) → T (not (eq x zero))
+    → Two f k (aboveK A) x y
 unfolding solid-two
 above-two a t e = plus-sign-two (solid-two a e) (plus a t e)
 

@@ -1,4 +1,5 @@
--- A float that is the same in both runs: its kind's bounds hold in any two runs, with no weight; and with any weight where k is nothing.
+-- A float that is the same in both runs: its kind's bounds hold in any two runs, with no weight; and with any weight where k is
+-- nothing.
 use mathlib.Core.Path.{_≡_, refl, sym, ap, _∙_, subst}
 use native.Mathlib.Nat.{zero-mul}
 use Prim.Native.Nat.{ℕ, _*_, _^_}
@@ -44,7 +45,8 @@ still-two u d a = record {
     same u d = ap (λ z. a .m * 2 ^ z) (zero-mul d ∙ sym (zero-mul u))
 
 -- with bounds found elsewhere
-pub recast-two : {f : Format} {k : ℕ} {A : Kind} {x x' : Float} (K : Kind) (a : Two f k A x x') → K .u ≡ 0 → K .d ≡ 0 → K .g ≡ last f (K .lo)
+pub recast-two : {f : Format} {k : ℕ} {A : Kind} {x x' : Float} (K : Kind) (a : Two f k A x x') → K .u ≡ 0 → K .d ≡ 0
+    → K .g ≡ last f (K .lo)
     → In K (a .s) (a .m) → Two f k K x x
 recast-two {f} {k} K a u d g i =
     let M = subst (λ z. Multiple z (a .m)) (sym g) (last-grain i (digits-of (a .first))) in

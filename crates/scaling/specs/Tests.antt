@@ -1,4 +1,5 @@
--- Comparisons of two floats of one weight, and a test for zero, say the same in both runs. A float whose weight is nothing is the same float in both.
+-- Comparisons of two floats of one weight, and a test for zero, say the same in both runs. A float whose weight is nothing is the
+-- same float in both.
 use mathlib.Core.Path.{_≡_, refl, sym, ap, ap₂, _∙_, subst}
 use mathlib.Core.Logic.{inl, inr}
 use Prim.Native.Nat.{ℕ, _*_, _^_}
@@ -22,11 +23,13 @@ plain-zero : zero ≡ fin false 0 (pos 0)
 unfolding ofBits
 plain-zero = refl
 
-module _ {f : Format} {k : ℕ} {A B : Kind} {x y x' y' : Float} (a : Two f k A x y) (b : Two f k B x' y') (w : T (level? A B)) where
+module _ {f : Format} {k : ℕ} {A B : Kind} {x y x' y' : Float} (a : Two f k A x y) (b : Two f k B x' y')
+    (w : T (level? A B)) where
   pub eq-two : eq x x' ≡ eq y y'
   eq-two =
       eq-units (a .first) (b .first)
-      ∙ sym (level-cross (2 ^ (k * A .d)) (2 ^ (k * A .u)) (a .n) (b .n) (a .m) (b .m) (pow-pos (k * A .d)) (pow-pos (k * A .u)) (a .tie)
+      ∙ sym (level-cross (2 ^ (k * A .d)) (2 ^ (k * A .u)) (a .n) (b .n) (a .m) (b .m) (pow-pos (k * A .d)) (pow-pos (k * A .u))
+      (a .tie)
       (same-weight a b w) (a .s) (b .s))
       ∙ sym (eq-units (a .second) (b .second))
 
@@ -103,4 +106,5 @@ module _ {f : Format} {k : ℕ} {A : Kind} {x y : Float} (a : Two f k A x y) whe
   pub same-float : A .u ≡ A .d → x ≡ y
   same-float e =
       unique (a .first) (subst (Is f y (a .s))
-      (eq-of-mul-eq-mul-right (2 ^ (k * A .d)) (pow-pos (k * A .d)) (a .n) (a .m) (a .tie ∙ ap (λ z. a .m * 2 ^ (k * z)) e)) (a .second))
+      (eq-of-mul-eq-mul-right (2 ^ (k * A .d)) (pow-pos (k * A .d)) (a .n) (a .m) (a .tie ∙ ap (λ z. a .m * 2 ^ (k * z)) e))
+      (a .second))

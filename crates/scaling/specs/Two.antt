@@ -1,6 +1,6 @@
--- Two runs of one computation, the second with its arguments multiplied by powers of two. `Two f k K x y`: x of the first run and y of the
--- second are floats of the kind K, of one sign, and y is x times 2 ^ (k * K .u) / 2 ^ (k * K .d), exactly. Each operation keeps this: the rules
--- below, one for each, ask for a test that computes.
+-- Two runs of one computation, the second with its arguments multiplied by powers of two. `Two f k K x y`: x of the first run and
+-- y of the second are floats of the kind K, of one sign, and y is x times 2 ^ (k * K .u) / 2 ^ (k * K .d), exactly. Each
+-- operation keeps this: the rules below, one for each, ask for a test that computes.
 use mathlib.Core.Path.{_≡_, refl, sym, ap, _∙_, subst}
 use mathlib.Core.Logic.{_⊎_, inl, inr}
 use Prim.Native.Nat.{ℕ, _+_, _-_, _*_, _^_, _<_, min}
@@ -16,7 +16,8 @@ use Rattle.algebra.specs.Ring.{_:*_, _≈_, _⊩_, _times_≼_, ring}
 use Rattle.scaling.specs.Near.{near, near-whole}
 use Rattle.scaling.specs.Cross.{addN, addS, addN-cross, addS-cross, below-cross}
 use Rattle.scaling.specs.Units.{Is, mul-units, div-units, add-units, lt-units}
-use Rattle.scaling.specs.Kind.{Kind, In, floor, near-tie, and₃, or-cases, level?, mulK, mulOk, divK, divOk, plusK, plusOk, sumK}
+use Rattle.scaling.specs.Kind.{Kind, In, floor, near-tie, and₃, or-cases, level?, mulK, mulOk, divK, divOk, plusK, plusOk}
+use Rattle.scaling.specs.Kind.{sumK}
 use Rattle.scaling.specs.Kind.{sumOk, nudgeK, nudgeOk, last}
 use Rattle.scaling.specs.Last.{Digits, digits-of, Multiple, coarser, last-grain, sum-grain}
 use Rattle.scaling.specs.Within.{mul-in, mul-norm, div-in, div-norm, divisor, plus-in, sum-in, nudge-in, least-l, least-r}
@@ -75,9 +76,11 @@ mul-two {f} {k} {A} {B} a b ok =
       grain-second = last-grain j (digits-of y);
       tie =
           near-tie f (a .m * b .m) D (a .n * b .n) D (k * (A .u + B .u)) (k * (A .d + B .d)) D-pos D-pos
-          (ap (λ z. a .n * b .n * z * D) (twice k (A .d) (B .d)) ∙ products (a .n) (a .m) (b .n) (b .m) _ _ _ _ D (a .tie) (b .tie)
+          (ap (λ z. a .n * b .n * z * D) (twice k (A .d) (B .d))
+          ∙ products (a .n) (a .m) (b .n) (b .m) _ _ _ _ D (a .tie) (b .tie)
           ∙ ap (λ z. a .m * b .m * z * D) (sym (twice k (A .u) (B .u))))
-          (powers k (A .u + B .u) (A .d + B .d) normal (λ h. (mul-norm f (a .in-first) (b .in-first) h, mul-norm f (a .in-second) (b .in-second) h))
+          (powers k (A .u + B .u) (A .d + B .d) normal
+          (λ h. (mul-norm f (a .in-first) (b .in-first) h, mul-norm f (a .in-second) (b .in-second) h))
           (and-r (ltb (mulK f A B .hi) (overflow f)) _ ok));
     }
 
@@ -113,9 +116,11 @@ div-two {f} {k} {A} {B} a b ok =
       grain-second = last-grain j (digits-of y);
       tie =
           near-tie f (a .m * l) (b .m) (a .n * l) (b .n) (k * (A .u + B .d)) (k * (A .d + B .u)) M N
-          (ap (λ z. a .n * l * z * b .m) (twice k (A .d) (B .u)) ∙ quotients (a .n) (a .m) (b .n) (b .m) _ _ _ _ l (a .tie) (b .tie)
+          (ap (λ z. a .n * l * z * b .m) (twice k (A .d) (B .u))
+          ∙ quotients (a .n) (a .m) (b .n) (b .m) _ _ _ _ l (a .tie) (b .tie)
           ∙ ap (λ z. a .m * l * z * b .n) (sym (twice k (A .u) (B .d))))
-          (powers k (A .u + B .d) (A .d + B .u) normal (λ h. (div-norm f (a .in-first) (b .in-first) h, div-norm f (a .in-second) (b .in-second) h))
+          (powers k (A .u + B .d) (A .d + B .u) normal
+          (λ h. (div-norm f (a .in-first) (b .in-first) h, div-norm f (a .in-second) (b .in-second) h))
           (o .2));
     }
 
@@ -128,7 +133,8 @@ module _ {f : Format} {k : ℕ} {A B : Kind} {x₀ y₀ x' y' : Float} (a : Two 
       ap (λ z. b .n * 2 ^ (k * z)) e' ∙ b .tie ∙ ap (λ z. b .m * 2 ^ (k * z)) (sym e)
 
   -- its grain: the last place of its bound, or what divides both
-  pub grained : (K : Kind) (s t r : Bool) (m n : ℕ) → In K r (near f (addN s m t n) 1) → Digits f (near f (addN s m t n) 1) → Multiple (A .g) m
+  pub grained : (K : Kind) (s t r : Bool) (m n : ℕ) → In K r (near f (addN s m t n) 1) → Digits f (near f (addN s m t n) 1)
+      → Multiple (A .g) m
       → Multiple (B .g) n
       → (K .g ≡ last f (K .lo)) ⊎ (K .g ≡ min (A .g) (B .g)) → Multiple (K .g) (near f (addN s m t n) 1)
   grained K s t r m n i D M N (inl e) = subst (λ z. Multiple z (near f (addN s m t n) 1)) (sym e) (last-grain i D)
@@ -145,8 +151,10 @@ module _ {f : Format} {k : ℕ} {A B : Kind} {x₀ y₀ x' y' : Float} (a : Two 
   summed K U D w small i j G =
       let p = 2 ^ (k * A .d) in
       let q = 2 ^ (k * A .u) in
-      let S = addS-cross p q (a .n) (b .n) (a .m) (b .m) (pow-pos (k * A .d)) (pow-pos (k * A .u)) (a .tie) (same-weight w) (a .s) (b .s) in
-      let N = addN-cross p q (a .n) (b .n) (a .m) (b .m) (pow-pos (k * A .d)) (pow-pos (k * A .u)) (a .tie) (same-weight w) (a .s) (b .s) in
+      let S = addS-cross p q (a .n) (b .n) (a .m) (b .m) (pow-pos (k * A .d)) (pow-pos (k * A .u)) (a .tie) (same-weight w) (a .s)
+      (b .s) in
+      let N = addN-cross p q (a .n) (b .n) (a .m) (b .m) (pow-pos (k * A .d)) (pow-pos (k * A .u)) (a .tie) (same-weight w) (a .s)
+      (b .s) in
       let x = add-units (a .first) (b .first) (under f i small) in
       let y = add-units (a .second) (b .second) (under f j small) in
       record {
@@ -171,13 +179,15 @@ module _ {f : Format} {k : ℕ} {A B : Kind} {x₀ y₀ x' y' : Float} (a : Two 
   unfolding plusK plusOk
   plus-two ok =
       let o = and₃ (level? A B) (ltb (plusK f A B .hi) (overflow f)) (not (A .any || B .any)) ok in
-      summed (plusK f A B) refl refl (o .0) (o .1) (plus-in f (a .in-first) (b .in-first) ok) (plus-in f (a .in-second) (b .in-second) ok) (inl refl)
+      summed (plusK f A B) refl refl (o .0) (o .1) (plus-in f (a .in-first) (b .in-first) ok)
+      (plus-in f (a .in-second) (b .in-second) ok) (inl refl)
 
   unfoldable pub nudge-two : T (nudgeOk f A B) → Two f k (nudgeK f A B) (add f x₀ x') (add f y₀ y')
   unfolding nudgeK nudgeOk
   nudge-two ok =
       let o = and₃ (level? A B) (ltb (nudgeK f A B .hi) (overflow f)) (not (A .any) && ltb (B .hi) (floor A)) ok in
-      summed (nudgeK f A B) refl refl (o .0) (o .1) (nudge-in f (a .in-first) (b .in-first) ok) (nudge-in f (a .in-second) (b .in-second) ok)
+      summed (nudgeK f A B) refl refl (o .0) (o .1) (nudge-in f (a .in-first) (b .in-first) ok)
+      (nudge-in f (a .in-second) (b .in-second) ok)
       (inl refl)
 
   unfoldable pub sum-two : T (sumOk f A B) → Two f k (sumK f A B) (add f x₀ x') (add f y₀ y')
@@ -185,13 +195,15 @@ module _ {f : Format} {k : ℕ} {A B : Kind} {x₀ y₀ x' y' : Float} (a : Two 
   sum-two ok =
       summed (sumK f A B) refl refl (and-l (level? A B) (ltb (sumK f A B .hi) (overflow f)) ok)
       (and-r (level? A B) (ltb (sumK f A B .hi) (overflow f)) ok)
-      (sum-in f (a .in-first) (b .in-first) (a .grain) (b .grain)) (sum-in f (a .in-second) (b .in-second) (a .grain-second) (b .grain-second))
+      (sum-in f (a .in-first) (b .in-first) (a .grain) (b .grain))
+      (sum-in f (a .in-second) (b .in-second) (a .grain-second) (b .grain-second))
       (inr refl)
 
   -- ---- a comparison says the same in both runs
   pub lt-two : T (level? A B) → lt x₀ x' ≡ lt y₀ y'
   lt-two w =
       lt-units (a .first) (b .first)
-      ∙ sym (below-cross (2 ^ (k * A .d)) (2 ^ (k * A .u)) (a .n) (b .n) (a .m) (b .m) (pow-pos (k * A .d)) (pow-pos (k * A .u)) (a .tie)
+      ∙ sym (below-cross (2 ^ (k * A .d)) (2 ^ (k * A .u)) (a .n) (b .n) (a .m) (b .m) (pow-pos (k * A .d)) (pow-pos (k * A .u))
+      (a .tie)
       (same-weight w) (a .s) (b .s))
       ∙ sym (lt-units (a .second) (b .second))

@@ -8,7 +8,8 @@ use mathlib.Core.List.{[], _∷_}
 use lib.IntN.{ℤ}
 use lib.Dec.{T, not-T, ltb, eqb, eqb→eq}
 use lib.Pow.{pow-pos}
-use lib.Ieee.{Float, nan, inf, fin, Format, prec, low, up, down, unlike, size, units, round, neg, sum, add, mul, div, below, level, lt, eq}
+use lib.Ieee.{Float, nan, inf, fin, Format, prec, low, up, down, unlike, size, units, round, neg, sum, add, mul, div, below}
+use lib.Ieee.{level, lt, eq}
 use lib.Ieee.{fits, top, hid, ofBits, toBits}
 use lib.Ieee.Fits.{down-pos, round-fits, round-is, neg-fits}
 use lib.Ieee.Bits.{ofBits-toBits, cond-no}

@@ -13,7 +13,8 @@ use lib.Ieee.Fits.{and-l, and-r}
 use lib.Ieee.Scale.{overflow}
 use Rattle.scaling.specs.Near.{near, near-mono, near-zero}
 use Rattle.scaling.specs.Cross.{addN, addS}
-use Rattle.scaling.specs.Kind.{Kind, In, floor, floor-le, Norm, and₃, level?, solid, or-l, or-r, nor-l, nor-r, near-le, mulK, divK}
+use Rattle.scaling.specs.Kind.{Kind, In, floor, floor-le, Norm, and₃, level?, solid, or-l, or-r, nor-l, nor-r, near-le}
+use Rattle.scaling.specs.Kind.{mulK, divK}
 use Rattle.scaling.specs.Kind.{divOk, plusK, plusOk, sumK, nudgeK, nudgeOk}
 use Rattle.scaling.specs.Last.{Multiple, coarser, sum-from}
 
@@ -50,7 +51,8 @@ module _ (f : Format) {A B : Kind} {s t : Bool} {m n : ℕ} (a : In A s m) (b : 
   }
 
   pub mul-norm : T (leb (2 ^ (prec f - 1) * 2 ^ low f) (A .lo * B .lo)) → Norm f (m * n) (2 ^ low f)
-  mul-norm h = elim product [ inl x ↦ inl (x .1) | inr l ↦ inr (le-trans (leb→le (2 ^ (prec f - 1) * 2 ^ low f) (A .lo * B .lo) h) l) ]
+  mul-norm h = elim product
+      [ inl x ↦ inl (x .1) | inr l ↦ inr (le-trans (leb→le (2 ^ (prec f - 1) * 2 ^ low f) (A .lo * B .lo) h) l) ]
 
   -- ---- the quotient
   pub divisor : T (divOk f A B) → (0 < B .lo) × (B .lo ≤ n)
@@ -66,7 +68,11 @@ module _ (f : Format) {A B : Kind} {s t : Bool} {m n : ℕ} (a : In A s m) (b : 
         sign = unlike-sign;
         from =
             elim (a .from) [
-              | inl x ↦ inl (x .0, ap (λ z. near f z n) (ap (λ z. z * 2 ^ low f) (x .1) ∙ zero-mul (2 ^ low f)) ∙ near-zero f n n-pos)
+              | inl x ↦ inl (
+                x .0,
+                ap (λ z. near f z n) (ap (λ z. z * 2 ^ low f) (x .1) ∙ zero-mul (2 ^ low f))
+                    ∙ near-zero f n n-pos,
+              )
               | inr h ↦
                   inr (near-mono f (A .lo * 2 ^ low f) (B .hi) (m * 2 ^ low f) n (lt-of-lt-of-le n-pos (b .to)) n-pos
                   (mul-le-mul (mul-le-mul-right (2 ^ low f) h) (b .to)))

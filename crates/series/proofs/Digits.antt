@@ -1,4 +1,5 @@
--- A digit of 31 bits of the quotient p / d, by one more than the upper part of d; and two digits are the quotient. Assumes nothing.
+-- A digit of 31 bits of the quotient p / d, by one more than the upper part of d; and two digits are the quotient. Assumes
+-- nothing.
 use Prim.Native.Nat.{ℕ, _+_, _-_, _*_, _/_, _%_, _^_, _≤_, _<_}
 use mathlib.Core.Path.{_≡_, sym, ap, _∙_}
 use mathlib.Core.List.{[], _∷_}
@@ -11,7 +12,8 @@ use Rattle.series.specs.Quotient.{Divided, Nearer}
 -- (u is the upper part and one more, g what was put on top of d)
 estimate : (q u x d g : ℕ) → d + g ≡ u * 2 ^ 31 → q * d + (x * 2 ^ 31 + q * g) ≡ (q * u + x) * 2 ^ 31
 estimate =
-    ring 5 (λ q u x d g. (q times d :+ g ≼ u :* con (2 ^ 31)) ∷ [] ⊩ q :* d :+ (x :* con (2 ^ 31) :+ q :* g) ≈ (q :* u :+ x) :* con (2 ^ 31)) tt
+    ring 5 (λ q u x d g. (q times d :+ g ≼ u :* con (2 ^ 31))
+    ∷ [] ⊩ q :* d :+ (x :* con (2 ^ 31) :+ q :* g) ≈ (q :* u :+ x) :* con (2 ^ 31)) tt
 
 module _ (p d : ℕ) (ranges : (p ≤ d) × (2 ^ 61 ≤ d) × (d < 2 ^ 63)) where
   abbrev u : ℕ
@@ -61,9 +63,11 @@ digit-most p d n k small h =
 
 joined : (p d q r q' r' : ℕ) → q * d + r ≡ p * 2 ^ 31 → q' * d + r' ≡ r * 2 ^ 31 → (q * 2 ^ 31 + q') * d + r' ≡ p * 2 ^ 62
 joined =
-    ring 6 (λ p d q r q' r'. (con (2 ^ 31) times q :* d :+ r ≼ p :* con (2 ^ 31)) ∷ (con 1 times q' :* d :+ r' ≼ r :* con (2 ^ 31)) ∷ []
+    ring 6 (λ p d q r q' r'. (con (2 ^ 31) times q :* d :+ r ≼ p :* con (2 ^ 31))
+    ∷ (con 1 times q' :* d :+ r' ≼ r :* con (2 ^ 31)) ∷ []
     ⊩ (q :* con (2 ^ 31) :+ q') :* d :+ r' ≈ p :* con (2 ^ 62)) tt
 
-pub two-digits : (p d n k n' k' : ℕ) → Divided (p * 2 ^ 31) d n k → Divided (k * 2 ^ 31) d n' k' → n * 2 ^ 31 + n' ≡ p * 2 ^ 62 / d
+pub two-digits : (p d n k n' k' : ℕ) → Divided (p * 2 ^ 31) d n k → Divided (k * 2 ^ 31) d n' k'
+    → n * 2 ^ 31 + n' ≡ p * 2 ^ 62 / d
 two-digits p d n k n' k' one two =
     sym (digits-div (n * 2 ^ 31 + n') (two .small)) ∙ ap (λ (z : ℕ). z / d) (joined p d n k n' k' (one .whole) (two .whole))

@@ -31,7 +31,8 @@ square-small j tau h =
 pub seed-square-is : (j sg : ℕ) → 4 * sg * (4 * sg) / 2 ^ 64 / 2 ^ j / 2 ^ j ≡ seed-square j sg
 seed-square-is j sg =
     let e : 60 + j + j ≡ 60 + 2 * j = omega arith in
-    ap (λ (n : ℕ). n / 2 ^ j / 2 ^ j) (div-same (4 * sg * (4 * sg)) (2 ^ 64) (sg * sg) (2 ^ 60) (pow-pos 64) (pow-pos 60) (fourfold sg))
+    ap (λ (n : ℕ). n / 2 ^ j / 2 ^ j)
+    (div-same (4 * sg * (4 * sg)) (2 ^ 64) (sg * sg) (2 ^ 60) (pow-pos 64) (pow-pos 60) (fourfold sg))
     ∙ ap (λ (n : ℕ). n / 2 ^ j) (shifted (sg * sg) 60 j)
     ∙ shifted (sg * sg) (60 + j) j
     ∙ ap (λ (k : ℕ). sg * sg / 2 ^ k) e

@@ -1,4 +1,5 @@
--- ln_1p of an f64 from -3/4 to 3/4: the whole-number rule's answer, rounded once (document 01, "What the leaves mean"). Definitions only.
+-- ln_1p of an f64 from -3/4 to 3/4: the whole-number rule's answer, rounded once (document 01, "What the leaves mean").
+-- Definitions only.
 use Prim.Native.Nat.{ℕ, _+_, _-_, _^_}
 use mathlib.Core.Bool.{Bool, cond}
 use lib.Dec.{ltb, leb}
@@ -20,7 +21,8 @@ seed s j m = cond s (loss-seed j m) (gain-seed j m)
 abbrev pub ln-1p-of : Bool → ℕ → Float
 ln-1p-of s a = let j = 1022 - field a in round binary64 s (T-answer j (seed s j (digits a))) (2 ^ (61 + j))
 
--- x has the sign s, and its size the pattern a. Small numbers, zeros among them, are their own ln_1p; past 3/4 there is no answer.
+-- x has the sign s, and its size the pattern a. Small numbers, zeros among them, are their own ln_1p; past 3/4 there is no
+-- answer.
 abbrev pub ln-1p-at : Float → Bool → ℕ → Float
 ln-1p-at x s a = cond (ltb a tiny) x (cond (leb a last) (ln-1p-of s a) nan)
 

@@ -69,14 +69,16 @@ unfolding addedTo
 more-twice (Total t) a b = added-twice t a b
 more-twice (Refused n) a b = refl
 
-log-more : (rs : List ℕ) (l : Log) → l .begun ≡ true → addedTo (l .sum) 0 ≡ l .sum → logAll l rs .sum ≡ addedTo (l .sum) (advancesFrom (l .last) rs)
+log-more : (rs : List ℕ) (l : Log) → l .begun ≡ true → addedTo (l .sum) 0 ≡ l .sum
+    → logAll l rs .sum ≡ addedTo (l .sum) (advancesFrom (l .last) rs)
 unfolding logAll advancesFrom logAfter
 log-more [] l e h = sym h
 log-more (r ∷ rs) l e h =
     let a = advanceOf (l .last) r in
     let n : Log = record { sum = addedTo (l .sum) a; begun = true; last = r } in
     let is : logAfter l r ≡ n = rw e in
-    let kept : addedTo (addedTo (l .sum) a) 0 ≡ addedTo (l .sum) a = more-twice (l .sum) a 0 ∙ ap (λ (k : ℕ). addedTo (l .sum) k) (add-zero a) in
+    let kept : addedTo (addedTo (l .sum) a) 0 ≡ addedTo (l .sum) a = more-twice (l .sum) a 0
+    ∙ ap (λ (k : ℕ). addedTo (l .sum) k) (add-zero a) in
     ap (λ (k : Log). logAll k rs .sum) is ∙ log-more rs n refl kept ∙ more-twice (l .sum) a (advancesFrom r rs)
 
 none : (total : ℕ) → total < 2 ^ 64 → added total 0 ≡ Total total
@@ -89,7 +91,8 @@ log-steps [] total h = sym (none total h)
 log-steps (r ∷ rs) total h = log-more rs (record { sum = Total total; begun = true; last = r }) refl (none total h)
 
 -- what is left of a loop over the readings
-pub log-next : (l : List ℕ) (log : Log) (i : ℕ) → i < length l → logAll log (drop i l) ≡ logAll (logAfter log (getD l i 0)) (drop (i + 1) l)
+pub log-next : (l : List ℕ) (log : Log) (i : ℕ) → i < length l
+    → logAll log (drop i l) ≡ logAll (logAfter log (getD l i 0)) (drop (i + 1) l)
 unfolding logAll
 log-next l log i h = rw (drop-cons l i 0 h, add-one)
 

@@ -43,7 +43,8 @@ unfoldable pub logFrom : ℕ → Log
 logFrom total = record { sum = Total total; begun = false; last = 0 }
 
 unfoldable pub logAfter : Log → ℕ → Log
-logAfter l reading = record { sum = cond (l .begun) (addedTo (l .sum) (advanceOf (l .last) reading)) (l .sum); begun = true; last = reading }
+logAfter l reading = record
+    { sum = cond (l .begun) (addedTo (l .sum) (advanceOf (l .last) reading)) (l .sum); begun = true; last = reading }
 
 unfoldable pub logAll : Log → List ℕ → Log
 logAll l [] = l

@@ -3,7 +3,8 @@ use Prim.Native.Nat.{ℕ, zero-le, _*_, _^_, _<_, compare}
 use mathlib.Core.Path.{_≡_, refl, sym, ap, ap₂, _∙_, subst}
 use mathlib.Core.Bool.{Bool, true, false, _&&_, true≢false}
 use mathlib.Core.List.{[], _∷_}
-use native.Mathlib.Nat.{lt-irrefl, le-of-eq, lt-of-le-of-lt, lt-of-lt-of-le, zero-lt-suc, mul-pos, mul-lt-mul-of-pos-right, lt-of-mul-lt-mul-right}
+use native.Mathlib.Nat.{lt-irrefl, le-of-eq, lt-of-le-of-lt, lt-of-lt-of-le, zero-lt-suc, mul-pos, mul-lt-mul-of-pos-right}
+use native.Mathlib.Nat.{lt-of-mul-lt-mul-right}
 use borrow.Author.Tests.{lt-ltb, le-ltb, ne-eqb}
 use lib.Dec.{isEq, eqb, ltb, lit<}
 use lib.Pow.{pow-pos}

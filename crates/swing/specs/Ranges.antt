@@ -19,4 +19,5 @@ in-within n most e =
 
 pub within-from : (n most : ℕ) → From1 n most → within n most ≡ true
 unfolding within
-within-from n most r = is-true (leb 1 n && leb n most) (and-i (leb 1 n) (leb n most) (le→leb 1 n (r .least)) (le→leb n most (r .largest)))
+within-from n most r = is-true (leb 1 n && leb n most)
+    (and-i (leb 1 n) (leb n most) (le→leb 1 n (r .least)) (le→leb n most (r .largest)))

@@ -13,7 +13,8 @@ use lib.Ieee.Fits.{and-r}
 use Rattle.algebra.specs.Order.{lt-or-le}
 use Rattle.digits.specs.Digits.{glyphOf, digits}
 use Rattle.writing.specs.Decimal.{placesOf, decimal}
-use Rattle.swing_read.specs.Reading.{startOf, spoiltOf, blankAfter, roomFor, digitAfter, byteAfter, bytesAfter, lineOf, readLine}
+use Rattle.swing_read.specs.Reading.{startOf, spoiltOf, blankAfter, roomFor, digitAfter, byteAfter, bytesAfter, lineOf}
+use Rattle.swing_read.specs.Reading.{readLine}
 use Rattle.swing_read.specs.declared.Reading.{Reading}
 use Rattle.swing_read.specs.declared.Line.the-variants.{One, Three, Bad}
 

@@ -49,7 +49,8 @@ sum-there ws ys b h e =
     put-all ws ys (omega arith) ∙ ap (λ (z : List ℕ). take 30 ws ++ z)
     (e ∙ ap (λ (z : List ℕ). valueAdded z b) (mid-all ws))
 
-pub sums-there : (ws os ys : List ℕ) → length ws ≡ 64 → ys ≡ sumsJoined (midOf 30 (length ws - 30) ws) (midOf 30 (length os - 30) os)
+pub sums-there : (ws os ys : List ℕ) → length ws ≡ 64
+    → ys ≡ sumsJoined (midOf 30 (length ws - 30) ws) (midOf 30 (length os - 30) os)
     → putMid 30 (length ws - 30) ws ys ≡ sumsOf ws os
 unfolding sumsOf
 sums-there ws os ys h e =
@@ -90,7 +91,8 @@ joined-all i ws os h k = let f : 30 - i ≡ 0 = omega arith in rw f
 pub slots-length : (left i : ℕ) (ws os : List ℕ) → length (slotsJoined i left ws os) ≡ length ws
 unfolding slotsJoined
 slots-length zero i ws os = refl
-slots-length (suc left) i ws os = slots-length left (suc i) (set ws i (wordJoined i (getD ws i 0) (getD os i 0))) os ∙ simp length-set
+slots-length (suc left) i ws os = slots-length left (suc i) (set ws i (wordJoined i (getD ws i 0) (getD os i 0))) os
+    ∙ simp length-set
 
 -- ---- the word of both
 pub most-second : (i v w : ℕ) → i ≡ 29 → v < w → w ≡ wordJoined i v w

@@ -8,8 +8,8 @@ use Rattle.exact.specs.Exact.{heldSum, finitePattern, sumWords}
 use Rattle.tally.specs.Tally.{lastNumber, roundsPlace, sumPlace, larger}
 use Rattle.tally.specs.declared.counted.Counted.{Counted}
 
--- ---- "for each function, the calls, each refusal number's tally, rounds in all, the most rounds in one call, and the exact sum of
--- the values"
+-- ---- "for each function, the calls, each refusal number's tally, rounds in all, the most rounds in one call, and the exact sum
+-- of the values"
 unfoldable pub callsOf : List Counted → ℕ
 callsOf [] = 0
 callsOf (c ∷ cs) = 1 + callsOf cs

@@ -16,8 +16,8 @@ unfoldable pub countedOf : Answer → Counted
 countedOf (Value f) = record { refused = 0; rounds = f .way .rounds; bits = toBits binary64 (f .value) }
 countedOf (Refused n) = record { refused = n; rounds = 0; bits = infinity }
 
--- ---- the words: the calls, "each refusal number's tally" at the place of its number, from 1 to 27, "rounds in all", "the most rounds
--- in one call", and 34 of "the exact sum of the values"
+-- ---- the words: the calls, "each refusal number's tally" at the place of its number, from 1 to 27, "rounds in all", "the most
+-- rounds in one call", and 34 of "the exact sum of the values"
 abbrev pub blockWords : ℕ
 blockWords = 64
 

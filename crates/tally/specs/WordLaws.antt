@@ -1,16 +1,19 @@
--- What an answer more, and another block, make of each word below the sum; and so that order makes no difference. Assumes nothing.
+-- What an answer more, and another block, make of each word below the sum; and so that order makes no difference. Assumes
+-- nothing.
 use Prim.Native.Nat.{ℕ, zero, suc, _+_, _-_, _%_, _^_, _≤_, _<_}
 use mathlib.Core.Path.{_≡_, refl, sym, ap, ap₂, _∙_}
 use mathlib.Core.Bool.{Bool, true, false, _&&_, cond}
 use mathlib.Core.List.{List, [], _∷_, _++_}
 use native.Mathlib.Nat.{add-comm, add-assoc, mod-add-mod, add-mod-mod}
 use native.Mathlib.Omega.{arith}
-use borrow.Author.Tests.{le-leb, lt-leb, lt-ltb, le-ltb, eq-eqb, ne-eqb, eqb-true, eqb-false, leb-true, leb-false, ltb-true, ltb-false}
+use borrow.Author.Tests.{le-leb, lt-leb, lt-ltb, le-ltb, eq-eqb, ne-eqb, eqb-true, eqb-false, leb-true, leb-false, ltb-true}
+use borrow.Author.Tests.{ltb-false}
 use lib.Dec.{eqb, leb, ltb}
 use lib.ListN.{length, getD, take, drop, set, length-append, length-drop, length-set, take-append-drop, List·getD-append}
 use lib.Seq.{length-take-le, getD-take, getD-drop, getD-set-same, getD-set-other, ext-getD, drop-set-lt, take-at, drop-at}
 use Rattle.exact.specs.Exact.{valueAdded, sumsJoined}
-use Rattle.tally.specs.Tally.{grown, tallied, raised, summed, larger, blockAdded, wordJoined, slotsJoined, sumsOf, blockJoined}
+use Rattle.tally.specs.Tally.{grown, tallied, raised, summed, larger, blockAdded, wordJoined, slotsJoined, sumsOf}
+use Rattle.tally.specs.Tally.{blockJoined}
 use Rattle.tally.specs.SumLaws.{added-length, value-swap, sums-length, sums-comm, sums-assoc}
 use Rattle.tally.specs.declared.counted.Counted.{Counted}
 
@@ -56,7 +59,8 @@ tallied-length ws n = go (leb 1 n && leb n 27)
 
 -- the tally of a number is its own word's
 tallied-at : (ws : List ℕ) (n i : ℕ) → length ws ≡ 64
-    → getD (tallied ws n) i 0 ≡ cond (leb 1 i && leb i 27) (cond (eqb n i) ((getD ws i 0 + 1) % 2 ^ 64) (getD ws i 0)) (getD ws i 0)
+    → getD (tallied ws n) i 0 ≡ cond (leb 1 i && leb i 27) (cond (eqb n i) ((getD ws i 0 + 1) % 2 ^ 64) (getD ws i 0))
+    (getD ws i 0)
 unfolding tallied
 tallied-at ws n i h = go (eqb n i) refl
   where
@@ -259,18 +263,30 @@ unfolding wordAfter
 after-swap i w a b = go (eqb i 0) (leb i 27) (eqb (a .refused) i) (eqb (b .refused) i) (eqb i 28)
   where
     go : (p q r s t : Bool)
-        → cond p ((cond p ((w + 1) % 2 ^ 64) (cond q (cond r ((w + 1) % 2 ^ 64) w) (cond t ((w + a .rounds) % 2 ^ 64) (larger w (a .rounds)))) + 1) % 2 ^ 64)
+        → cond p ((cond p ((w + 1) % 2 ^ 64)
+        (cond q (cond r ((w + 1) % 2 ^ 64) w) (cond t ((w + a .rounds) % 2 ^ 64) (larger w (a .rounds)))) + 1) % 2 ^ 64)
         (cond q
-        (cond s ((cond p ((w + 1) % 2 ^ 64) (cond q (cond r ((w + 1) % 2 ^ 64) w) (cond t ((w + a .rounds) % 2 ^ 64) (larger w (a .rounds)))) + 1) % 2 ^ 64)
-        (cond p ((w + 1) % 2 ^ 64) (cond q (cond r ((w + 1) % 2 ^ 64) w) (cond t ((w + a .rounds) % 2 ^ 64) (larger w (a .rounds))))))
-        (cond t ((cond p ((w + 1) % 2 ^ 64) (cond q (cond r ((w + 1) % 2 ^ 64) w) (cond t ((w + a .rounds) % 2 ^ 64) (larger w (a .rounds)))) + b .rounds) % 2 ^ 64)
-        (larger (cond p ((w + 1) % 2 ^ 64) (cond q (cond r ((w + 1) % 2 ^ 64) w) (cond t ((w + a .rounds) % 2 ^ 64) (larger w (a .rounds))))) (b .rounds))))
-        ≡ cond p ((cond p ((w + 1) % 2 ^ 64) (cond q (cond s ((w + 1) % 2 ^ 64) w) (cond t ((w + b .rounds) % 2 ^ 64) (larger w (b .rounds)))) + 1) % 2 ^ 64)
+        (cond s ((cond p ((w + 1) % 2 ^ 64)
+        (cond q (cond r ((w + 1) % 2 ^ 64) w) (cond t ((w + a .rounds) % 2 ^ 64) (larger w (a .rounds)))) + 1) % 2 ^ 64)
+        (cond p ((w + 1) % 2 ^ 64)
+        (cond q (cond r ((w + 1) % 2 ^ 64) w) (cond t ((w + a .rounds) % 2 ^ 64) (larger w (a .rounds))))))
+        (cond t ((cond p ((w + 1) % 2 ^ 64)
+        (cond q (cond r ((w + 1) % 2 ^ 64) w) (cond t ((w + a .rounds) % 2 ^ 64) (larger w (a .rounds)))) + b .rounds) % 2
+        ^ 64)
+        (larger (cond p ((w + 1) % 2 ^ 64)
+        (cond q (cond r ((w + 1) % 2 ^ 64) w) (cond t ((w + a .rounds) % 2 ^ 64) (larger w (a .rounds))))) (b .rounds))))
+        ≡ cond p ((cond p ((w + 1) % 2 ^ 64)
+        (cond q (cond s ((w + 1) % 2 ^ 64) w) (cond t ((w + b .rounds) % 2 ^ 64) (larger w (b .rounds)))) + 1) % 2 ^ 64)
         (cond q
-        (cond r ((cond p ((w + 1) % 2 ^ 64) (cond q (cond s ((w + 1) % 2 ^ 64) w) (cond t ((w + b .rounds) % 2 ^ 64) (larger w (b .rounds)))) + 1) % 2 ^ 64)
-        (cond p ((w + 1) % 2 ^ 64) (cond q (cond s ((w + 1) % 2 ^ 64) w) (cond t ((w + b .rounds) % 2 ^ 64) (larger w (b .rounds))))))
-        (cond t ((cond p ((w + 1) % 2 ^ 64) (cond q (cond s ((w + 1) % 2 ^ 64) w) (cond t ((w + b .rounds) % 2 ^ 64) (larger w (b .rounds)))) + a .rounds) % 2 ^ 64)
-        (larger (cond p ((w + 1) % 2 ^ 64) (cond q (cond s ((w + 1) % 2 ^ 64) w) (cond t ((w + b .rounds) % 2 ^ 64) (larger w (b .rounds))))) (a .rounds))))
+        (cond r ((cond p ((w + 1) % 2 ^ 64)
+        (cond q (cond s ((w + 1) % 2 ^ 64) w) (cond t ((w + b .rounds) % 2 ^ 64) (larger w (b .rounds)))) + 1) % 2 ^ 64)
+        (cond p ((w + 1) % 2 ^ 64)
+        (cond q (cond s ((w + 1) % 2 ^ 64) w) (cond t ((w + b .rounds) % 2 ^ 64) (larger w (b .rounds))))))
+        (cond t ((cond p ((w + 1) % 2 ^ 64)
+        (cond q (cond s ((w + 1) % 2 ^ 64) w) (cond t ((w + b .rounds) % 2 ^ 64) (larger w (b .rounds)))) + a .rounds) % 2
+        ^ 64)
+        (larger (cond p ((w + 1) % 2 ^ 64)
+        (cond q (cond s ((w + 1) % 2 ^ 64) w) (cond t ((w + b .rounds) % 2 ^ 64) (larger w (b .rounds))))) (a .rounds))))
     go true q r s t = refl
     go false true true true t = refl
     go false true true false t = refl

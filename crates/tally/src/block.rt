@@ -1,5 +1,5 @@
-// An answer more in a block: a word for the calls, one for each number from 1 to 27, one for the rounds, one for the most, and the
-// words of the sum behind them.
+// An answer more in a block: a word for the calls, one for each number from 1 to 27, one for the rounds, one for the most, and
+// the words of the sum behind them.
 use crate::counted::Counted;
 use exact::add_value;
 ghost use mathlib.Core.Path.{_≡_};

@@ -1,4 +1,5 @@
--- From the claim's premises to the rules: two arguments in range, the second the first times 4 ^ k, are of the kind `argumentK` in two runs.
+-- From the claim's premises to the rules: two arguments in range, the second the first times 4 ^ k, are of the kind `argumentK`
+-- in two runs.
 -- And what the checks on them say is the same in both runs.
 use mathlib.Core.Path.{_≡_, sym, ap, _∙_, subst}
 use mathlib.Core.Logic.{_⊎_, inl, inr}
@@ -24,10 +25,12 @@ use Rattle.units.specs.Statement.{InRange, TimesFour, least, most}
 use Rattle.units.specs.Kinds.{argumentK, meanK}
 
 pub no-units-of : {x : Float} {s : Bool} {n : ℕ} → Is binary64 x s n → T (eq x zero) → n ≡ 0
-no-units-of {x} {s} {n} X h = eqb→eq n 0 (and-l (eqb n 0) (Bool·beq s false || eqb n 0) (subst T (eq-units X (zero-is binary64)) h))
+no-units-of {x} {s} {n} X h = eqb→eq n 0
+    (and-l (eqb n 0) (Bool·beq s false || eqb n 0) (subst T (eq-units X (zero-is binary64)) h))
 
 -- ---- one argument
-in-range : {x : Float} {s : Bool} {n : ℕ} → Is binary64 x s n → T (eq x zero) ⊎ (T (le least (absolute x)) × T (le (absolute x) most))
+in-range : {x : Float} {s : Bool} {n : ℕ} → Is binary64 x s n
+    → T (eq x zero) ⊎ (T (le least (absolute x)) × T (le (absolute x) most))
     → In argumentK s n
 unfolding one.litOk
 in-range {x} {s} {n} X (inl z) =
@@ -81,25 +84,29 @@ other true b h t = h
 other false b h t = absurd t
 
 -- of two equals that are not both zero neither is
-pub distinct : {k : ℕ} {x y x' y' : Float} → Argument k x x' → Argument k y y' → T (eq x y) → T (not (eq x zero && eq y zero)) → T (not (eq x zero))
+pub distinct : {k : ℕ} {x y x' y' : Float} → Argument k x x' → Argument k y y' → T (eq x y) → T (not (eq x zero && eq y zero))
+    → T (not (eq x zero))
 distinct {k} {x} {y} p q e h =
     let a = p .two in
     let b = q .two in
     not-T (eq x zero)
     (λ t.
-    let i = eqb→eq (a .m) (b .m) (and-l (eqb (a .m) (b .m)) (Bool·beq (a .s) (b .s) || eqb (a .m) 0) (subst T (eq-units (a .first) (b .first)) e)) in
+    let i = eqb→eq (a .m) (b .m)
+    (and-l (eqb (a .m) (b .m)) (Bool·beq (a .s) (b .s) || eqb (a .m) 0) (subst T (eq-units (a .first) (b .first)) e)) in
     no-units b (other (eq x zero) (eq y zero) h t) .0 (sym i ∙ no-units-of (a .first) t))
 
 -- ---- the checks. The smaller of two is not below zero: neither is.
 smaller-first : (s t : Bool) (m n : ℕ) → T (below t n s m) → T (not (below t n false 0)) → T (not (below s m false 0))
 smaller-first false t m n h g = not-T (ltb m 0) (λ r. let l = ltb→lt m 0 r in let q : ⊥ = omega arith in q)
 smaller-first true false m n h g = absurd h
-smaller-first true true m n h g = absurd (T-not (ltb 0 (n + 0)) g (lt→ltb 0 (n + 0) (let l = ltb→lt m n h in let q : 0 < n + 0 = omega arith in q)))
+smaller-first true true m n h g = absurd
+    (T-not (ltb 0 (n + 0)) g (lt→ltb 0 (n + 0) (let l = ltb→lt m n h in let q : 0 < n + 0 = omega arith in q)))
 
 smaller-second : (s t : Bool) (m n : ℕ) → T (not (below t n s m)) → T (not (below s m false 0)) → T (not (below t n false 0))
 smaller-second s false m n h g = not-T (ltb n 0) (λ r. let l = ltb→lt n 0 r in let q : ⊥ = omega arith in q)
 smaller-second false true m n h g =
-    not-T (ltb 0 (n + 0)) (λ r. T-not (ltb 0 (n + m)) h (lt→ltb 0 (n + m) (let l = ltb→lt 0 (n + 0) r in let q : 0 < n + m = omega arith in q)))
+    not-T (ltb 0 (n + 0)) (λ r. T-not (ltb 0 (n + m)) h
+    (lt→ltb 0 (n + m) (let l = ltb→lt 0 (n + 0) r in let q : 0 < n + m = omega arith in q)))
 smaller-second true true m n h g =
     not-T (ltb 0 (n + 0))
     (λ r.
@@ -122,5 +129,8 @@ neither-below {x} {y} {s} {t} {m} {n} X Y h =
     go : (b : Bool) → b ≡ below t n s m → T (not (lt (cond b y x) zero)) → T (not (lt x zero)) × T (not (lt y zero))
     go true e g =
         (subst (λ b. T (not b)) (sym x-zero) (smaller-first s t m n (subst T e tt) (subst (λ b. T (not b)) y-zero g)), g)
-    go false e g =
-        (g, subst (λ b. T (not b)) (sym y-zero) (smaller-second s t m n (subst (λ b. T (not b)) e tt) (subst (λ b. T (not b)) x-zero g)))
+    go false e g = (
+      g,
+      subst (λ b. T (not b)) (sym y-zero)
+          (smaller-second s t m n (subst (λ b. T (not b)) e tt) (subst (λ b. T (not b)) x-zero g)),
+    )

@@ -1,5 +1,5 @@
--- The checks that entries of three arguments make first (document 01, "Numbers for no"), in two runs: no argument in range is a NaN or an infinity,
--- and
+-- The checks that entries of three arguments make first (document 01, "Numbers for no"), in two runs: no argument in range is a
+-- NaN or an infinity, and
 -- the tests for a sign and for zeros say the same in both runs. What they leave open is told of each argument.
 use mathlib.Core.Path.{_≡_, ap₂}
 use Prim.Native.Nat.{ℕ}

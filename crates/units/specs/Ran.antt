@@ -1,4 +1,5 @@
--- Two runs of steps that may also refuse: both do with one number, or what they find is the same. And what an entry settles of them.
+-- Two runs of steps that may also refuse: both do with one number, or what they find is the same. And what an entry settles of
+-- them.
 use Prim.Native.Nat.{ℕ}
 use lib.Dec.{T}
 use Rattle.scaling.specs.Kind.{Kind, within}

@@ -12,7 +12,8 @@ use Rattle.carlson.specs.Constants.{one, three}
 use Rattle.carlson.specs.Common.{thirdKind}
 use Rattle.elliprd.specs.Duplicate.{rdCorrection, rdFactor, rdSeries}
 use Rattle.scaling.specs.Units.{lt-units}
-use Rattle.scaling.specs.Kind.{Kind, last, floor-le, mulK, mulOk, divK, divOk, plusK, plusOk, sumK, sumOk, nudgeK, nudgeOk, negK, within}
+use Rattle.scaling.specs.Kind.{Kind, last, floor-le, mulK, mulOk, divK, divOk, plusK, plusOk, sumK, sumOk, nudgeK, nudgeOk, negK}
+use Rattle.scaling.specs.Kind.{within}
 use Rattle.scaling.specs.Last.{digits-of}
 use Rattle.scaling.specs.Two.{Two, mul-two, div-two, plus-two, sum-two, nudge-two, lt-two}
 use Rattle.scaling.specs.One.{lit-two, litOk, widen-two, clip-two, clipK, neg-two, sub-two}

@@ -22,7 +22,8 @@ use Rattle.scaling.specs.Two.{Two, mul-two, div-two}
 use Rattle.scaling.specs.Tests.{zero-is}
 use Rattle.scaling.specs.One.{lit-two, litOk, litN, widen-two}
 use Rattle.scaling.specs.Root.{rootK, rootOk, root-two}
-use Rattle.scaling.specs.Nothing.{Nothing, no-product-first, no-product-last, no-sum, skip-first, skip-last, root-nothing, nothing-two}
+use Rattle.scaling.specs.Nothing.{Nothing, no-product-first, no-product-last, no-sum, skip-first, skip-last, root-nothing}
+use Rattle.scaling.specs.Nothing.{nothing-two}
 use Rattle.scaling.specs.Signed.{above, Larger, larger-two}
 use Rattle.scaling.specs.Lead.{shifted}
 use Rattle.units_rd.specs.Mean.{argK, meanK, Arg, none, some, some?, Mean, mean}

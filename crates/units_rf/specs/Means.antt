@@ -62,7 +62,8 @@ module _ {k : ℕ} where
       subst (λ b. Same k resultK (capped rfMeansOf rfTogether rfAgmCount rfAgmCount 11 (rfTogether s) s 0)
       (capped rfMeansOf rfTogether rfAgmCount rfAgmCount 11 b t 0))
       (test 11 s t i)
-      (loop-two rfMeansOf rfTogether rfAgmCount rfAgmCount rfAgmCount rfAgmCount (Same k resultK) (Inv k) 11 (λ j s t h i. pass j s t i)
+      (loop-two rfMeansOf rfTogether rfAgmCount rfAgmCount rfAgmCount rfAgmCount (Same k resultK) (Inv k) 11
+      (λ j s t h i. pass j s t i)
       (λ j s t h i. test j s t i)
       (λ j s t n h i p. mean n (inr (value-two j s t i))) (λ s t n i. mean n (inr (value-two 0 s t i))) 11 (rfTogether s) s t 0
       (lit≤ tt) (λ p. p) i)

@@ -24,7 +24,8 @@ use Rattle.scaling.specs.Every.{all, every}
 use Rattle.units.specs.Kinds.{meanK}
 use Rattle.units.specs.Runs.{mean, loop-two}
 use Rattle.units.specs.Ran.{Ran, refusal, result}
-use Rattle.units_rd.specs.Means.{sideK, doubleK, squareK, any-double, double-two, side-two, half-two, middle-two, apart-two, square-two}
+use Rattle.units_rd.specs.Means.{sideK, doubleK, squareK, any-double, double-two, side-two, half-two, middle-two, apart-two}
+use Rattle.units_rd.specs.Means.{square-two}
 
 -- ---- kinds, with j passes left: the sum, and what its roundings lost; the squares and their powers of two are RD's
 abbrev sizeK : ℕ → Kind

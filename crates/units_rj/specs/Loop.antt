@@ -74,6 +74,7 @@ module _ {k : ℕ} {x x' y y' z z' p p' : Float} (a : Arg k x x') (b : Arg k y y
       (same-test 99 s s' (lit< tt) i)
       (loops-two rjStep rjStep (rjClose q) (rjClose q') (rjFound x y z A₀) rjSpent (rjFound x' y' z' A₀') rjSpent
       (Same k valueK) (Whole k) 99 pass
-      (λ j s s' l w. same-test j s s' (let r : j < 101 = omega arith in r) w) ends (λ s s' n w. duplicated-over n (w .inv .rescalings) neither) 99
+      (λ j s s' l w. same-test j s s' (let r : j < 101 = omega arith in r) w) ends
+      (λ s s' n w. duplicated-over n (w .inv .rescalings) neither) 99
       (rjClose q s) s s' 1
       (le-refl 99) (λ u. u) i)

@@ -2,7 +2,8 @@
 -- dimension, so both are the same float in both runs, and both are bounded. Assumes nothing.
 use mathlib.Core.Path.{_≡_, refl, sym, _∙_, subst}
 use Prim.Native.Nat.{ℕ, _+_, _*_, _^_, _≤_, _<_}
-use native.Mathlib.Nat.{le-trans, le-of-eq, lt-of-lt-of-le, le-refl, mul-comm, mul-le-mul, le-of-mul-le-mul-left, one-mul, zero-lt-suc}
+use native.Mathlib.Nat.{le-trans, le-of-eq, lt-of-lt-of-le, le-refl, mul-comm, mul-le-mul, le-of-mul-le-mul-left, one-mul}
+use native.Mathlib.Nat.{zero-lt-suc}
 use mathlib.Core.Bool.{Bool, true, false, _||_, cond}
 use mathlib.Core.List.{[], _∷_}
 use lib.Dec.{T, lit≤, lit<}
@@ -20,7 +21,8 @@ use Rattle.scaling.specs.Kind.{Kind, last, floor-le, mulK, mulOk, divK, divOk, 
 use Rattle.scaling.specs.Two.{Two, mul-two, div-two}
 use Rattle.scaling.specs.One.{lit-two, litOk, lit-is, widen-two, clip-two, clipK}
 use Rattle.scaling.specs.Plain.{units-le}
-use Rattle.scaling.specs.Maybe.{Maybe, none, some, some?, units, units', solid?, normal?, mul-maybe, mul-law, add-maybe, add-some, add-law}
+use Rattle.scaling.specs.Maybe.{Maybe, none, some, some?, units, units', solid?, normal?, mul-maybe, mul-law, add-maybe, add-some}
+use Rattle.scaling.specs.Maybe.{add-law}
 use Rattle.units_rd.specs.Mean.{meanK}
 use Rattle.units_rd.specs.Step.{roots-two}
 use Rattle.units_rj.specs.Bound.{of-three, ratio-bound, middle-bound}

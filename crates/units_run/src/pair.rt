@@ -25,7 +25,8 @@ pub enum Verdict {
     Differ,
 }
 
-// The entry's place in the order RC, RF, RD, RG, RJ. Demand 3 does not speak of cel (document 02, 2026-09), so that it is not asked.
+// The entry's place in the order RC, RF, RD, RG, RJ. Demand 3 does not speak of cel (document 02, 2026-09), so that it is not
+// asked.
 pub fn place(call: Call) -> usize {
     match call {
         Call::Rc(_, _) => 0,

@@ -8,7 +8,8 @@ use Rattle.bench_run.proofs.run.Statement.{statement}
 use Rattle.bench_run.proofs.run.Tie as tie
 
 abbrev Inv-loop : tie.InvT-loop
-Inv-loop decays summary wanted out₀ block₀ held₀ state₀ n₀ meter₀ turns₀ out block held state n meter turns = length block ≡ blockLength
+Inv-loop decays summary wanted out₀ block₀ held₀ state₀ n₀ meter₀ turns₀ out block held state n meter turns = length block
+    ≡ blockLength
 
 abbrev μ-loop : tie.MeasureT-loop
 μ-loop decays summary wanted out₀ block₀ held₀ state₀ n₀ meter₀ turns₀ out block held state n meter turns = turns

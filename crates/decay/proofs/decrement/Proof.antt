@@ -20,8 +20,11 @@ decrement-spec =
     (λ c κs. tt)
     (λ c κs.
     let b = c .before in
-    let a = b .before in
-    (passed _ _ (a .before .in-range .ensures) (a .if1 .taken) .largest, passed _ _ (b .in-range2 .ensures) (c .if2 .taken) .largest))
+    let a = b .before in (
+      passed _ _ (a .before .in-range .ensures) (a .if1 .taken) .largest,
+      passed _ _ (b .in-range2 .ensures)
+          (c .if2 .taken) .largest,
+    ))
     (λ c κs. tt)
     (λ c.
     let q = c .before in

@@ -1,5 +1,5 @@
--- `elliprd` meets its contract: within the door no test of the definition says yes; else its tests are those of the definition, in
--- its order. Assumes nothing.
+-- `elliprd` meets its contract: within the door no test of the definition says yes; else its tests are those of the definition,
+-- in its order. Assumes nothing.
 use mathlib.Core.Path.{_≡_, sym, ap, _∙_}
 use mathlib.Core.Bool.{true, false}
 use lib.Ieee.{Float}
@@ -38,7 +38,12 @@ elliprd-spec =
     (λ c κs. tt)
     (λ c. rw (sym (c .before .min .ensures), c .if2 .taken))
     (λ c κs. tt)
-    (λ c. rw (sym (c .before .before .before .min .ensures), c .before .before .if2 .left, sym (c .before .both .ensures) ∙ c .if3 .taken))
+    (λ c. rw (
+      sym (c .before .before .before .min .ensures),
+      c .before .before .if2 .left,
+      sym (c .before .both .ensures)
+          ∙ c .if3 .taken,
+    ))
     (λ c. rw (
       sym (c .before .before .before .before .min .ensures),
       c .before .before .before .if2 .left,
@@ -52,7 +57,8 @@ elliprd-spec =
     (λ c. rw (
       sym (c .before .before .before .before .before .before .before .before .min .ensures),
       c .before .before .before .before .before .before .before .if2 .left,
-      sym (c .before .before .before .before .before .before .both .ensures) ∙ c .before .before .before .before .before .if3 .left,
+      sym (c .before .before .before .before .before .before .both .ensures)
+          ∙ c .before .before .before .before .before .if3 .left,
       c .before .before .before .before .if4 .left,
       sym (c .before .before .before .elliprd-unchecked .ensures),
       sym (c .before .before .any-nan3 .ensures),

@@ -6,4 +6,5 @@ use Rattle.elliprg.proofs.all_equal.Tie as tie
 
 pub all-equal-spec : {M : Type 1} → statement M
 unfolding rgEqual
-all-equal-spec = tie.close (tie.spec (λ c κs. tt) (λ c κs. tt) (λ c. rw (sym (c .before .sqrt .ensures), sym (c .closed .ensures))))
+all-equal-spec = tie.close
+    (tie.spec (λ c κs. tt) (λ c κs. tt) (λ c. rw (sym (c .before .sqrt .ensures), sym (c .closed .ensures))))

@@ -1,5 +1,5 @@
--- `elliprg` meets its contract: within the door no test of the definition says yes; else its tests are those of the definition, in
--- its order. Assumes nothing.
+-- `elliprg` meets its contract: within the door no test of the definition says yes; else its tests are those of the definition,
+-- in its order. Assumes nothing.
 use mathlib.Core.Path.{_≡_, sym, ap, _∙_}
 use mathlib.Core.Bool.{true, false}
 use lib.Ieee.{Float}

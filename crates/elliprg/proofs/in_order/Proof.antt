@@ -17,4 +17,5 @@ in-order-spec =
     (λ c κs. tt)
     (λ c. rw (c .before .before .before .if1 .left, c .before .before .if2 .left, c .before .if3 .taken) (c .agm-of .ensures))
     (λ c κs. tt)
-    (λ c. rw (c .before .before .before .if1 .left, c .before .before .if2 .left, c .before .if3 .left) (ap Value (c .joined .ensures))))
+    (λ c. rw (c .before .before .before .if1 .left, c .before .before .if2 .left, c .before .if3 .left)
+    (ap Value (c .joined .ensures))))

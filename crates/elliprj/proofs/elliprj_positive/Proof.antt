@@ -1,5 +1,5 @@
--- `elliprj_positive` meets its contract: within the door no test of the definition says yes, and the plan is to be done at once; else
--- step by step as its definition. Assumes nothing.
+-- `elliprj_positive` meets its contract: within the door no test of the definition says yes, and the plan is to be done at once;
+-- else step by step as its definition. Assumes nothing.
 use mathlib.Core.Path.{_≡_, sym, ap, _∙_}
 use mathlib.Core.Bool.{true}
 use lib.Ieee.{Float}
@@ -20,7 +20,8 @@ use Rattle.carlson.specs.Door.{
 use Rattle.rj_positive.specs.Positive.{rjPositive}
 use Rattle.elliprj.specs.declared.plan.Plan.{Plan}
 use Rattle.elliprj.specs.declared.plan.Plan.the-variants.{Done}
-use Rattle.elliprj.specs.Rj.{planUnscaled, planScaled, planOf, rjRun, rjUnchecked, rjSettled, rjRest, rjSigned, rjOfPositive}
+use Rattle.elliprj.specs.Rj.{planUnscaled, planScaled, planOf, rjRun, rjUnchecked, rjSettled, rjRest, rjSigned}
+use Rattle.elliprj.specs.Rj.{rjOfPositive}
 use Rattle.elliprj.proofs.elliprj_positive.Statement.{statement}
 use Rattle.elliprj.proofs.elliprj_positive.Tie as tie
 

@@ -12,7 +12,8 @@ use Rattle.listing_write.specs.Text.{countText, longestCount}
 use Rattle.listing_write.proofs.put_count.Statement.{statement}
 use Rattle.listing_write.proofs.put_count.Tie as tie
 
-module _ (n after : ℕ) {o out : List ℕ} {at end : ℕ} (room : at + longestCount ≤ length o) (t : Tried 10 o at (decimal 9 n) out end)
+module _ (n after : ℕ) {o out : List ℕ} {at end : ℕ} (room : at + longestCount ≤ length o)
+    (t : Tried 10 o at (decimal 9 n) out end)
   where
     counted : Put o at (countText n after) (set out end after) (end + 1)
     unfolding countText
@@ -25,7 +26,8 @@ module _ (n after : ℕ) {o out : List ℕ} {at end : ℕ} (room : at + longestC
 
 fits : (c : tie.After-slice-known2)
     → c .before .before .put-decimal .result ≤ c .before .before .before .before .before .args .at + 10
-fits c = let d = c .before .before in let s = d .before .before .before in ten (s .args .n) (s .args .after) (s .pre) (d .put-decimal .ensures)
+fits c = let d = c .before .before in let s = d .before .before .before in ten (s .args .n) (s .args .after) (s .pre)
+    (d .put-decimal .ensures)
 
 pub put-count-spec : {M : Type 1} → statement M
 put-count-spec =

@@ -10,7 +10,13 @@ use Rattle.listing_write.proofs.put_way.Tie as tie
 put-road-requires : tie.Need-put-road-requires
 put-road-requires c κs =
     let p = c .before .before .before .put-count .ensures in
-    omega (arith, p .place, put-length p, count-length (c .before .before .before .before .before .before .args .found .way .rounds) 32)
+    omega (
+      arith,
+      p .place,
+      put-length p,
+      count-length
+          (c .before .before .before .before .before .before .args .found .way .rounds) 32,
+    )
 
 put-count-requires-2 : tie.Need-put-count-requires-2
 put-count-requires-2 c κs =

@@ -1,4 +1,5 @@
--- `polynomial` meets its contract: the terms that are left, taken onto the sum, give Horner's rule whole. The measure is how many are left.
+-- `polynomial` meets its contract: the terms that are left, taken onto the sum, give Horner's rule whole. The measure is how many
+-- are left.
 -- That the table holds the rounded quotients is one computed test, the `refl` in `loop-again`. Assumes nothing.
 use borrow.Author.Needs.{needs}
 use native.Mathlib.Omega.{arith}
@@ -44,8 +45,11 @@ loop-less c = omega arith
 loop-again : tie.Need-loop-again Inv-loop μ-loop
 unfolding from coefficient div ofInt ofBits
 loop-again c =
-    let l = c .before .loop in
-    (omega arith, step (c .before .before .args .y) (l .sum) _ (l .k) (c .loop-test .taken) (entry _ refl (l .k - 1) (omega arith)) ∙ l .inv .1)
+    let l = c .before .loop in (
+      omega arith,
+      step (c .before .before .args .y) (l .sum) _ (l .k) (c .loop-test .taken)
+          (entry _ refl (l .k - 1) (omega arith)) ∙ l .inv .1,
+    )
 
 returns : tie.Need-returns Inv-loop μ-loop
 unfolding down

@@ -27,7 +27,8 @@ same-length c = search needs
 -- src/lib.rt:16:1
 returns : tie.Need-returns
 unfolding jobAdded
-returns c = rw (← c .before .before .before .before .job-answer .ensures, ← c .before .before .before .counted-of .ensures) (c .before .before .add-counted .ensures)
+returns c = rw (← c .before .before .before .before .job-answer .ensures, ← c .before .before .before .counted-of .ensures)
+    (c .before .before .add-counted .ensures)
 
 pub add-job-spec : {M : Type 1} → statement M
 add-job-spec =

@@ -29,7 +29,11 @@ next-of-spec =
     (λ c κs. search needs)
     (λ c. counted _ _ (c .before .scan .ensures))
     (λ c κs. tt)
-    (λ c. counted _ _ (omega (arith, c .before .before .read-on .ensures, c .before .before .before .before .before .scan .ensures)))
+    (λ c. counted _ _ (omega (
+      arith,
+      c .before .before .read-on .ensures,
+      c .before .before .before .before .before .scan .ensures,
+    )))
     (λ c. search needs)
     (λ c. search needs)
     (λ c. omega (arith, c .before .before .read-on .ensures, c .before .before .before .before .before .scan .ensures))

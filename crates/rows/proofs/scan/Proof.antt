@@ -15,7 +15,8 @@ abbrev μ-loop : tie.MeasureT-loop
 μ-loop block held₀ size at₀ row₀ held at row = size - at
 
 -- one byte more is held, or lost, and as many can be held as before
-held-more : (n first before after r : ℕ) → n ≤ before → before ≡ first → after ≡ before → r ≡ pushed n before → (r ≤ after) × (after ≡ first)
+held-more : (n first before after r : ℕ) → n ≤ before → before ≡ first → after ≡ before → r ≡ pushed n before
+    → (r ≤ after) × (after ≡ first)
 held-more n first before after r h e f g = (omega (arith, pushed-most n before r h g), f ∙ e)
 
 loop-again : tie.Need-loop-again Inv-loop μ-loop

@@ -1,4 +1,5 @@
--- `advance` meets its contract. The invariant: what is left of the readings, logged, gives what all of them give. Assumes nothing.
+-- `advance` meets its contract. The invariant: what is left of the readings, logged, gives what all of them give. Assumes
+-- nothing.
 use Prim.Native.Nat.{_-_, _≤_}
 use mathlib.Core.Path.{_≡_, sym, ap, _∙_}
 use native.Mathlib.Omega.{arith}
@@ -21,8 +22,11 @@ loop-holds c = (omega arith, rw (c .log-from .ensures))
 loop-again : tie.Need-loop-again Inv-loop μ-loop
 loop-again c =
     let k = c .before .before .before in
-    let l = k .before .before .before .args .readings .now in
-    (omega arith, rw (c .logged .ensures) (sym (log-next l (k .loop .log) (k .loop .i) (c .before .before .loop-test .taken)) ∙ k .loop .inv .1))
+    let l = k .before .before .before .args .readings .now in (
+      omega arith,
+      rw (c .logged .ensures)
+          (sym (log-next l (k .loop .log) (k .loop .i) (c .before .before .loop-test .taken)) ∙ k .loop .inv .1),
+    )
 
 returns : tie.Need-returns Inv-loop μ-loop
 returns c =

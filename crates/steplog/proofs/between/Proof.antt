@@ -7,7 +7,8 @@ use Rattle.steplog.specs.Steps.{advanceOf}
 use Rattle.steplog.proofs.between.Statement.{statement}
 use Rattle.steplog.proofs.between.Tie as tie
 
-wrapped : (earlier later r : ℕ) → earlier < 65536 → later < 65536 → r < 65536 → (r + earlier) % 65536 ≡ later → r ≡ advanceOf earlier later
+wrapped : (earlier later r : ℕ) → earlier < 65536 → later < 65536 → r < 65536 → (r + earlier) % 65536 ≡ later
+    → r ≡ advanceOf earlier later
 unfolding advanceOf
 wrapped earlier later r p q s e = omega arith
 

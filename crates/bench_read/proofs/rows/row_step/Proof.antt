@@ -12,8 +12,18 @@ row-step-spec =
     (λ c κs. tt)
     (λ c. rw (lt-ltb _ _ (c .before .before .if1 .taken), eq-eqb _ _ (c .before .if2 .taken)) (c .staged .ensures))
     (λ c κs. tt)
-    (λ c. rw (lt-ltb _ _ (c .before .before .before .if1 .taken), ne-eqb _ _ (c .before .before .if2 .left), eq-eqb _ _ (c .before .if3 .taken)) (c .blank .ensures))
+    (λ c. rw (
+      lt-ltb _ _ (c .before .before .before .if1 .taken),
+      ne-eqb _ _ (c .before .before .if2 .left),
+      eq-eqb _ _
+          (c .before .if3 .taken),
+    ) (c .blank .ensures))
     (λ c κs. tt)
-    (λ c. rw (lt-ltb _ _ (c .before .before .before .if1 .taken), ne-eqb _ _ (c .before .before .if2 .left), ne-eqb _ _ (c .before .if3 .left)) (c .other .ensures))
+    (λ c. rw (
+      lt-ltb _ _ (c .before .before .before .if1 .taken),
+      ne-eqb _ _ (c .before .before .if2 .left),
+      ne-eqb _ _
+          (c .before .if3 .left),
+    ) (c .other .ensures))
     (λ c κs. tt)
     (λ c. rw (le-ltb _ _ (c .before .if1 .left)) (c .staged2 .ensures)))

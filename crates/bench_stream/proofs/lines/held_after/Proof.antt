@@ -36,7 +36,8 @@ held-after-spec =
     let t = k .before .before in
     let a = t .before in
     let s = a .before .before .before in (
-      kept (s .args .s .row) (now (s .args .held)) _ _ (s .args .n) _ (s .pre .0) (s .pre .1) (sym (a .naming .ensures) ∙ t .if1 .taken)
+      kept (s .args .s .row) (now (s .args .held)) _ _ (s .args .n) _ (s .pre .0) (s .pre .1)
+          (sym (a .naming .ensures) ∙ t .if1 .taken)
           (k .push .ensures .0) (k .push .ensures .1),
       pushed-most (s .args .n) heldLength _ (s .pre .1) (rw (s .pre .0) at (k .push .ensures .1)),
     ))

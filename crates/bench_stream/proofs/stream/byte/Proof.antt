@@ -40,8 +40,11 @@ returns-2 c =
     let h = c .before .before in
     let a = h .before .before in
     let e = h .held-after .ensures in
-    let s = a .before .before .before .before in
-    (goes-on _ _ (take (s .args .n) (now (s .args .held))) (h .held-after .last .1 .1 .0) _ _ _ (h .held-after .result) (a .before .if1 .left) (a .after-byte .ensures) (e .0), e .1)
+    let s = a .before .before .before .before in (
+      goes-on _ _ (take (s .args .n) (now (s .args .held))) (h .held-after .last .1 .1 .0) _ _ _ (h .held-after .result)
+          (a .before .if1 .left) (a .after-byte .ensures) (e .0),
+      e .1,
+    )
 
 pub byte-spec : {M : Type 1} → statement M
 byte-spec =

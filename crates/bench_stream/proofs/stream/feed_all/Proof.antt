@@ -16,7 +16,8 @@ use Rattle.bench_stream.proofs.stream.feed_all.Tie as tie
 abbrev Inv-loop : tie.InvT-loop
 Inv-loop block size held₀ held-before out₀ s n₀ used₀ i₀ held out state n used i =
     (i ≤ size) × (n ≤ heldLength) × (length held ≡ heldLength)
-    × Upto benchByte (λ s. false) longestReply 0 block (under s (take held-before held₀)) out₀ i (under state (take n held)) out used 0
+    × Upto benchByte (λ s. false) longestReply 0 block (under s (take held-before held₀)) out₀ i
+    (under state (take n held)) out used 0
 
 abbrev μ-loop : tie.MeasureT-loop
 μ-loop block size held₀ held-before out₀ s n₀ used₀ i₀ held out state n used i = size - i

@@ -40,7 +40,8 @@ module _ (held : List ℕ) (s : State) (n r : ℕ) (l : length held ≡ heldLeng
       (put-more (f .said)
       (subst (λ (x : Open). Put half used (saidAtEnd summary (x .state .tally)) out next) (f .left) p))
 
-  counts : (summary : Bool) {out : List ℕ} {next : ℕ} → Put o 0 (saidLast summary (under s (take n held))) out next → Counts next out
+  counts : (summary : Bool) {out : List ℕ} {next : ℕ} → Put o 0 (saidLast summary (under s (take n held))) out next
+      → Counts next out
   counts summary {out} {next} p =
       let most : next ≤ length out =
       omega (arith, place-most (longestReply + longestTallies) p (last-length summary (under s (take n held))), put-length p) in

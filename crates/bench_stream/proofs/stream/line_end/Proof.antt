@@ -43,7 +43,8 @@ returns c =
     let a = k .before .before .before in
     let r = a .before in
     let s = r .before .before .before .before in (
-      told _ _ _ (take (s .args .n) (now (s .args .held))) _ (length-take-le _ _ (s .pre .0)) (r .reply-to .ensures) (a .after-line .ensures)
+      told _ _ _ (take (s .args .n) (now (s .args .held))) _ (length-take-le _ _ (s .pre .0)) (r .reply-to .ensures)
+          (a .after-line .ensures)
           (put (s .args .s) _ _ _ (r .reply-to .ensures) (s .pre .1) (k .put-said .ensures)),
       refl,
     )

@@ -91,4 +91,5 @@ put-said-spec =
     (λ c.
     let h = c .before in
     let k = h .before in
-    tried-lacking (asked (k .before .before .before .args .said) (k .shape-of .ensures) _ _ (h .has-room .ensures)) (c .if1 .left)))
+    tried-lacking (asked (k .before .before .before .args .said) (k .shape-of .ensures) _ _ (h .has-room .ensures))
+    (c .if1 .left)))

@@ -6,4 +6,5 @@ use Rattle.carlson.proofs.common.still_apart.Tie as tie
 
 pub still-apart-spec : {M : Type 1} → statement M
 unfolding apart
-still-apart-spec = tie.close (tie.spec (λ c κs. tt) (λ c κs. tt) (λ c. rw (sym (c .before .abs .ensures), sym (c .abs2 .ensures))))
+still-apart-spec = tie.close
+    (tie.spec (λ c κs. tt) (λ c κs. tt) (λ c. rw (sym (c .before .abs .ensures), sym (c .abs2 .ensures))))

@@ -8,7 +8,17 @@ beyond-spec =
     tie.close
     (tie.spec
     (λ c κs. tt)
-    (λ c. rw (sym (c .before .before .before .is-finite .ensures) ∙ c .before .before .if1 .taken, c .before .if2 .taken, c .if3 .taken))
-    (λ c. rw (sym (c .before .before .before .is-finite .ensures) ∙ c .before .before .if1 .taken, c .before .if2 .taken, c .if3 .left))
+    (λ c. rw (
+      sym (c .before .before .before .is-finite .ensures)
+          ∙ c .before .before .if1 .taken,
+      c .before .if2 .taken,
+      c .if3 .taken,
+    ))
+    (λ c. rw (
+      sym (c .before .before .before .is-finite .ensures)
+          ∙ c .before .before .if1 .taken,
+      c .before .if2 .taken,
+      c .if3 .left,
+    ))
     (λ c. rw (sym (c .before .before .is-finite .ensures) ∙ c .before .if1 .taken, c .if2 .left))
     (λ c. rw (sym (c .before .is-finite .ensures) ∙ c .if1 .left)))

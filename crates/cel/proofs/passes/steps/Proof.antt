@@ -6,4 +6,5 @@ use Rattle.cel.proofs.passes.steps.Tie as tie
 
 pub steps-spec : {M : Type 1} → statement M
 unfolding celSteps
-steps-spec = tie.close (tie.spec (λ c κs. tt) (λ c κs. tt) (λ c κs. tt) (λ c. rw (sym (c .before .before .begin .ensures), sym (c .before .pass .ensures)) (c .from .ensures)))
+steps-spec = tie.close (tie.spec (λ c κs. tt) (λ c κs. tt) (λ c κs. tt)
+    (λ c. rw (sym (c .before .before .begin .ensures), sym (c .before .pass .ensures)) (c .from .ensures)))

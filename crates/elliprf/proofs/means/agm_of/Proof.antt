@@ -19,7 +19,8 @@ Inv-loop x y m₀ n₀ k₀ m n k = Left rfMeansOf rfTogether rfAgmCount rfAgmCo
 abbrev μ-loop : tie.MeasureT-loop
 μ-loop x y m₀ n₀ k₀ m n k = rfCap - n
 
-whole : (x y : Float) (m : Means) → m ≡ rfAgmStart x y → capped rfMeansOf rfTogether rfAgmCount rfAgmCount rfCap (rfTogether m) m 0
+whole : (x y : Float) (m : Means) → m ≡ rfAgmStart x y
+    → capped rfMeansOf rfTogether rfAgmCount rfAgmCount rfCap (rfTogether m) m 0
     ≡ rfAgmOf x y
 unfolding rfAgmOf
 whole x y m e = rw e

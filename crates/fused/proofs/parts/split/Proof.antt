@@ -9,7 +9,8 @@ use Rattle.fused.proofs.parts.split.Tie as tie
 
 -- below 2 ^ 52
 low : (c : tie.Then1)
-    → Low (c .before .args .b) (leadingZeros 64 (c .before .args .b)) (c .before .args .b * 2 ^ (leadingZeros 64 (c .before .args .b) - 11) % 2 ^ 64)
+    → Low (c .before .args .b) (leadingZeros 64 (c .before .args .b))
+    (c .before .args .b * 2 ^ (leadingZeros 64 (c .before .args .b) - 11) % 2 ^ 64)
 low c = scaled-low (c .before .args .b) (c .before .pre .0) (omega arith)
 
 cast-z : tie.Need-cast-z

@@ -40,7 +40,8 @@ returns c =
     let a = k .before .before in
     let g = a .before .before in
     let d = g .before .before in
-    good _ _ _ _ _ _ _ _ (asked _ _ (d .before .call-of .ensures) (d .admitted .ensures) (g .call .given .1)) (a .answer-by .ensures)
+    good _ _ _ _ _ _ _ _ (asked _ _ (d .before .call-of .ensures) (d .admitted .ensures) (g .call .given .1))
+    (a .answer-by .ensures)
     (tried-put (omega arith) (k .put-answer .ensures))
 
 returns-2 : tie.Need-returns-2

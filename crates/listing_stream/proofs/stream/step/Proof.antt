@@ -42,7 +42,8 @@ returns-2 : tie.Need-returns-2
 returns-2 c =
     let k = c .before .before in
     let s = k .before .before .before .before .before in (
-      goes-on (s .args .profile) (now (s .args .held)) _ _ _ _ (s .args .n) _ (s .pre .0) (s .pre .1 .0) (k .before .before .if1 .left)
+      goes-on (s .args .profile) (now (s .args .held)) _ _ _ _ (s .args .n) _ (s .pre .0) (s .pre .1 .0)
+          (k .before .before .if1 .left)
           (k .push .ensures .0)
           (k .push .ensures .1),
       pushed-most (s .args .n) heldLength _ (s .pre .1 .0) (rw (s .pre .0) at (k .push .ensures .1)),

@@ -16,14 +16,16 @@ subnormal-requires c κs = search needs
 signed-requires : tie.Need-signed-requires
 signed-requires c κs =
     let a = c .before .before in
-    let n = low-small (a .args .v) (1222 - a .args .e) (c .subnormal .result) (a .fits .v .fits) (omega arith) (c .subnormal .ensures) in
+    let n = low-small (a .args .v) (1222 - a .args .e) (c .subnormal .result) (a .fits .v .fits) (omega arith)
+    (c .subnormal .ensures) in
     omega arith
 
 returns : tie.Need-returns
 returns c = λ t X Y p j.
     let a = c .before .before .before in
     let n = c .before .subnormal in
-    word-low (a .args .s) X Y (a .args .v) (a .args .e) p j t (a .fits .v .fits) (n .result) (c .signed .result) (omega arith) (n .ensures)
+    word-low (a .args .s) X Y (a .args .v) (a .args .e) p j t (a .fits .v .fits) (n .result) (c .signed .result) (omega arith)
+    (n .ensures)
     (c .signed .ensures)
 
 signed-requires-2 : tie.Need-signed-requires-2

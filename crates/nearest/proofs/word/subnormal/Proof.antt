@@ -13,7 +13,8 @@ even-requires : tie.Need-even-requires
 even-requires c κs = search needs
 
 returns-2 : tie.Need-returns-2
-returns-2 c = let a = c .before .before .before in c .even .ensures ∙ word-below (a .args .v) (a .args .k) (a .fits .v .fits) (omega arith)
+returns-2 c = let a = c .before .before .before in c .even .ensures
+    ∙ word-below (a .args .v) (a .args .k) (a .fits .v .fits) (omega arith)
 
 shr-q : tie.Need-shr-q
 shr-q c = search needs

@@ -1,4 +1,5 @@
--- `count` meets its contract. The invariant: what was counted and what is left to count are all, and no more than the bytes. Assumes nothing.
+-- `count` meets its contract. The invariant: what was counted and what is left to count are all, and no more than the bytes.
+-- Assumes nothing.
 use Prim.Native.Nat.{ℕ, _+_, _-_, _≤_, _<_}
 use mathlib.Core.Path.{_≡_, refl, sym, ap, _∙_}
 use mathlib.Core.List.{List}
@@ -37,7 +38,15 @@ count-spec =
     (λ c.
     let l = c .before .before .before in
     record {
-      fits = omega (arith, l .loop .inv .1, l .loop .inv .0, l .before .before .pre, ends-most (getD (l .before .before .args .part .now) (l .loop .i) 0), c .ending .ensures);
+      fits = omega (
+        arith,
+        l .loop .inv .1,
+        l .loop .inv .0,
+        l .before .before .pre,
+        ends-most
+            (getD (l .before .before .args .part .now) (l .loop .i) 0),
+        c .ending .ensures,
+      );
     })
     (λ c. omega arith)
     (λ c. omega arith)
@@ -45,6 +54,7 @@ count-spec =
     let l = c .before .before .before in (
       omega arith,
       omega (arith, l .loop .inv .1, ends-most (getD (l .before .before .args .part .now) (l .loop .i) 0), c .ending .ensures),
-      more (l .before .before .args .part .now) _ _ _ (c .before .before .loop-test .taken) (l .loop .inv .2) (c .ending .ensures),
+      more (l .before .before .args .part .now) _ _ _ (c .before .before .loop-test .taken) (l .loop .inv .2)
+          (c .ending .ensures),
     ))
     (λ c. none _ _ _ (c .loop-test .left) (c .before .loop .inv .2)))

@@ -40,7 +40,17 @@ lines-in-spec =
     (λ c. search needs)
     (λ c.
     let l = c .before .before .before .before in
-    record { fits = omega (arith, l .loop .inv .1, newlines-few (l .before .before .before .args .block .now) (l .loop .at) (c .before .before .least2 .result) _ (c .count .ensures), c .before .before .least2 .ensures .0, l .loop .inv .0, l .before .least .ensures .0) })
+    record {
+      fits = omega (
+        arith,
+        l .loop .inv .1,
+        newlines-few (l .before .before .before .args .block .now) (l .loop .at)
+            (c .before .before .least2 .result) _ (c .count .ensures),
+        c .before .before .least2 .ensures .0,
+        l .loop .inv .0,
+        l .before .least .ensures .0,
+      );
+    })
     (λ c.
     let l = c .before .before .before .before in
     record { fits = omega (arith, c .before .before .least2 .ensures .0, l .loop .inv .0, l .before .least .ensures .0) })
@@ -48,7 +58,14 @@ lines-in-spec =
     (λ c.
     let l = c .before .before .before .before in (
       omega (arith, c .before .before .least2 .ensures .0, l .loop .inv .0),
-      omega (arith, l .loop .inv .1, newlines-few (l .before .before .before .args .block .now) (l .loop .at) (c .before .before .least2 .result) _ (c .count .ensures)),
-      newlines-part (l .before .before .before .args .block .now) (l .loop .at) (c .before .before .least2 .result) _ _ (l .loop .inv .2) (c .count .ensures),
+      omega (
+        arith,
+        l .loop .inv .1,
+        newlines-few (l .before .before .before .args .block .now) (l .loop .at)
+            (c .before .before .least2 .result) _ (c .count .ensures),
+      ),
+      newlines-part (l .before .before .before .args .block .now) (l .loop .at) (c .before .before .least2 .result) _ _
+          (l .loop .inv .2) (c .count .ensures),
     ))
-    (λ c. newlines-all _ _ _ _ _ (c .before .before .least .ensures .2) (c .loop-test .left) (c .before .loop .inv .0) (c .before .loop .inv .2)))
+    (λ c. newlines-all _ _ _ _ _ (c .before .before .least .ensures .2) (c .loop-test .left) (c .before .loop .inv .0)
+    (c .before .loop .inv .2)))

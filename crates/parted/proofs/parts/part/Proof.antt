@@ -26,4 +26,5 @@ part-spec =
     (λ c. nothing _ _ (c .if1 .taken))
     (λ c. something _ _ Ordering·lt (c .before .if1 .left) (lt-compare _ _ (omega arith)))
     (λ c. something _ _ Ordering·eq (c .before .before .if1 .left) (eq-compare _ _ (omega arith)))
-    (λ c. something _ _ Ordering·gt (c .before .before .if1 .left) (gt-compare _ _ (above _ _ (c .before .if2 .left) (c .if3 .left)))))
+    (λ c. something _ _ Ordering·gt (c .before .before .if1 .left)
+    (gt-compare _ _ (above _ _ (c .before .if2 .left) (c .if3 .left)))))

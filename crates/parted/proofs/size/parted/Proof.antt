@@ -69,6 +69,7 @@ parted-spec =
     let s = h .before in
     scaled-in _ _ _ (s .split .ensures) _ (held (s .before)) (h .if1 .taken) (l .if2 .taken) (u .if3 .taken) (t .if4 .left)
     (c .scaled .ensures))
-    (λ c. too-many _ _ _ (c .before .before .before .split .ensures) (c .before .before .if1 .taken) (c .before .if2 .taken) (c .if3 .left))
+    (λ c. too-many _ _ _ (c .before .before .before .split .ensures) (c .before .before .if1 .taken) (c .before .if2 .taken)
+    (c .if3 .left))
     (λ c. no-unit _ _ _ (c .before .before .split .ensures) (c .before .if1 .taken) (c .if2 .left))
     (λ c. too-large _ _ _ (c .before .split .ensures) (c .if1 .left)))

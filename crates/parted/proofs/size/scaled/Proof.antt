@@ -71,7 +71,10 @@ scaled-spec =
     (λ c.
     let k = c .before .before in
     let s = k .before in
-    record { fits = in-word (word _ _ _ _ (s .pre .0) (s .pre .1 .0) (k .product .ensures) (c .before .struct-known .given .1 .0 .fits)) })
+    record {
+      fits = in-word (word _ _ _ _ (s .pre .0) (s .pre .1 .0) (k .product .ensures)
+          (c .before .struct-known .given .1 .0 .fits));
+    })
     (λ c κs. tt)
     (λ c. search needs)
     (λ c κs. search needs)

@@ -47,7 +47,8 @@ module _ (c : tie.After-high4) where
   lower = at-least g m a b top (x c) A U B X
 
   upper : g * g * cube m < (x c + 4) * 2 ^ 256
-  upper = less-than g m a b top (x c) A U B X (start c .fits .m .fits) (c .before .before .before .high .ok) (c .before .high3 .ok)
+  upper = less-than g m a b top (x c) A U B X (start c .fits .m .fits) (c .before .before .before .high .ok)
+      (c .before .high3 .ok)
 
 sum : (to t : ℕ) → 2 * t ≤ to → to - 2 * t + 2 * t ≡ to
 sum to t h = omega arith
@@ -91,7 +92,8 @@ returns-3 c n d z M G E =
     let a = start (e .before) in
     let s = a .args .to - 2 * a .args .t in
     let l : 2 ^ s < x (e .before) = subst (λ (k : ℕ). k < x (e .before)) (shifted s (c .before .if2 .left)) (c .if3 .taken) in
-    told-above _ _ (a .args .to) (a .args .t) s (x (e .before)) n d z M G E (sum (a .args .to) (a .args .t) (e .if1 .left)) l (lower (e .before))
+    told-above _ _ (a .args .to) (a .args .t) s (x (e .before)) n d z M G E (sum (a .args .to) (a .args .t) (e .if1 .left)) l
+    (lower (e .before))
 
 returns-4 : tie.Need-returns-4
 returns-4 c n d z M G E =
@@ -100,7 +102,8 @@ returns-4 c n d z M G E =
     let s = a .args .to - 2 * a .args .t in
     let h = room _ (x (e .before)) (c .before .if3 .left) (c .if4 .taken) in
     let l : x (e .before) + 4 ≤ 2 ^ s = subst (λ (k : ℕ). x (e .before) + 4 ≤ k) (shifted s (c .before .before .if2 .left)) h in
-    told-below _ _ (a .args .to) (a .args .t) s (x (e .before)) n d z M G E (sum (a .args .to) (a .args .t) (e .if1 .left)) l (upper (e .before))
+    told-below _ _ (a .args .to) (a .args .t) s (x (e .before)) n d z M G E (sum (a .args .to) (a .args .t) (e .if1 .left)) l
+    (upper (e .before))
 
 returns-5 : tie.Need-returns-5
 returns-5 c = search needs

@@ -25,7 +25,8 @@ bound-requires : tie.Need-bound-requires
 bound-requires c κs = search needs
 
 returns : tie.Need-returns
-returns c = let a = c .before .args in c .bound .ensures (a .n) (a .d) (11 - a .n / 2 ^ 53) (raised (a .n) (c .before .pre .0)) refl refl
+returns c = let a = c .before .args in c .bound .ensures (a .n) (a .d) (11 - a .n / 2 ^ 53)
+    (raised (a .n) (c .before .pre .0)) refl refl
 
 pub quick-spec : {M : Type 1} → statement M
 quick-spec =

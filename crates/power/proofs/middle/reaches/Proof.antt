@@ -12,7 +12,8 @@ returns : tie.Need-returns
 returns c = let a = c .before .args in (reached-zero (cutAt (a .n) (a .y)) (a .r) (c .if1 .taken), λ h. omega arith)
 
 returns-2 : tie.Need-returns-2
-returns-2 c = let a = c .before .before .args in (reached-past (cutAt (a .n) (a .y)) (a .r) (c .if2 .taken), λ h. absurd (true≢false (sym h)))
+returns-2 c = let a = c .before .before .args in
+    (reached-past (cutAt (a .n) (a .y)) (a .r) (c .if2 .taken), λ h. absurd (true≢false (sym h)))
 
 sub-past : tie.Need-sub-past
 sub-past c = search needs

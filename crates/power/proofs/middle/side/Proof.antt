@@ -35,7 +35,8 @@ returns : tie.Need-returns
 returns c =
     let e = c .before in
     let a = e .before .args in
-    subst (λ (o : Ordering). Told (c .quick .result) o) (sym (cut-by (a .n) (a .y) (a .r) (e .exponent .result) (e .exponent .ensures)))
+    subst (λ (o : Ordering). Told (c .quick .result) o)
+    (sym (cut-by (a .n) (a .y) (a .r) (e .exponent .result) (e .exponent .ensures)))
     (c .quick .ensures)
 
 pub side-spec : {M : Type 1} → statement M

@@ -1,4 +1,5 @@
--- `power::search::digits` meets its contract: what is found is reached, and 2 ^ turns more is not. The measure is `turns`. Assumes nothing.
+-- `power::search::digits` meets its contract: what is found is reached, and 2 ^ turns more is not. The measure is `turns`.
+-- Assumes nothing.
 use borrow.Author.Needs.{needs}
 use native.Mathlib.Omega.{arith}
 use Prim.Native.Nat.{ℕ, _+_, _-_, _*_, _%_, _^_, _≤_}
@@ -69,7 +70,12 @@ returns c =
     let l = c .before .loop in
     let a = c .before .before .args in
     let e : l .found + 2 ^ l .turns ≡ l .found + 1 = let z : l .turns ≡ 0 = omega arith in ap (λ (k : ℕ). l .found + 2 ^ k) z in
-    record { held = l .inv .1; here = l .inv .2; last = subst (λ (z : ℕ). T (not (reached (cutAt (a .n) (a .y)) z))) e (l .inv .3) }
+    record {
+      held = l .inv .1;
+      here = l .inv .2;
+      last = subst (λ (z : ℕ). T (not (reached (cutAt (a .n) (a .y)) z))) e
+          (l .inv .3);
+    }
 
 pub digits-spec : {M : Type 1} → statement M
 digits-spec =

@@ -24,7 +24,8 @@ returns-2 : tie.Need-returns-2
 returns-2 c h =
     let t = c .before in
     let a = c .before .before .before .before .args in
-    answer (cutAt (a .n) (a .y)) (a .r) _ _ (omega arith) (t .before .reaches .ensures .0) (t .if2 .taken) (c .reaches2 .ensures .0) h
+    answer (cutAt (a .n) (a .y)) (a .r) _ _ (omega arith) (t .before .reaches .ensures .0) (t .if2 .taken)
+    (c .reaches2 .ensures .0) h
 
 returns-3 : tie.Need-returns-3
 returns-3 c h = absurd (true≢false (sym h))

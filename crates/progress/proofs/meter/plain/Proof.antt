@@ -17,7 +17,8 @@ cast-result c =
     let n = c .before .args .n in
     let f = c .before .fits .n in (
       yes-nonNeg {z = toZ w64 (ofZ w64 n)} (ltZ-no (subst (λ (t : Bool). T (not t)) (sym (c .if1 .left)) tt)),
-      subst (λ (z : ℤ). Fits w64 (natAbs z)) (sym (toZ-ofZ w64 n f)) (record { fits = lt-of-le-of-lt (natAbs-le n (f .sfits)) (lit< tt) }),
+      subst (λ (z : ℤ). Fits w64 (natAbs z)) (sym (toZ-ofZ w64 n f))
+          (record { fits = lt-of-le-of-lt (natAbs-le n (f .sfits)) (lit< tt) }),
     )
 
 pub plain-spec : {M : Type 1} → statement M

@@ -53,12 +53,14 @@ returns : tie.Need-returns
 returns c =
     let s = c .before .before .before .before in
     let a = s .before .before .before .args in
-    added (a .report .now) (c .before .before .add-to-block .last .0) (a .function) (a .counted) (s .before .stands .ensures) (s .if1 .taken)
+    added (a .report .now) (c .before .before .add-to-block .last .0) (a .function) (a .counted) (s .before .stands .ensures)
+    (s .if1 .taken)
     (c .before .before .add-to-block .ensures)
 
 -- src/add.rt:10:1
 returns-2 : tie.Need-returns-2
-returns-2 c = let a = c .before .before .before .args in added-not (a .report .now) (a .function) (a .counted) (c .before .stands .ensures) (c .if1 .left)
+returns-2 c = let a = c .before .before .before .args in added-not (a .report .now) (a .function) (a .counted)
+    (c .before .stands .ensures) (c .if1 .left)
 
 pub add-counted-spec : {M : Type 1} → statement M
 add-counted-spec =

@@ -24,7 +24,8 @@ same-length c = search needs
 returns : tie.Need-returns
 returns c =
     let t = c .before .before .before .before in
-    let e = sym (t .before .room-both .ensures) ∙ t .if1 .taken in (join-zero _ _ e, c .before .before .join-words .ensures ∙ join-words _ _ e)
+    let e = sym (t .before .room-both .ensures)
+    ∙ t .if1 .taken in (join-zero _ _ e, c .before .before .join-words .ensures ∙ join-words _ _ e)
 
 -- src/both.rt:59:1
 same-length-2 : tie.Need-same-length-2

@@ -28,7 +28,8 @@ enum-told c = search needs
 -- src/both.rt:49:1
 returns : tie.Need-returns
 returns c =
-    let l = c .before .before in c .fits2 .ensures ∙ both-left _ _ _ (sym (l .before .before .room-after .ensures) ∙ l .left .given .1)
+    let l = c .before .before in c .fits2 .ensures
+    ∙ both-left _ _ _ (sym (l .before .before .room-after .ensures) ∙ l .left .given .1)
 
 -- src/both.rt:49:1
 returns-2 : tie.Need-returns-2

@@ -12,7 +12,8 @@ use Rattle.report_words.proofs.join.join_words.Lts as lts
 use Rattle.tally.proofs.join_blocks.Reads as join-blocks-reads
 
 abbrev Inv-loop : tie.InvT-loop
-Inv-loop report₀ other k₀ report k = (k ≤ 6) × (length report ≡ 384) × (length other ≡ 384) × (blocksJoined k (6 - k) report other ≡ blocksJoined 0 6 report₀ other)
+Inv-loop report₀ other k₀ report k = (k ≤ 6) × (length report ≡ 384) × (length other ≡ 384)
+    × (blocksJoined k (6 - k) report other ≡ blocksJoined 0 6 report₀ other)
 
 abbrev μ-loop : tie.MeasureT-loop
 μ-loop report₀ other k₀ report k = 6 - k
@@ -23,7 +24,8 @@ returns c = let a = c .before .before .before .args in joined-not (a .report .no
 
 -- src/join.rt:19:9
 returns-2 : tie.Need-returns-2 Inv-loop μ-loop
-returns-2 c = let a = c .before .before .before .before .args in joined-nor (a .report .now) (a .other .now) (omega arith) (λ e. omega arith)
+returns-2 c = let a = c .before .before .before .before .args in joined-nor (a .report .now) (a .other .now) (omega arith)
+    (λ e. omega arith)
 
 -- src/join.rt:22:5
 loop-holds : tie.Need-loop-holds Inv-loop μ-loop

@@ -53,11 +53,13 @@ rounded-requires c κs = search needs
 returns : tie.Need-returns
 returns c =
     let s = c .before .before in
-    let a = s .before .before .before .args in c .rounded .ensures ∙ sum-there (a .report .now) (a .function) (s .before .stands .ensures) (s .if1 .taken)
+    let a = s .before .before .before .args in c .rounded .ensures
+    ∙ sum-there (a .report .now) (a .function) (s .before .stands .ensures) (s .if1 .taken)
 
 -- src/parts.rt:64:1
 returns-2 : tie.Need-returns-2
-returns-2 c = let a = c .before .before .before .args in sum-not (a .report .now) (a .function) (c .before .stands .ensures) (c .if1 .left)
+returns-2 c = let a = c .before .before .before .args in sum-not (a .report .now) (a .function) (c .before .stands .ensures)
+    (c .if1 .left)
 
 pub sum-of-spec : {M : Type 1} → statement M
 sum-of-spec =

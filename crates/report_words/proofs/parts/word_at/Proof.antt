@@ -38,12 +38,14 @@ shared-slice-read-result c = let h = stands-is _ _ (c .before .before .stands .e
 -- src/parts.rt:27:9
 returns-2 : tie.Need-returns-2
 returns-2 c =
-    let a = c .before .before .before .before .before .args in word-there (a .report .now) (a .function) (a .place) (omega arith) (c .before .before .stands .ensures) (c .before .if2 .taken)
+    let a = c .before .before .before .before .before .args in word-there (a .report .now) (a .function) (a .place) (omega arith)
+    (c .before .before .stands .ensures) (c .before .if2 .taken)
 
 -- src/parts.rt:20:1
 returns-3 : tie.Need-returns-3
 returns-3 c =
-    let a = c .before .before .before .before .args in word-not (a .report .now) (a .function) (a .place) (omega arith) (c .before .stands .ensures) (c .if2 .left)
+    let a = c .before .before .before .before .args in word-not (a .report .now) (a .function) (a .place) (omega arith)
+    (c .before .stands .ensures) (c .if2 .left)
 
 pub word-at-spec : {M : Type 1} → statement M
 word-at-spec =

@@ -33,7 +33,8 @@ returns c =
     let a = c .before .before .before .before in
     let b = a .before .before .args in
     let g = a .before .begin in
-    c .duplication-over .ensures ∙ ap (λ (v : Float). duplicationOver v (l .n) (l .at .rescalings)) (c .before .not-a-number .ensures)
+    c .duplication-over .ensures
+    ∙ ap (λ (v : Float). duplicationOver v (l .n) (l .at .rescalings)) (c .before .not-a-number .ensures)
     ∙ left-spent (l .inv) refl (c .before .before .if1 .taken)
     ∙ whole (b .x) (b .y) (b .z) (b .p) (a .start-of .result) (g .result) (g .ensures) (a .start-of .ensures)
 

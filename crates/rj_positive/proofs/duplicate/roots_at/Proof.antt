@@ -66,4 +66,7 @@ roots-at-spec =
     (λ c κs. tt)
     (λ c κs. tt)
     (λ c κs. tt)
-    (λ c. (c .before .before .before .sqrt .ensures, (c .before .before .sqrt2 .ensures, (c .before .sqrt3 .ensures, c .sqrt4 .ensures)))))
+    (λ c. (
+      c .before .before .before .sqrt .ensures,
+      (c .before .before .sqrt2 .ensures, (c .before .sqrt3 .ensures, c .sqrt4 .ensures)),
+    )))

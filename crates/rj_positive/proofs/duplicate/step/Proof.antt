@@ -23,4 +23,5 @@ step-spec =
     (tie.spec
     (λ c κs. tt)
     (λ c κs. tt)
-    (λ c. stepped (c .before .before .args .s) (c .before .roots-at .result) (c .with-roots .ensures) (c .before .roots-at .ensures)))
+    (λ c. stepped (c .before .before .args .s) (c .before .roots-at .result) (c .with-roots .ensures)
+    (c .before .roots-at .ensures)))

@@ -1,4 +1,5 @@
--- `root::exact::bisect` meets its contract: the root lies above `low`, by 2 ^ turns at most. The measure is `turns`. Assumes nothing.
+-- `root::exact::bisect` meets its contract: the root lies above `low`, by 2 ^ turns at most. The measure is `turns`. Assumes
+-- nothing.
 use borrow.Author.Needs.{needs}
 use borrow.Author.Tests.{ltb-true, ltb-false}
 use native.Mathlib.Omega.{arith}

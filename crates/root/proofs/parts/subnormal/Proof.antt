@@ -16,7 +16,8 @@ abbrev μ-loop : tie.MeasureT-loop
 
 -- the loop ends before y is 0
 more : (c : tie.In-loop Inv-loop μ-loop) → 1 ≤ c .before .loop .y
-more c = let l = c .before .loop in let a = c .before .before in not-yet (a .args .b) (l .n) (l .y) (a .pre .0) (omega arith) (l .inv .0)
+more c = let l = c .before .loop in let a = c .before .before in not-yet (a .args .b) (l .n) (l .y) (a .pre .0) (omega arith)
+    (l .inv .0)
 
 loop-holds : tie.Need-loop-holds Inv-loop μ-loop
 loop-holds c = (refl, omega arith, omega arith)

@@ -18,7 +18,8 @@ the-square c =
     ap (λ (n : ℕ). n / 2 ^ (2 * a .j)) (c .high .ensures) ∙ square-is (a .j) (a .tau)
 
 add-quotient : tie.Need-add-quotient
-add-quotient c = let a = c .before in record { fits = omega (arith, the-square c, square-small (a .args .j) (a .args .tau) (a .pre .1)) }
+add-quotient c = let a = c .before in record
+    { fits = omega (arith, the-square c, square-small (a .args .j) (a .args .tau) (a .pre .1)) }
 
 quotient-requires : tie.Need-quotient-requires
 quotient-requires c κs =
@@ -36,7 +37,8 @@ share-most c = let a = c .before .before in omega (arith, the-share c, share-sma
 sub-high : tie.Need-sub-high
 sub-high c = omega (arith, share-most c)
 
-the-front : (c : tie.After-high2) → let a = c .before .before .before .args in c .high2 .result ≡ front (a .tau) (share (square (a .j) (a .tau)))
+the-front : (c : tie.After-high2)
+    → let a = c .before .before .before .args in c .high2 .result ≡ front (a .tau) (share (square (a .j) (a .tau)))
 the-front c =
     let a = c .before .before .before .args in
     c .high2 .ensures ∙ front-is (a .tau) (c .before .quotient .result) ∙ ap (λ (f : ℕ). front (a .tau) f) (the-share (c .before))

@@ -12,13 +12,21 @@ mul-r-2 : tie.Need-mul-r-2
 mul-r-2 c = record { fits = omega (arith, top-fits (c .args .p) (c .args .d) (c .pre)) }
 
 add-r : tie.Need-add-r
-add-r c = record { fits = omega (arith, rest-fits (c .args .p) (c .args .d) (c .pre), top-fits (c .args .p) (c .args .d) (c .pre)) }
+add-r c = record {
+  fits = omega (
+    arith,
+    rest-fits (c .args .p) (c .args .d) (c .pre),
+    top-fits (c .args .p) (c .args .d)
+        (c .pre),
+  );
+}
 
 settle-requires : tie.Need-settle-requires
 settle-requires c κs = omega (arith, digit-fits (c .args .p) (c .args .d) (c .pre))
 
 settle-requires-2 : tie.Need-settle-requires-2
-settle-requires-2 c κs = let a = c .before in omega (arith, digit-fits (a .args .p) (a .args .d) (a .pre), c .settle .ensures .more)
+settle-requires-2 c κs = let a = c .before in
+    omega (arith, digit-fits (a .args .p) (a .args .d) (a .pre), c .settle .ensures .more)
 
 returns : tie.Need-returns
 returns c =

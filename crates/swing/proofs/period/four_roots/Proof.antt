@@ -7,4 +7,5 @@ use Rattle.swing.proofs.period.four_roots.Tie as tie
 
 pub four-roots-spec : {M : Type 1} → statement M
 unfolding fourRoots
-four-roots-spec = tie.close (tie.spec (λ c κs. search needs) (λ c κs. tt) (λ c. rw (sym (c .before .quotient .ensures), sym (c .sqrt .ensures))))
+four-roots-spec = tie.close
+    (tie.spec (λ c κs. search needs) (λ c κs. tt) (λ c. rw (sym (c .before .quotient .ensures), sym (c .sqrt .ensures))))

@@ -5,11 +5,13 @@ use Rattle.table_run.proofs.inputs.check.Statement.{statement}
 use Rattle.table_run.proofs.inputs.check.Tie as tie
 
 abbrev Inv-loop : tie.InvT-loop
-Inv-loop tolerance list claims wanted window₀ block₀ held₀ so₀ row₀ stands₀ meter₀ rows₀ turns₀ window block held so row stands meter rows turns =
+Inv-loop tolerance list claims wanted window₀ block₀ held₀ so₀ row₀ stands₀ meter₀ rows₀ turns₀ window block held so row stands
+    meter rows turns =
     Unit {0}
 
 abbrev μ-loop : tie.MeasureT-loop
-μ-loop tolerance list claims wanted window₀ block₀ held₀ so₀ row₀ stands₀ meter₀ rows₀ turns₀ window block held so row stands meter rows turns = turns
+μ-loop tolerance list claims wanted window₀ block₀ held₀ so₀ row₀ stands₀ meter₀ rows₀ turns₀ window block held so row stands
+    meter rows turns = turns
 
 pub check-spec : {M : Type 1} → statement M
 check-spec =

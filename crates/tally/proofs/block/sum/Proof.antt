@@ -31,7 +31,8 @@ same-length c = search needs
 returns : tie.Need-returns
 returns c =
     let a = c .before .before .before .before .before .args in
-    sum-there (a .block .now) (c .before .before .add-value .last .0) (a .bits) (omega arith) (c .before .before .add-value .ensures)
+    sum-there (a .block .now) (c .before .before .add-value .last .0) (a .bits) (omega arith)
+    (c .before .before .add-value .ensures)
 
 pub sum-spec : {M : Type 1} → statement M
 sum-spec =

@@ -12,7 +12,8 @@ use Rattle.tally.proofs.join.join_slots.Lts as lts
 use Rattle.tally.proofs.join.joined_word.Reads as joined-word-reads
 
 abbrev Inv-loop : tie.InvT-loop
-Inv-loop block₀ other i₀ block i = (length block ≡ 64) × (i ≤ 30) × (slotsJoined i (30 - i) block other ≡ slotsJoined 0 30 block₀ other)
+Inv-loop block₀ other i₀ block i = (length block ≡ 64) × (i ≤ 30)
+    × (slotsJoined i (30 - i) block other ≡ slotsJoined 0 30 block₀ other)
 
 abbrev μ-loop : tie.MeasureT-loop
 μ-loop block₀ other i₀ block i = 30 - i
@@ -61,8 +62,12 @@ loop-less c = omega arith
 loop-again : tie.Need-loop-again Inv-loop μ-loop
 loop-again c =
     let l = c .before .before .before .before .loop in
-    let o = c .before .before .before .before .before .before .before .args .other .now in
-    (simp length-set (l .inv .0), omega arith, joined-on (l .i) (l .block) o (c .joined-word .result) (omega arith) (c .joined-word .ensures) ∙ l .inv .2)
+    let o = c .before .before .before .before .before .before .before .args .other .now in (
+      simp length-set (l .inv .0),
+      omega arith,
+      joined-on (l .i) (l .block) o (c .joined-word .result) (omega arith)
+          (c .joined-word .ensures) ∙ l .inv .2,
+    )
 
 -- src/join.rt:25:1
 same-length : tie.Need-same-length Inv-loop μ-loop

@@ -14,7 +14,8 @@ use Rattle.unpack_stream.specs.Text.{letterOf, nameText}
 use Rattle.unpack_stream.proofs.text.put_name.Statement.{statement}
 use Rattle.unpack_stream.proofs.text.put_name.Tie as tie
 
-two : (f : ℕ) (l : List ℕ) (at b : ℕ) → eqb f 6 ≡ false → b ≡ letterOf f → Put l at (nameText f) (set (set l at 82) (at + 1) b) (at + 2)
+two : (f : ℕ) (l : List ℕ) (at b : ℕ) → eqb f 6 ≡ false → b ≡ letterOf f
+    → Put l at (nameText f) (set (set l at 82) (at + 1) b) (at + 2)
 unfolding nameText
 two f l at b t e = rw (t, ← e) (record { bytes = rw add-one; place = refl })
 
