@@ -1,7 +1,7 @@
 /*
  * Gatewren: Carlson's elliptic integrals RC, RF, RD, RG and RJ and Bulirsch's cel on doubles, proved to the last bit, the leaves they
- * stand on, the swing time and the verdict of the knee bench, the work lists of its controller with their reports, and the check of
- * other laboratories' tables.
+ * stand on, the swing time and the verdict of the knee bench, the work lists of its controller with their reports, the check of
+ * other laboratories' tables, and decimal numbers as people write them.
  *
  * Link libgatewren.a (rt staticlib gatewren) or libgatewren.so (./gatewren shared). Neither wants the C maths library.
  * The code counts on what IEEE 754 and C start with: rounding to nearest, and subnormal numbers kept.
@@ -47,7 +47,9 @@ enum gatewren_outcome {
     GATEWREN_WRONG_SIGN = 21,   /* RJ's p has the wrong sign for this entry */
     GATEWREN_NUMBERS_DIFFER = 22, /* a table's claims and its work list's jobs differ in number */
     GATEWREN_OUTSIDE_PROFILE = 23, /* an argument of a profile's entry is neither zero nor of size from 2^-64 to 2^64 */
-    GATEWREN_AMPLITUDE = 24     /* a peak is not from 1 to 2^53 */
+    GATEWREN_AMPLITUDE = 24,    /* a peak is not from 1 to 2^53 */
+    GATEWREN_TOO_LARGE = 25,    /* a decimal number is beyond the largest double */
+    GATEWREN_NO_NUMBER = 26     /* a text is no decimal number */
 };
 
 /* Which formula gave a value. A call that rescales, or hands its whole answer to another function, has that one's road. */
@@ -309,6 +311,29 @@ double gatewren_report_sum(const uint64_t *report, uint32_t function);
    bad row alone. list may be null only where length is 0, claims only where words is; row lies apart from both and is not null. */
 uint32_t gatewren_check_table(const uint8_t *list, size_t length, const uint64_t *claims, size_t words, uint64_t tolerance,
                               uint64_t *row);
+
+/*
+ * Numbers as people write them. A decimal is an optional minus, digits, optionally a point and digits, optionally e or E, an optional
+ * sign and digits: -1.5, 0.25, 1e-3, 6.02E+23. Its digits are at most 800, zeros in front and at the end not counted, and its power
+ * of ten is one of 32 bits with a sign. Beside these inf, -inf and nan are numbers. Nothing else is: no blank, no plus in front, no
+ * point without a digit on either side, no Infinity.
+ */
+
+/* No text that gatewren_write_decimal writes is longer than this many bytes. */
+#define GATEWREN_DECIMAL_BYTES 24
+
+/* Reads a text that is one number and nothing else. Returns 0, and *value is the double nearest to it, of two equally near the even one;
+   a text below the smallest double gives a zero, with its sign. Or 25 where the nearest would be an infinity, and nothing is touched. Or
+   26 where the text is no number, and *place is the place, counted from 0, of the first byte that makes it none, or the text's length
+   where it ends too soon. *value is touched for 0 alone, *place for 26 alone. text may be null only where length is 0; text, value and
+   place lie apart, and the last two are not null. */
+uint32_t gatewren_read_decimal(const uint8_t *text, size_t length, double *value, size_t *place);
+
+/* Writes the shortest decimal that gatewren_read_decimal reads back as x, of those the one nearest to x, and returns its length. There is
+   no NUL at its end. Where length is below GATEWREN_DECIMAL_BYTES nothing is written and 0 is returned, whatever x is. Up to 17 digits
+   before the point and up to four zeros after it are written out, as 250, 0.001 and 1.370171633266872; all else has a power, as 6.02e23
+   and 5e-324. Beside these -0, inf, -inf, and nan for each NaN. text may be null only where length is 0. */
+size_t gatewren_write_decimal(double x, uint8_t *text, size_t length);
 
 /*
  * The leaves. A leaf always returns a number; where the exact result is none, that is a NaN, and which NaN is left open.

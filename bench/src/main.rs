@@ -2,6 +2,7 @@
 //! reports and the listing.
 
 mod clock;
+mod decimals;
 mod entries;
 mod inputs;
 mod jobs;
@@ -27,6 +28,7 @@ fn main() {
     let chosen = |name: &str| wanted.is_empty() || wanted.iter().any(|word| name.starts_with(word.as_str()));
     let mut rows = leaves::rows();
     rows.extend(entries::rows());
+    rows.extend(decimals::rows());
     rows.extend(peers::rows());
     rows.retain(|row| chosen(&row.name));
     // For callgrind: one row's calls once over, ours or the reference's, by the variable's first word.

@@ -319,6 +319,46 @@ class Examples(unittest.TestCase):
             with self.assertRaises(ValueError):
                 gatewren.decay(bad, 1)
 
+    def test_decimals_are_read(self):
+        read = gatewren.read_decimal
+        for text in ("0", "-0", "1.5", "-1e-3", "6.02E+23", "1e23", "000.1000", "5e-324", "-1e-400", "9007199254740993", "0e2147483647"):
+            self.assertEqual(read(text).hex(), float(text).hex(), text)
+        self.assertEqual((read("inf"), read(b"-inf")), (INF, -INF))
+        self.assertTrue(math.isnan(read("nan")))
+        # the middle between the largest double and 2^1024, and the last whole number below it
+        middle = 2**1024 - 2**970
+        self.assertEqual(read(str(middle)), Refused(Refusal.TOO_LARGE))
+        self.assertEqual(read(str(middle - 1)), of_bits(0x7FEFFFFFFFFFFFFF))
+        places = {"": 0, "-": 1, "+1": 0, ".5": 0, "5.": 2, "1,5": 1, " 1": 0, "1 ": 1, "1e": 2, "1e+": 3, "1_000": 1, "infinity": 0}
+        places |= {"-nan": 1, "1e2147483648": 11, "1e-2147483649": 12, "1\0": 1, "1\u0661": 1, "9" * 801: 800}
+        for text, place in places.items():
+            self.assertEqual(read(text), gatewren.NoNumber(place), text)
+            self.assertEqual(read(text).number, 26)
+        self.assertNotEqual(read("1,5"), Refused(26))
+        self.assertEqual(read("9" * 800 + "000e-803"), 1.0)
+        for wrong in (1.5, None):
+            with self.assertRaises(TypeError):
+                read(wrong)
+
+    def test_decimals_are_written(self):
+        texts = {0.0: "0", 250.0: "250", 0.00001: "0.00001", 0.000001: "1e-6", 1e16: "10000000000000000", 1e17: "1e17", 5e-324: "5e-324"}
+        texts |= {1.370171633266872: "1.370171633266872", -2.2250738585072014e-308: "-2.2250738585072014e-308", INF: "inf", -INF: "-inf"}
+        for x, text in texts.items():
+            self.assertEqual(gatewren.write_decimal(x), text)
+        self.assertEqual((gatewren.write_decimal(-0.0), gatewren.write_decimal(NAN)), ("-0", "nan"))
+        # equally near: repr has the even one
+        self.assertEqual((gatewren.write_decimal(1125899906842624.25), repr(1125899906842624.25)), ("1125899906842624.3", "1125899906842624.2"))
+        word = 1
+        for _ in range(5000):
+            word = (word * 6364136223846793005 + 1442695040888963407) % 2**64
+            x = of_bits(word)
+            if not math.isnan(x):
+                text = gatewren.write_decimal(x)
+                self.assertEqual((gatewren.read_decimal(text).hex(), float(text).hex()), (x.hex(), x.hex()))
+                self.assertLessEqual(len(text), 24)
+        with self.assertRaises(TypeError):
+            gatewren.write_decimal("1")
+
     def test_the_days_file(self):
         examples = pathlib.Path(__file__).resolve().parents[2] / "examples"
         answered = ""
@@ -415,8 +455,8 @@ class Answers(unittest.TestCase):
             rf(-1, 1, 1).value = 1.0
 
     def test_every_number_has_a_meaning(self):
-        self.assertEqual([refusal.value for refusal in Refusal], list(range(1, 25)))
-        for number in (0, 25):
+        self.assertEqual([refusal.value for refusal in Refusal], list(range(1, 27)))
+        for number in (0, 27):
             with self.assertRaises(ValueError):
                 Refused(number)
 
@@ -435,11 +475,25 @@ class Interface(unittest.TestCase):
             self.assertEqual(symbol(*arguments, *map(ctypes.byref, places)), 2)
             self.assertEqual(tuple(place.value for place in places), (-77.5, 4242, 4243, 4244))
 
+    def test_what_decimals_touch(self):
+        library = gatewren._LIBRARY
+        value, place = ctypes.c_double(-77.5), ctypes.c_size_t(4242)
+        for text, number in ((b"1e309", 25), (b"1e", 26)):
+            self.assertEqual(library.gatewren_read_decimal(text, len(text), ctypes.byref(value), ctypes.byref(place)), number)
+            self.assertEqual((value.value, place.value), (-77.5, 4242 if number == 25 else 2))
+        self.assertEqual(library.gatewren_read_decimal(b"1.5", 3, ctypes.byref(value), ctypes.byref(place)), 0)
+        self.assertEqual((value.value, place.value), (1.5, 2))
+        room = ctypes.create_string_buffer(b"\xee" * 40, 40)
+        self.assertEqual(library.gatewren_write_decimal(ctypes.c_double(1.5), room, 23), 0)
+        self.assertEqual(room.raw, b"\xee" * 40)
+        self.assertEqual(library.gatewren_write_decimal(ctypes.c_double(1.5), room, 40), 3)
+        self.assertEqual(room.raw, b"1.5" + b"\xee" * 37)
+
     def test_the_header_names_every_function_that_is_called(self):
         header = pathlib.Path(__file__).resolve().parents[2] / "include" / "gatewren.h"
         text = header.read_text()
         names = ["rc", "rf", "rd", "rg", "rj_positive", "rj_negative", "sqrt", "mul_add", "pow_neg_3_2", "atan", "ln", "ln_1p", "swing", "steps"]
-        names += ["drag", "decay"]
+        names += ["drag", "decay", "read_decimal", "write_decimal"]
         names += [f"profile_{name}" for name in ("rc", "rf", "rd", "rg", "rj")]
         names += [f"report_{name}" for name in ("list", "join", "calls", "refused", "rounds", "most", "sum")]
         for name in names:

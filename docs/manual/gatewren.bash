@@ -3,7 +3,7 @@ _gatewren() {
     local word=${COMP_WORDS[COMP_CWORD]} words=
     COMPREPLY=()
     if [ "$COMP_CWORD" = 1 ]; then
-        mapfile -t COMPREPLY < <(compgen -W 'listing profile swing steps drag decay pack unpack report join check version help build shared install uninstall --help --version' -- "$word")
+        mapfile -t COMPREPLY < <(compgen -W 'listing profile rc rf rd rg rj cel sqrt ln ln_1p atan table swing steps drag decay pack unpack report join check version help build shared install uninstall --help --version' -- "$word")
         return
     fi
     case ${COMP_WORDS[1]} in
@@ -12,6 +12,7 @@ _gatewren() {
             return
             ;;
         listing) words='--progress' ;;
+        table) words='--hex' ;;
         drag) words='--summary --progress' ;;
         report) words='--progress' ;;
         check) words='--progress' ;;

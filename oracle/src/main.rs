@@ -5,6 +5,7 @@ mod blocks;
 mod call;
 mod cel;
 mod compare;
+mod decimals;
 mod diff;
 mod drag;
 mod effect;
@@ -37,7 +38,8 @@ use std::process::ExitCode;
 const USAGE: &str = "oracle examples | make-list | check-list | call | diff N [SEED] | leaf NAME N [SEED] | cases NAME N [SEED] |
        answers NAME | compare N [SEED [THREADS]] | units N [SEED] | orders N [SEED] | profile N [SEED] | effect N [SEED] |
        swing N [SEED] | fuzz SECONDS [SEED] | lists N [SEED] | round N [SEED] | report N [SEED] | report-text N [SEED] |
-       tables N [SEED] | cel N [SEED] | make-units | make-blocks | drag N [SEED] | drag-files N | make-bench";
+       tables N [SEED] | cel N [SEED] | make-units | make-blocks | drag N [SEED] | drag-files N | make-bench |
+       decimals N [SEED]";
 
 fn main() -> ExitCode {
     let words: Vec<String> = std::env::args().skip(1).collect();
@@ -83,6 +85,8 @@ fn main() -> ExitCode {
         ["cel", n, seed] => cel::run(number(n), number(seed)),
         ["drag", n] => drag::run(number(n), 1),
         ["drag", n, seed] => drag::run(number(n), number(seed)),
+        ["decimals", n] => decimals::run(number(n), 1),
+        ["decimals", n, seed] => decimals::run(number(n), number(seed)),
         ["drag-files", n] => drag::files(number(n), 1),
         ["make-bench"] => drag::make(),
         ["swing", n] => swing::run(number(n), 1),

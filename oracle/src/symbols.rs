@@ -55,6 +55,12 @@ linked! {
     "lib-drag" DECAY = gatewren_decay(u64, u64, *mut f64) -> u32;
 }
 
+// Decimals: a text's bytes and their length, and two places; a number, and room for its text.
+linked! {
+    "lib-decimals" READ_DECIMAL = gatewren_read_decimal(*const u8, usize, *mut f64, *mut usize) -> u32;
+    "lib-decimals" WRITE_DECIMAL = gatewren_write_decimal(f64, *mut u8, usize) -> usize;
+}
+
 // Request 2026-03: bytes and their length, a place, and a job as five words.
 linked! {
     "lib-lists" READ_JOB = gatewren_read_job(*const u8, usize, *mut usize, *mut [u64; 5]) -> u32;

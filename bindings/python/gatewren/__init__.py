@@ -1,6 +1,6 @@
 """Gatewren for Python: Carlson's elliptic integrals rc, rf, rd, rg, rj_positive, rj_negative, Bulirsch's cel, the bench's profile
 of them (profile_rf and its like), the leaves they stand on, the knee bench's swing time and step log, the packed work lists of
-its controller, reports of such lists, and the check of others' tables.
+its controller, reports of such lists, the check of others' tables, and decimal numbers as people write them.
 
 What is called is the proved library as a shared object, which `./gatewren shared` builds and `pip install` takes along;
 GATEWREN_SO may name another place.
@@ -31,7 +31,7 @@ from typing import NamedTuple, NoReturn, SupportsFloat, SupportsIndex
 __all__ = ["Refusal", "Road", "Answer", "Value", "Total", "Refused", "rc", "rf", "rd", "rg", "rj_positive", "rj_negative", "cel"]
 __all__ += ["profile_rc", "profile_rf", "profile_rd", "profile_rg", "profile_rj"]
 __all__ += ["Job", "ReadList", "read_list", "write_list", "Report", "Checked", "check_table", "swing", "steps"]
-__all__ += ["Verdict", "drag", "decay"]
+__all__ += ["Verdict", "drag", "decay", "NoNumber", "read_decimal", "write_decimal"]
 __all__ += ["sqrt", "mul_add", "pow_neg_3_2", "atan", "ln", "ln_1p"]
 
 __version__ = "0.4.0"
@@ -64,6 +64,8 @@ class Refusal(enum.Enum):
     NUMBERS_DIFFER = 22  # a table's claims and its work list's jobs differ in number
     OUTSIDE_PROFILE = 23  # an argument of a profile's entry is neither zero nor of size from 2^-64 to 2^64
     AMPLITUDE = 24  # a peak is not from 1 to 2^53
+    TOO_LARGE = 25  # a decimal number is beyond the largest double
+    NO_NUMBER = 26  # a text is no decimal number
 
 
 class Road(enum.Enum):
@@ -201,6 +203,25 @@ class Refused(Answer):
         return f"Refused({self.refusal})"
 
 
+class NoNumber(Refused):
+    """A text that is no decimal number. `place`, counted from 0, is that of the byte that makes it none, or the text's length in bytes
+    where it ends too soon."""
+
+    __slots__ = ("place",)
+    __match_args__ = ("place",)
+    place: int
+
+    def __init__(self, place: int) -> None:
+        super().__init__(Refusal.NO_NUMBER)
+        object.__setattr__(self, "place", place)
+
+    def _parts(self) -> tuple[object, ...]:
+        return (self.refusal, self.place)
+
+    def __repr__(self) -> str:
+        return f"NoNumber(place={self.place!r})"
+
+
 def _load() -> ctypes.CDLL:
     here = pathlib.Path(__file__).resolve()
     places = [here.with_name("libgatewren.so")]  # where the package was installed; in the repository, where it is built
@@ -267,6 +288,9 @@ _REPORT_REFUSED = _symbol("report_refused", [_WORDS, ctypes.c_uint32, ctypes.c_u
 _REPORT_ROUNDS = _symbol("report_rounds", [_WORDS, ctypes.c_uint32], ctypes.c_uint64)
 _REPORT_MOST = _symbol("report_most", [_WORDS, ctypes.c_uint32], ctypes.c_uint32)
 _REPORT_SUM = _symbol("report_sum", [_WORDS, ctypes.c_uint32], _DOUBLE)
+_READ_DECIMAL = _symbol("read_decimal", [ctypes.c_char_p, ctypes.c_size_t, ctypes.POINTER(_DOUBLE), _SIZE], ctypes.c_uint32)
+_WRITE_DECIMAL = _symbol("write_decimal", [_DOUBLE, ctypes.c_char_p, ctypes.c_size_t], ctypes.c_size_t)
+_DECIMAL_BYTES = 24
 _NOTHING_LEFT = _BAD_ROW = 2**32 - 1
 _LONGEST_JOB = 41
 _SQRT = _symbol("sqrt", [_DOUBLE], _DOUBLE)
@@ -757,6 +781,41 @@ def check_table(data: bytes, claims: Iterable[SupportsFloat | Refused], toleranc
     if number == _BAD_ROW:
         return Checked(False, bad_row=row.value)
     return Checked(True) if number == 0 else Checked(False, refused=Refused(number))
+
+
+# Numbers as people write them.
+
+
+def read_decimal(text: str | bytes) -> float | Refused:
+    """The double nearest to the decimal that the text is, ties to even: an optional minus, digits, optionally a point and digits,
+    optionally e or E, an optional sign and digits; or inf, -inf or nan. At most 800 digits count, zeros in front and at the end not among
+    them, and the power of ten is one of 32 bits. float() takes more: blanks, underscores, .5, 5., +1, infinity.
+
+    >>> read_decimal("6.02e23")
+    6.02e+23
+    >>> read_decimal("1,5")
+    NoNumber(place=1)
+    >>> read_decimal("1e309")
+    Refused(Refusal.TOO_LARGE)
+    """
+    data = text.encode("utf-8", "surrogatepass") if isinstance(text, str) else bytes(text)
+    value, place = _DOUBLE(), ctypes.c_size_t()
+    number = _READ_DECIMAL(data, len(data), ctypes.byref(value), ctypes.byref(place))
+    if number == Refusal.NO_NUMBER.value:
+        return NoNumber(place.value)
+    return value.value if number == 0 else Refused(number)
+
+
+def write_decimal(x: SupportsFloat) -> str:
+    """The shortest decimal that read_decimal gives back as x, and of those the nearest. Up to 17 digits before the point and up to four
+    zeros after it are written out, all else has a power. Of two equally near it is the upper one, where repr() has the even one.
+
+    >>> write_decimal(250), write_decimal(0.1 + 0.2), write_decimal(6.02e23)
+    ('250', '0.30000000000000004', '6.02e23')
+    """
+    buffer = ctypes.create_string_buffer(_DECIMAL_BYTES)
+    length = _WRITE_DECIMAL(_DOUBLE(x), buffer, _DECIMAL_BYTES)
+    return buffer.raw[:length].decode("ascii")
 
 
 # The leaves. Which NaN a leaf gives is left open.

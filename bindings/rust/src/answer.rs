@@ -123,6 +123,8 @@ refusals! {
     NumbersDiffer = 22, "a table's claims and its work list's jobs differ in number";
     OutsideProfile = 23, "an argument is neither zero nor of size from 2^-64 to 2^64";
     Amplitude = 24, "a peak is not from 1 to 2^53";
+    TooLarge = 25, "a decimal number is beyond the largest f64";
+    NoNumber = 26, "a text is no decimal number";
 }
 
 impl Refusal {

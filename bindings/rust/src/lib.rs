@@ -1,7 +1,8 @@
 //! Gatewren for Rust: Carlson's elliptic integrals [`rc`], [`rf`], [`rd`], [`rg`] and RJ as [`rj_positive`] and
 //! [`rj_negative`], Bulirsch's [`cel`], the bench's [`profile`] of them, the [`leaf`] functions they stand on, the knee
-//! [`bench`]'s swing time and step log, the packed [`WorkList`] of its controller and the [`Report`] over such lists, and
-//! [`check_table`] for other laboratories' tables. What is called is the proved library, libgatewren.a; here is only its dress.
+//! [`bench`]'s swing time and step log, the packed [`WorkList`] of its controller and the [`Report`] over such lists,
+//! [`check_table`] for other laboratories' tables, and [`decimal`] numbers as people write them. What is called is the proved library,
+//! libgatewren.a; here is only its dress.
 //!
 //! ```
 //! use gatewren::{rf, Answer, Refusal, Road};
@@ -12,6 +13,7 @@
 
 mod answer;
 pub mod bench;
+pub mod decimal;
 mod entries;
 pub mod leaf;
 pub mod profile;

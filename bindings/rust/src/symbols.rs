@@ -54,6 +54,8 @@ extern "C" {
         tolerance: u64,
         row: &mut u64,
     ) -> u32;
+    pub fn gatewren_read_decimal(text: *const u8, length: usize, value: &mut f64, place: &mut usize) -> u32;
+    pub fn gatewren_write_decimal(x: f64, text: *mut u8, length: usize) -> usize;
     pub fn gatewren_sqrt(x: f64) -> f64;
     pub fn gatewren_mul_add(a: f64, b: f64, c: f64) -> f64;
     pub fn gatewren_pow_neg_3_2(a: f64) -> f64;

@@ -92,10 +92,10 @@ fn roads_and_rescalings() {
 #[test]
 fn every_number_has_a_meaning() {
     let numbers: Vec<u32> = Refusal::ALL.iter().map(|refusal| refusal.number()).collect();
-    assert_eq!(numbers, (1..=24).collect::<Vec<u32>>());
+    assert_eq!(numbers, (1..=26).collect::<Vec<u32>>());
     assert!(Refusal::ALL.iter().all(|&refusal| Refusal::of(refusal.number()) == Some(refusal)));
     assert_eq!(Refusal::of(0), None);
-    assert_eq!(Refusal::of(25), None);
+    assert_eq!(Refusal::of(27), None);
     assert_eq!(Refusal::TooDeep.to_string(), "refused 10: a fifth nested RJ call would be needed");
 }
 

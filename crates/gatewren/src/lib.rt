@@ -1,5 +1,6 @@
 // The C interface, for C and Rust to link: the leaves and the entries under C names. A list only; what each does is in its crate.
 mod bench_layer;
+mod decimals;
 mod entries;
 mod fused_leaf;
 mod leaves;

@@ -7,6 +7,7 @@ mod text;
 pub use crate::numbers::put_decimal;
 pub use crate::numbers::put_places;
 pub use crate::numbers::put_word;
+pub use crate::numbers::width;
 pub use crate::room::OUT;
 pub use crate::room::has_room;
 pub use crate::room::least;

@@ -35,6 +35,13 @@ fn places(n: u64, more: usize) -> usize
     more + 1
 }
 
+// In how many decimal digits a word is written.
+pub fn width(n: u64) -> usize
+    ensures { λ r. ⌜ r ≡ placesOf 19 n ⌝ }
+{
+    places(n, 19)
+}
+
 // The last k digits of n, from the last to the first; the place after them.
 fn spell(n: u64, base: u64, k: usize, out: &mut [u8], at: usize) -> usize
     requires { ⌜ 0 < base ⌝ }

@@ -1,7 +1,7 @@
 -- `euler_row` meets its contract: each arm's row is worked out and compared. Assumes nothing.
 use borrow.Author.Tests.{le-ltb}
 use Rattle.enclosure.specs.Pieces.{row, numerators}
-use Rattle.pieces_rows.proofs.Arms.{past}
+use Rattle.algebra.specs.Arms.{past}
 use Rattle.pieces_rows.proofs.euler.euler_row.Statement.{statement}
 use Rattle.pieces_rows.proofs.euler.euler_row.Tie as tie
 

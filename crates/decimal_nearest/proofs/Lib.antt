@@ -1,0 +1,2 @@
+-- `Far`: which decimal numbers the long road does not reach, and what they round to.
+mod Far

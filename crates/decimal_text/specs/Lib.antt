@@ -1,0 +1,5 @@
+pub mod Shape
+pub mod Text
+pub mod Bounds
+pub mod Plain
+pub mod Examples

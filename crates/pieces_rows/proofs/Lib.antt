@@ -1,2 +1,0 @@
--- `Arms`: what the last arm of a match tells.
-mod Arms
