@@ -2,6 +2,7 @@
 //! limit's own nanosecond; `drag-files` writes lines and their answers for the programs and the bindings, `make-bench` those of
 //! examples/cuts. A period is m / 2^s, so T * 2^s, m * 10^9 and LIMIT * 2^s stand side by side.
 
+use crate::lengths;
 use crate::lines::root;
 use crate::random::Random;
 use crate::swing;
@@ -171,26 +172,34 @@ fn knee_text(name: &str, [length, height, gravity, time, limit]: Knee) -> String
     format!("{name} {length} {height} {gravity} {time} {limit}")
 }
 
-/// N good lines and their answers, as target/drag/knees.txt and knees.expected, and N pairs of peaks likewise: for tools/bench-answers.
+/// The same with its two lengths in a way that `lengths` has.
+fn lengths_text(name: &str, [length, height, gravity, time, limit]: Knee, way: u64) -> String {
+    format!("{name} {} {} {gravity} {time} {limit}", lengths::text(length, way), lengths::text(height, way))
+}
+
+/// N good lines and their answers, as target/drag/knees.txt and knees.expected, the same with lengths in millimetres as measured.txt, and N
+/// pairs of peaks, in millimetres most of them: for tools/bench-answers.
 pub fn files(n: u64, seed: u64) -> bool {
     let mut random = Random::new(seed);
-    let (mut text, mut answers) = (String::new(), String::new());
+    let (mut text, mut measured, mut answers) = (String::new(), String::new(), String::new());
     for i in 0..n {
         let knee = by_chance(&mut random);
         let name = format!("K{i}");
         writeln!(text, "{}", knee_text(&name, knee)).expect("a text takes what is written");
+        writeln!(measured, "{}", lengths_text(&name, knee, i % 4)).expect("a text takes what is written");
         answers += &verdict_line(&name, knee);
     }
     let (mut pairs, mut decrements) = (String::new(), String::new());
-    for _ in 0..n {
+    for i in 0..n {
         let (a, b) = peaks(&mut random);
-        writeln!(pairs, "{a} {b}").expect("a text takes what is written");
+        writeln!(pairs, "{} {}", lengths::text(a, i % 4), lengths::text(b, i % 3)).expect("a text takes what is written");
         decrements += &decrement_line(a, b);
     }
     let folder = root().join("target/drag");
     let put = |name: &str, text: String| std::fs::write(folder.join(name), text).expect("the file can be written");
     std::fs::create_dir_all(&folder).expect("the folder can be made");
     put("knees.txt", text);
+    put("measured.txt", measured);
     put("knees.expected", answers);
     put("peaks.txt", pairs);
     put("peaks.expected", decrements);
@@ -199,7 +208,7 @@ pub fn files(n: u64, seed: u64) -> bool {
 }
 
 /// What a line lacks or has too much.
-const BAD: [&str; 12] = [
+const BAD: [&str; 17] = [
     "",
     " K 1 1 1 1 1",
     "K 1 1 1 1",
@@ -212,27 +221,36 @@ const BAD: [&str; 12] = [
     "K\r 1 1 1 1 1",
     "K 1 1 1 1 1\r\r",
     "a_name_of_thirty-three_bytes_long 1 1 1 1 1",
+    "K 250.0001 mm 1 1 1 1",
+    "K 250 mm 50 mm 9806650 mm 1 1",
+    "K 250 mm 50 mm 9806650 1 mm 1",
+    "K 250.5 50 mm 9806650 1 1",
+    "K 250. mm 50 mm 9806650 1 1",
 ];
+
+/// Enough for each bad line once.
+const LINES: usize = 4 * BAD.len() + 2;
 
 /// Knees of several blocks and their answers, and peaks likewise, with carriage returns on some; the last line lacks its newline.
 fn blocks() -> [(&'static str, String, String); 2] {
     let mut random = Random::new(31);
     let (mut knees, mut verdicts, mut pairs, mut decrements) = (String::new(), String::new(), String::new(), String::new());
-    for i in 0..50 {
+    for i in 0..LINES {
         if i % 4 == 3 {
             knees += BAD[i / 4];
             verdicts += "bad line\n";
         } else {
             let name = "a_name_of_thirty-two_bytes_it_is".get(..1 + random.below(32) as usize).expect("one byte a letter");
             let knee = by_chance(&mut random);
-            knees += &knee_text(name, knee);
+            knees += &lengths_text(name, knee, i as u64 % 6);
             verdicts += &verdict_line(name, knee);
         }
         let (a, b) = peaks(&mut random);
         let odd = i % 7 == 6;
-        pairs += &if odd { format!("{a}  {b}") } else { format!("{a} {b}") };
+        let [first, second] = [a, b].map(|n| lengths::text(n, i as u64 % 5));
+        pairs += &if odd { format!("{first}  {second}") } else { format!("{first} {second}") };
         decrements += &if odd { "bad line\n".to_string() } else { decrement_line(a, b) };
-        let end = if i == 49 { "" } else if random.coin() { "\r\n" } else { "\n" };
+        let end = if i == LINES - 1 { "" } else if random.coin() { "\r\n" } else { "\n" };
         knees += end;
         pairs += end;
     }

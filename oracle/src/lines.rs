@@ -2,6 +2,7 @@
 //! from docs/DECISIONS.md, "The swing's lines".
 
 use crate::call::{shown, Call, Entry};
+use crate::lengths::{measured, whole};
 use crate::profile;
 use crate::swing::{judged, summed};
 use doc01::Answer;
@@ -50,7 +51,7 @@ impl Program {
         match self {
             Program::Listing => call(line).is_some(),
             Program::Profile => profile_call(line).is_some(),
-            Program::Swing => matches!(numbers(line).as_deref(), Some([_, _, _])),
+            Program::Swing => matches!(measured(line).as_deref(), Some([_, _, _])),
             Program::Steps => matches!(numbers(line).as_deref(), Some([0..=65535])),
         }
     }
@@ -100,8 +101,7 @@ fn call(line: &[u8]) -> Option<Call> {
 
 /// The numbers of a line, if that is all it has: each a u64 in its shortest form, one blank between.
 fn numbers(line: &[u8]) -> Option<Vec<u64>> {
-    let number = |word: &str| word.parse::<u64>().ok().filter(|n| n.to_string() == word);
-    std::str::from_utf8(line).ok()?.split(' ').map(number).collect()
+    std::str::from_utf8(line).ok()?.split(' ').map(whole).collect()
 }
 
 /// Document 02, 2026-14: a call of the profile; cel's are none.
@@ -123,7 +123,7 @@ fn listing(input: &[u8], header: &str, read: fn(&[u8]) -> Option<Call>, answer: 
 fn swing(input: &[u8]) -> String {
     let mut text = String::new();
     for line in lines(input) {
-        text += &match numbers(line).as_deref() {
+        text += &match measured(line).as_deref() {
             Some(&[length, height, gravity]) => match judged((length, height, gravity)) {
                 Answer::Value(bits, _) => format!("{bits:016X} {}\n", seconds(f64::from_bits(bits))),
                 Answer::Refused(number) => format!("refused {number}\n"),
@@ -203,11 +203,12 @@ mod tests {
             assert_eq!(numbers(bad.as_bytes()), None, "{bad}");
         }
         assert_eq!(
-            said(Program::Swing, b"250000 50000 9806650\n0 1 1\n1 2 1\n1 1"),
-            "3FF07A114C26A24A 1.029801652398\nrefused 11\nrefused 12\nbad line\n"
+            said(Program::Swing, b"250000 50000 9806650\n250 mm 50.0 mm 9806650\n0 1 1\n1 2 1\n1 1"),
+            "3FF07A114C26A24A 1.029801652398\n3FF07A114C26A24A 1.029801652398\nrefused 11\nrefused 12\nbad line\n"
         );
         assert_eq!(said(Program::Steps, b""), "bad line\n");
         assert_eq!(said(Program::Steps, b"x\n7\n65536\n65535\n0"), "bad line\nbad line\n8\n");
+        assert_eq!(said(Program::Steps, b"7 mm\n7\n8"), "bad line\n7\n");
         assert_eq!(said(Program::Steps, b"18446744073709551615\n3\n4\n"), "refused 13\n");
     }
 

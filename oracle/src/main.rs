@@ -15,6 +15,7 @@ mod fuzz;
 mod gatewren;
 mod in_range;
 mod leaf;
+mod lengths;
 mod lines;
 mod list;
 mod listing;

@@ -1,9 +1,10 @@
 -- A line of which something has come is no longer at its start. Assumes nothing.
-use Prim.Native.Nat.{ℕ, _+_}
+use Prim.Native.Nat.{ℕ}
 use mathlib.Core.Path.{_≡_, refl}
 use mathlib.Core.Bool.{Bool, true, false, cond}
 use lib.Dec.{eqb, ltb}
-use Rattle.bench_read.specs.Rows.{stagedOf, endedAt, swingFed, timesFed, blankAfter, otherAfter, rowAfter}
+use Rattle.millimetres.specs.Measured.{lastBegun}
+use Rattle.bench_read.specs.Rows.{stagedOf, fieldAt, swingFed, timesFed, swingBlank, blankAfter, otherAfter, rowAfter}
 use Rattle.bench_read.specs.declared.rows.Row.{Row}
 
 pub begins : (r : Row) (b : ℕ) → eqb (rowAfter r b .stage) 0 ≡ false
@@ -11,21 +12,20 @@ unfolding rowAfter stagedOf
 begins r b = go (ltb (r .stage) 2) (eqb b 13) (eqb b 32)
   where
     blank : eqb (blankAfter r .stage) 0 ≡ false
-    blank = unfold blankAfter endedAt swingFed timesFed in by (eqb (r .ended) 0) (eqb (r .ended) 3) (ltb (r .ended) 3)
+    blank = unfold blankAfter swingBlank in by (eqb (r .field) 0) (eqb (r .field) 1) (lastBegun (r .swing))
       where
         by : (t u v : Bool)
-            → eqb (cond t (endedAt r 1) (cond u (endedAt r 4) (cond v (swingFed r (r .ended + 1) 32) (timesFed r 32))) .stage) 0
-            ≡ false
-        by true u v = unfold endedAt in refl
-        by false true v = unfold endedAt in refl
-        by false false true = unfold swingFed in refl
-        by false false false = unfold timesFed in refl
+            → eqb (cond t (fieldAt r 1) (cond u (cond v (fieldAt r 2) (swingFed r 32)) (timesFed r 32)) .stage) 0 ≡ false
+        by true u v = unfold fieldAt in refl
+        by false true true = unfold fieldAt in refl
+        by false true false = unfold swingFed in refl
+        by false false v = unfold timesFed in refl
 
     other : eqb (otherAfter r b .stage) 0 ≡ false
-    other = unfold otherAfter endedAt swingFed timesFed in by (eqb (r .ended) 0) (ltb (r .ended) 4)
+    other = unfold otherAfter in by (eqb (r .field) 0) (eqb (r .field) 1)
       where
-        by : (t u : Bool) → eqb (cond t (endedAt r 0) (cond u (swingFed r (r .ended) b) (timesFed r b)) .stage) 0 ≡ false
-        by true u = unfold endedAt in refl
+        by : (t u : Bool) → eqb (cond t (fieldAt r 0) (cond u (swingFed r b) (timesFed r b)) .stage) 0 ≡ false
+        by true u = unfold fieldAt in refl
         by false true = unfold swingFed in refl
         by false false = unfold timesFed in refl
 

@@ -1,9 +1,11 @@
 -- A line of the bench, byte by byte (docs/DECISIONS.md, "From the light gate to a verdict"). Definitions only.
-use Prim.Native.Nat.{ℕ, _+_}
+use Prim.Native.Nat.{ℕ}
 use mathlib.Core.Bool.{Bool, not, _&&_, cond}
-use mathlib.Core.List.{List, [], _∷_}
+use mathlib.Core.List.{[]}
 use lib.Dec.{eqb, ltb, leb}
-use Rattle.swing_read.specs.Reading.{startOf, byteAfter, lineOf}
+use Rattle.swing_read.specs.Reading.{lineOf}
+use Rattle.millimetres.specs.Measured.{lengthsFrom, plainFrom, byteMeasured, atEnd, lastBegun}
+use Rattle.millimetres.specs.declared.Measured.{Measured}
 use Rattle.swing_read.specs.declared.Reading.{Reading}
 use Rattle.swing_read.specs.declared.Line.{Line}
 use Rattle.swing_read.specs.declared.Line.the-variants.{One, Three, Bad as NoLine}
@@ -13,34 +15,40 @@ use Rattle.bench_read.specs.declared.ends.Knee.the-variants.{Good, Bad}
 use Rattle.bench_read.specs.declared.ends.Peaks.{Peaks}
 use Rattle.bench_read.specs.declared.ends.Peaks.the-variants.{Two, Bad as NoPeaks}
 
--- nothing has come, and so many fields are behind: none of a knee's, four of the peaks'
+-- a knee's last two numbers are times, two peaks are lengths, which may be in millimetres as the swing's may
+unfoldable pub timesFrom : ℕ → Measured
+timesFrom field = cond (eqb field 0) plainFrom lengthsFrom
+
+-- nothing has come: a knee begins in its name (0), before the swing (1) and what is behind it (2); two peaks begin there
 unfoldable pub rowFrom : ℕ → Row
-rowFrom ended = record { stage = 0; ended = ended; swing = startOf; times = startOf }
+rowFrom field = record { stage = 0; field = field; swing = lengthsFrom; times = timesFrom field }
 
 -- a byte of the name: what comes before the first blank, and no carriage return
 unfoldable pub named : Row → ℕ → Bool
-named r b = ltb (r .stage) 2 && (eqb (r .ended) 0 && (not (eqb b 13) && not (eqb b 32)))
+named r b = ltb (r .stage) 2 && (eqb (r .field) 0 && (not (eqb b 13) && not (eqb b 32)))
 
 unfoldable pub stagedOf : Row → ℕ → Row
-stagedOf r stage = record { stage = stage; ended = r .ended; swing = r .swing; times = r .times }
+stagedOf r stage = record { stage = stage; field = r .field; swing = r .swing; times = r .times }
 
-unfoldable pub endedAt : Row → ℕ → Row
-endedAt r ended = record { stage = 1; ended = ended; swing = r .swing; times = r .times }
+unfoldable pub fieldAt : Row → ℕ → Row
+fieldAt r field = record { stage = 1; field = field; swing = r .swing; times = r .times }
 
-unfoldable pub swingFed : Row → ℕ → ℕ → Row
-swingFed r ended b = record { stage = 1; ended = ended; swing = byteAfter (r .swing) b; times = r .times }
+unfoldable pub swingFed : Row → ℕ → Row
+swingFed r b = record { stage = 1; field = r .field; swing = byteMeasured (r .swing) b; times = r .times }
 
 unfoldable pub timesFed : Row → ℕ → Row
-timesFed r b = record { stage = 1; ended = r .ended; swing = r .swing; times = byteAfter (r .times) b }
+timesFed r b = record { stage = 1; field = r .field; swing = r .swing; times = byteMeasured (r .times) b }
 
--- the first blank ends the name and the fourth the swing; the others are the readers'
+-- the swing ends at the blank (32) behind its third number, which is no length; the blanks before are its reader's
+unfoldable pub swingBlank : Row → Row
+swingBlank r = cond (lastBegun (r .swing)) (fieldAt r 2) (swingFed r 32)
+
+-- the first blank ends the name
 unfoldable pub blankAfter : Row → Row
-blankAfter r =
-    cond (eqb (r .ended) 0) (endedAt r 1)
-    (cond (eqb (r .ended) 3) (endedAt r 4) (cond (ltb (r .ended) 3) (swingFed r (r .ended + 1) 32) (timesFed r 32)))
+blankAfter r = cond (eqb (r .field) 0) (fieldAt r 1) (cond (eqb (r .field) 1) (swingBlank r) (timesFed r 32))
 
 unfoldable pub otherAfter : Row → ℕ → Row
-otherAfter r b = cond (eqb (r .ended) 0) (endedAt r 0) (cond (ltb (r .ended) 4) (swingFed r (r .ended) b) (timesFed r b))
+otherAfter r b = cond (eqb (r .field) 0) (fieldAt r 0) (cond (eqb (r .field) 1) (swingFed r b) (timesFed r b))
 
 -- a carriage return (13) may come last; what comes after it makes the line bad
 unfoldable pub rowAfter : Row → ℕ → Row
@@ -66,7 +74,7 @@ unfoldable pub wellNamed : ℕ → Bool
 wellNamed name = ltb 0 name && leb name 32
 
 unfoldable pub kneeOf : Row → ℕ → Knee
-kneeOf r name = cond (ltb (r .stage) 3 && wellNamed name) (withSwing (lineOf (r .swing)) (pairOf (r .times))) Bad
+kneeOf r name = cond (ltb (r .stage) 3 && wellNamed name) (withSwing (lineOf (atEnd (r .swing))) (pairOf (atEnd (r .times)))) Bad
 
 unfoldable pub peaksOf : Row → Peaks
-peaksOf r = cond (ltb (r .stage) 3) (pairOf (r .times)) NoPeaks
+peaksOf r = cond (ltb (r .stage) 3) (pairOf (atEnd (r .times))) NoPeaks

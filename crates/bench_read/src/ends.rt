@@ -1,5 +1,6 @@
 // What a line is, where it ends.
 use crate::rows::Row;
+use millimetres::at_end;
 use swing_read::Line;
 use swing_read::Reading;
 use swing_read::close;
@@ -69,7 +70,7 @@ pub fn knee_of(r: Row, name: usize) -> Knee
     let times = r.times;
     if r.stage < 3 {
         if well_named(name) {
-            return with_swing(close(swing), pair(times));
+            return with_swing(close(at_end(swing)), pair(at_end(times)));
         }
         return Knee::Bad;
     }
@@ -81,7 +82,7 @@ pub fn peaks_of(r: Row) -> Peaks
 {
     let times = r.times;
     if r.stage < 3 {
-        return pair(times);
+        return pair(at_end(times));
     }
     Peaks::Bad
 }

@@ -1,28 +1,40 @@
 // What is known of a line that has not ended.
-use swing_read::Reading;
-use swing_read::start;
-use swing_read::step;
+use millimetres::Measured;
+use millimetres::last_begun;
+use millimetres::lengths;
+use millimetres::measure;
+use millimetres::plain;
 ghost use mathlib.Core.Path.{_≡_};
-ghost use Rattle.bench_read.specs.Rows.{rowFrom, named, stagedOf, endedAt, swingFed, timesFed, blankAfter, otherAfter};
-ghost use Rattle.bench_read.specs.Rows.{rowAfter};
+ghost use Rattle.bench_read.specs.Rows.{timesFrom, rowFrom, named, stagedOf, fieldAt, swingFed, timesFed, blankAfter, otherAfter};
+ghost use Rattle.bench_read.specs.Rows.{rowAfter, swingBlank};
 
-// How far the line is: 0 nothing has come, 1 something, 2 a carriage return last, 3 something after that, which makes it bad. How
-// many fields have ended, up to four. What is read of `L h g`, and of the two numbers that come last.
+// How far the line is: 0 nothing has come, 1 something, 2 a carriage return last, 3 something after that, which makes it bad. Where
+// it is: 0 in the name, 1 in the swing, 2 behind it. What is read of `L h g`, and of the two numbers that come last.
 pub struct Row {
     pub stage: u64,
-    pub ended: u64,
-    pub swing: Reading,
-    pub times: Reading,
+    pub field: u64,
+    pub swing: Measured,
+    pub times: Measured,
 }
 
-fn row_from(ended: u64) -> Row
-    ensures { λ r. ⌜ r ≡ rowFrom ended ⌝ }
+// A knee's last two numbers are times; two peaks are lengths.
+fn times_from(field: u64) -> Measured
+    ensures { λ m. ⌜ m ≡ timesFrom field ⌝ }
+{
+    if field == 0 {
+        return plain();
+    }
+    lengths()
+}
+
+fn row_from(field: u64) -> Row
+    ensures { λ r. ⌜ r ≡ rowFrom field ⌝ }
 {
     Row {
         stage: 0,
-        ended,
-        swing: start(),
-        times: start(),
+        field,
+        swing: lengths(),
+        times: times_from(field),
     }
 }
 
@@ -34,9 +46,9 @@ pub fn knee_start() -> Row
 
 // Peaks have no name and no swing: what comes are the last two numbers.
 pub fn peaks_start() -> Row
-    ensures { λ r. ⌜ r ≡ rowFrom 4 ⌝ }
+    ensures { λ r. ⌜ r ≡ rowFrom 2 ⌝ }
 {
-    row_from(4)
+    row_from(2)
 }
 
 // Whether the byte is one of the name.
@@ -44,7 +56,7 @@ pub fn naming(r: Row, b: u8) -> bool
     ensures { λ t. ⌜ t ≡ named r b ⌝ }
 {
     if r.stage < 2 {
-        if r.ended == 0 {
+        if r.field == 0 {
             if b == b'\r' {
                 return false;
             }
@@ -62,34 +74,34 @@ fn staged(r: Row, stage: u64) -> Row
     let times = r.times;
     Row {
         stage,
-        ended: r.ended,
+        field: r.field,
         swing,
         times,
     }
 }
 
-fn ended_at(r: Row, ended: u64) -> Row
-    ensures { λ s. ⌜ s ≡ endedAt r ended ⌝ }
+fn field_at(r: Row, field: u64) -> Row
+    ensures { λ s. ⌜ s ≡ fieldAt r field ⌝ }
 {
     let swing = r.swing;
     let times = r.times;
     Row {
         stage: 1,
-        ended,
+        field,
         swing,
         times,
     }
 }
 
-fn swing_fed(r: Row, ended: u64, b: u8) -> Row
-    ensures { λ s. ⌜ s ≡ swingFed r ended b ⌝ }
+fn swing_fed(r: Row, b: u8) -> Row
+    ensures { λ s. ⌜ s ≡ swingFed r b ⌝ }
 {
     let swing = r.swing;
     let times = r.times;
     Row {
         stage: 1,
-        ended,
-        swing: step(swing, b),
+        field: r.field,
+        swing: measure(swing, b),
         times,
     }
 }
@@ -101,24 +113,32 @@ fn times_fed(r: Row, b: u8) -> Row
     let times = r.times;
     Row {
         stage: 1,
-        ended: r.ended,
+        field: r.field,
         swing,
-        times: step(times, b),
+        times: measure(times, b),
     }
 }
 
-// The first blank ends the name and the fourth the swing; the others are the readers'.
+// The swing ends behind its third number, which is no length.
+fn swing_blank(r: Row) -> Row
+    ensures { λ s. ⌜ s ≡ swingBlank r ⌝ }
+{
+    let swing = r.swing;
+    if last_begun(swing) {
+        return field_at(r, 2);
+    }
+    swing_fed(r, b' ')
+}
+
+// The first blank ends the name.
 fn blank(r: Row) -> Row
     ensures { λ s. ⌜ s ≡ blankAfter r ⌝ }
 {
-    if r.ended == 0 {
-        return ended_at(r, 1);
+    if r.field == 0 {
+        return field_at(r, 1);
     }
-    if r.ended == 3 {
-        return ended_at(r, 4);
-    }
-    if r.ended < 3 {
-        return swing_fed(r, r.ended + 1, b' ');
+    if r.field == 1 {
+        return swing_blank(r);
     }
     times_fed(r, b' ')
 }
@@ -126,11 +146,11 @@ fn blank(r: Row) -> Row
 fn other(r: Row, b: u8) -> Row
     ensures { λ s. ⌜ s ≡ otherAfter r b ⌝ }
 {
-    if r.ended == 0 {
-        return ended_at(r, 0);
+    if r.field == 0 {
+        return field_at(r, 0);
     }
-    if r.ended < 4 {
-        return swing_fed(r, r.ended, b);
+    if r.field == 1 {
+        return swing_fed(r, b);
     }
     times_fed(r, b)
 }

@@ -15,7 +15,7 @@ use Rattle.bench_stream.specs.declared.lines.State.{State}
 -- ---- the code's state
 -- at a line's start: of peaks, or of a knee
 unfoldable pub startRow : Bool → Row
-startRow decays = cond decays (rowFrom 4) (rowFrom 0)
+startRow decays = cond decays (rowFrom 2) (rowFrom 0)
 
 -- before the first byte
 unfoldable pub stateFrom : Bool → State

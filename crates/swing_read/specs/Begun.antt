@@ -44,7 +44,7 @@ blank-begins r = go (r .begun) (eqb (r .ended) 0) (eqb (r .ended) 1)
     go true false false = refl
     go false u v = refl
 
-byte-begins : (r : Reading) (b : ℕ) → atStart (byteAfter r b) ≡ false
+pub byte-begins : (r : Reading) (b : ℕ) → atStart (byteAfter r b) ≡ false
 unfolding byteAfter
 byte-begins r b = go (eqb (r .ended) 3) refl (eqb b 32) (ltb b 48) (ltb b 58)
   where

@@ -28,7 +28,7 @@ unfolding bytesAfter
 bytes-last l r b = bytes-more l r (b ∷ [])
 
 -- a reading of a line that is not bad, by its fields
-abbrev at : ℕ → ℕ → ℕ → Bool → ℕ → Reading
+abbrev pub at : ℕ → ℕ → ℕ → Bool → ℕ → Reading
 at ended first second begun value = record { ended = ended; first = first; second = second; begun = begun; value = value }
 
 module _ (k a b : ℕ) (K : k < 3) where
@@ -36,7 +36,7 @@ module _ (k a b : ℕ) (K : k < 3) where
   not-bad e = omega arith
 
   -- a digit
-  digit-read : (begun : Bool) (v d : ℕ) → d < 10 → roomFor begun v d ≡ true
+  pub digit-read : (begun : Bool) (v d : ℕ) → d < 10 → roomFor begun v d ≡ true
       → byteAfter (at k a b begun v) (48 + d) ≡ at k a b true (v * 10 + d)
   unfolding byteAfter digitAfter
   digit-read begun v d h room =
@@ -58,7 +58,7 @@ module _ (k a b : ℕ) (K : k < 3) where
   unfolding roomFor
   next-room v d h u = rw (ne-eqb v 0 (λ e. omega arith), lt-ltb (v * 10 + d) (2 ^ 64) u)
 
-  glyph : (d : ℕ) → d < 10 → glyphOf d ≡ 48 + d
+  pub glyph : (d : ℕ) → d < 10 → glyphOf d ≡ 48 + d
   unfolding glyphOf
   glyph d h = rw (lt-ltb d 10 h)
 

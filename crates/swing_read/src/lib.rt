@@ -30,7 +30,7 @@ pub fn start() -> Reading
     }
 }
 
-fn spoilt() -> Reading
+pub fn spoilt() -> Reading
     ensures { λ r. ⌜ r ≡ spoiltOf ⌝ }
 {
     Reading {

@@ -12,6 +12,7 @@ use Rattle.swing.specs.Period.{periodOf}
 use Rattle.swing_read.specs.Reading.{lineOf}
 use Rattle.swing_read.specs.declared.Line.{Line}
 use Rattle.swing_read.specs.declared.Line.the-variants.{One, Three, Bad}
+use Rattle.millimetres.specs.Measured.{atEnd}
 use Rattle.swing_write.specs.Replies.{totalText, longestSwing, longestTotal}
 use Rattle.swing_write.specs.Lengths.{swing-length, total-length}
 use Rattle.swing_stream.specs.Lines.{taken, swingSaid, stepsSaid, saidTo}
@@ -34,7 +35,7 @@ steps-said-length s l = either (taken (s .known) l) [] badText longestSwing (ome
 
 pub said-length : (s : State) → length (said s) ≤ longestSwing
 unfolding said saidTo
-said-length s = let l = lineOf (s .reading) in either (s .counting) (stepsSaid s l) (swingSaid l) longestSwing
+said-length s = let l = lineOf (atEnd (s .reading)) in either (s .counting) (stepsSaid s l) (swingSaid l) longestSwing
     (steps-said-length s l) (swing-said-length l)
 
 pub byte-short : (s : State) (b : ℕ) → Short longestSwing 0 (swingByte s b)

@@ -6,22 +6,27 @@ use lib.Dec.{ltb}
 use Rattle.writing.specs.Bad.{badText}
 use Rattle.swing.specs.Period.{periodOf}
 use Rattle.steplog.specs.Steps.{logFrom, logAfter}
-use Rattle.swing_read.specs.Reading.{startOf}
 use Rattle.swing_read.specs.declared.Line.{Line}
 use Rattle.swing_read.specs.declared.Line.the-variants.{One, Three, Bad}
+use Rattle.millimetres.specs.Measured.{lengthsFrom, plainFrom}
+use Rattle.millimetres.specs.declared.Measured.{Measured}
 use Rattle.swing_write.specs.Replies.{swingText}
 use Rattle.swing_stream.specs.declared.lines.State.{State}
 
+-- at a line's start: the swing's has lengths, which may be in millimetres, the step log's has none
+unfoldable pub lineStart : Bool → Measured
+lineStart counting = cond counting plainFrom lengthsFrom
+
 -- before the first byte: the swing's lines, or the step log's
 unfoldable pub swingsFrom : State
-swingsFrom = record { counting = false; known = false; log = logFrom 0; reading = startOf }
+swingsFrom = record { counting = false; known = false; log = logFrom 0; reading = lineStart false }
 
 unfoldable pub stepsFrom : State
-stepsFrom = record { counting = true; known = false; log = logFrom 0; reading = startOf }
+stepsFrom = record { counting = true; known = false; log = logFrom 0; reading = lineStart true }
 
 -- a line has ended, and left the rest as it was
 unfoldable pub fresh : State → State
-fresh s = record { counting = s .counting; known = s .known; log = s .log; reading = startOf }
+fresh s = record { counting = s .counting; known = s .known; log = s .log; reading = lineStart (s .counting) }
 
 -- ---- a line of the swing: L, h and g
 unfoldable pub swingSaid : Line → List ℕ
@@ -44,7 +49,7 @@ noted s n = record {
   known = true;
   log = cond (s .known) (logAfter (s .log) n) (logFrom n);
   reading =
-      startOf;
+      lineStart (s .counting);
 }
 
 unfoldable pub stepsAfter : State → Line → State

@@ -5,18 +5,19 @@ use mathlib.Core.List.{List, [], _∷_, _++_}
 use lib.Dec.{eqb}
 use Rattle.writing.specs.Bad.{badText}
 use Rattle.writing.specs.Fed.{Ran, quiet, Fed, run}
-use Rattle.swing_read.specs.Reading.{byteAfter, lineOf, readLine, atStart}
+use Rattle.swing_read.specs.Reading.{lineOf}
+use Rattle.millimetres.specs.Measured.{byteMeasured, atEnd, measuredLine, unread}
 use Rattle.swing_write.specs.Replies.{totalText, longestSwing, longestTotal}
-use Rattle.swing_stream.specs.Lines.{afterLine, saidTo}
+use Rattle.swing_stream.specs.Lines.{lineStart, afterLine, saidTo}
 use Rattle.swing_stream.specs.declared.lines.State.{State}
 use Rattle.swing_stream.specs.declared.stream.Progress.{Progress}
 
 -- ---- the line that is read so far ends
 unfoldable pub heard : State → State
-heard s = afterLine s (lineOf (s .reading))
+heard s = afterLine s (lineOf (atEnd (s .reading)))
 
 unfoldable pub said : State → List ℕ
-said s = saidTo s (lineOf (s .reading))
+said s = saidTo s (lineOf (atEnd (s .reading)))
 
 -- nothing is counted
 abbrev pub lineEnd : State → Ran State
@@ -29,7 +30,7 @@ swingByte s b = cond (eqb b 10) (lineEnd s) (quiet (record {
   known = s .known;
   log = s .log;
   reading =
-      byteAfter (s .reading) b;
+      byteMeasured (s .reading) b;
 }))
 
 -- some bytes, whatever they are
@@ -41,12 +42,14 @@ unfoldable pub saidAtEnd : State → List ℕ
 saidAtEnd s = cond (s .counting) (cond (s .known) (totalText (s .log .sum)) badText) []
 
 unfoldable pub saidLast : State → List ℕ
-saidLast s = cond (atStart (s .reading)) (saidAtEnd s) (said s ++ saidAtEnd (heard s))
+saidLast s = cond (unread (s .reading)) (saidAtEnd s) (said s ++ saidAtEnd (heard s))
 
 -- ---- what is right: a reply to each line of the input, in order, and what is said at its end
 unfoldable pub repliesFrom : State → List (List ℕ) → List ℕ
 repliesFrom s [] = saidAtEnd s
-repliesFrom s (l ∷ ls) = saidTo s (readLine l) ++ repliesFrom (afterLine s (readLine l)) ls
+repliesFrom s (l ∷ ls) =
+    let line = measuredLine (lineStart (s .counting)) l in
+    saidTo s line ++ repliesFrom (afterLine s line) ls
 
 -- so many bytes are read at once: the replies to them fit, if each ends a line
 abbrev pub blockLength : ℕ

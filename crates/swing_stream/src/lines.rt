@@ -1,10 +1,11 @@
 // A line that has ended: the state after it, and what is said to it.
+use millimetres::Measured;
+use millimetres::lengths;
+use millimetres::plain;
 use steplog::Log;
 use steplog::log_from;
 use steplog::logged;
 use swing_read::Line;
-use swing_read::Reading;
-use swing_read::start;
 use swing_write::put_swing;
 use writing::put_text;
 ghost use mathlib.Core.Path.{_≡_};
@@ -14,6 +15,7 @@ ghost use lib.ListN.{length};
 ghost use Rattle.writing.specs.Written.{Put};
 ghost use Rattle.swing_write.specs.Replies.{longestSwing};
 ghost use Rattle.swing_stream.specs.Lines.{
+  lineStart,
   swingsFrom,
   stepsFrom,
   fresh,
@@ -31,7 +33,17 @@ pub struct State {
     pub counting: bool,
     pub known: bool,
     pub log: Log,
-    pub reading: Reading,
+    pub reading: Measured,
+}
+
+// Nothing has come of a line: the swing's has lengths, the step log's has none.
+fn line_start(counting: bool) -> Measured
+    ensures { λ m. ⌜ m ≡ lineStart counting ⌝ }
+{
+    if counting {
+        return plain();
+    }
+    lengths()
 }
 
 pub fn swings_begin() -> State
@@ -41,7 +53,7 @@ pub fn swings_begin() -> State
         counting: false,
         known: false,
         log: log_from(0),
-        reading: start(),
+        reading: line_start(false),
     }
 }
 
@@ -52,7 +64,7 @@ pub fn steps_begin() -> State
         counting: true,
         known: false,
         log: log_from(0),
-        reading: start(),
+        reading: line_start(true),
     }
 }
 
@@ -65,7 +77,7 @@ fn renewed(s: State) -> State
         counting: s.counting,
         known: s.known,
         log,
-        reading: start(),
+        reading: line_start(s.counting),
     }
 }
 
@@ -89,14 +101,14 @@ fn note(s: State, n: u64) -> State
             counting: s.counting,
             known: true,
             log: logged(log, n as u16),
-            reading: start(),
+            reading: line_start(s.counting),
         };
     }
     State {
         counting: s.counting,
         known: true,
         log: log_from(n),
-        reading: start(),
+        reading: line_start(s.counting),
     }
 }
 

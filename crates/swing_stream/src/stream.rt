@@ -2,9 +2,10 @@
 use crate::lines::State;
 use crate::lines::after_line;
 use crate::lines::put_line;
+use millimetres::at_end;
+use millimetres::measure;
+use millimetres::nothing_measured;
 use swing_read::close;
-use swing_read::nothing;
-use swing_read::step;
 use swing_write::put_total;
 use writing::OUT;
 use writing::least;
@@ -31,7 +32,7 @@ fn line_end(s: State, out: &mut [u8], used: usize) -> Progress
     ensures { λ r. ⌜ Swings (lineEnd s) (now (out .entry)) used (now (out .exit)) r ⌝ }
 {
     let reading = s.reading;
-    let line = close(reading);
+    let line = close(at_end(reading));
     Progress {
         state: after_line(s, line),
         used: put_line(s, line, out, used),
@@ -52,7 +53,7 @@ fn byte(b: u8, s: State, out: &mut [u8], used: usize) -> Progress
             counting: s.counting,
             known: s.known,
             log,
-            reading: step(reading, b),
+            reading: measure(reading, b),
         },
         used,
     }
@@ -108,7 +109,7 @@ fn last(s: State, out: &mut [u8]) -> usize
     ensures { λ r. ⌜ r ≤ longestLast ⌝ }
 {
     let reading = s.reading;
-    if nothing(reading) {
+    if nothing_measured(reading) {
         return closing(s, out, 0);
     }
     let told = line_end(s, out, 0);

@@ -1,10 +1,11 @@
-//! The lines of the swing and of the step log: whole numbers, and what only a number can have wrong.
+//! The lines of the swing and of the step log: whole numbers, lengths in millimetres, and what only a number can have wrong.
 
+use crate::lengths;
 use crate::lines::Program;
 use crate::random::Random;
 use crate::swing::by_chance;
 
-pub const KINDS: [&str; 7] = [
+pub const KINDS: [&str; 9] = [
     "a digit changed",
     "a zero in front",
     "a sign in front",
@@ -12,6 +13,8 @@ pub const KINDS: [&str; 7] = [
     "a number of many digits",
     "a number missing",
     "a number too many",
+    "a length too fine",
+    "a unit gone wrong",
 ];
 
 /// Three numbers, or one that is a reading.
@@ -19,6 +22,7 @@ pub fn good(random: &mut Random, program: Program) -> Vec<u8> {
     match program {
         Program::Swing => {
             let (length, height, gravity) = by_chance(random);
+            let [length, height] = [length, height].map(|n| lengths::by_chance(n, random));
             format!("{length} {height} {gravity}").into_bytes()
         }
         _ => (random.below(65536) >> random.below(17)).to_string().into_bytes(),
@@ -43,7 +47,9 @@ pub fn made(random: &mut Random, kind: usize, line: Vec<u8>, program: Program) -
         3 => words[at] = (u128::from(u64::MAX) - 2 + u128::from(random.below(5))).to_string(),
         4 => words[at] = (0..20 + random.below(300)).map(|_| char::from(b'1' + random.below(9) as u8)).collect(),
         5 => drop(words.remove(at)),
-        _ => words.insert(at, if program == Program::Swing { word } else { random.word().to_string() }),
+        6 => words.insert(at, if program == Program::Swing { word } else { random.word().to_string() }),
+        7 => words[at] = format!("{word}.{:03}{} mm", random.below(1000), random.below(100)),
+        _ => words[at] = format!("{word}{}", random.pick(&["mm", " m", " mmm", " mm mm", ". mm", ".5", ".5mm", " MM", " um"])),
     }
     words.join(" ").into_bytes()
 }

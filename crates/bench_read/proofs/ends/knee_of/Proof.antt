@@ -14,13 +14,18 @@ knee-of-spec =
     (λ c κs. tt)
     (λ c κs. tt)
     (λ c κs. tt)
+    (λ c κs. tt)
+    (λ c κs. tt)
     (λ c.
     let p = c .before in
-    let t = p .before .before in
+    let e = p .before .before .before in
+    let t = e .before in
     rw (
       lt-ltb _ _ (t .before .before .if1 .taken),
       sym (t .before .well-named .ensures) ∙ t .if2 .taken,
-      sym (p .before .close .ensures),
+      sym (e .at-end .ensures),
+      sym (p .before .before .close .ensures),
+      sym (p .before .at-end2 .ensures),
       sym (p .pair .ensures),
     ) (c .with-swing .ensures))
     (λ c. rw (lt-ltb _ _ (c .before .before .if1 .taken), sym (c .before .well-named .ensures) ∙ c .if2 .left))

@@ -1,4 +1,5 @@
 -- `peaks_of` meets its contract: its tests are those of the definition, in its order. Assumes nothing.
+use mathlib.Core.Path.{sym}
 use borrow.Author.Tests.{lt-ltb, le-ltb}
 use Rattle.bench_read.specs.Rows.{peaksOf}
 use Rattle.bench_read.proofs.ends.peaks_of.Statement.{statement}
@@ -10,5 +11,6 @@ peaks-of-spec =
     tie.close
     (tie.spec
     (λ c κs. tt)
-    (λ c. rw (lt-ltb _ _ (c .before .if1 .taken)) (c .pair .ensures))
+    (λ c κs. tt)
+    (λ c. rw (lt-ltb _ _ (c .before .before .if1 .taken), sym (c .before .at-end .ensures)) (c .pair .ensures))
     (λ c. rw (le-ltb _ _ (c .if1 .left))))

@@ -11,4 +11,4 @@ row-from-spec =
     (tie.spec
     (λ c κs. tt)
     (λ c κs. tt)
-    (λ c. rw (c .before .start .ensures, c .start2 .ensures)))
+    (λ c. rw (sym (c .before .lengths .ensures), sym (c .times-from .ensures))))

@@ -6,4 +6,4 @@ use Rattle.swing_stream.proofs.lines.renewed.Tie as tie
 
 pub renewed-spec : {M : Type 1} → statement M
 unfolding fresh
-renewed-spec = tie.close (tie.spec (λ c κs. tt) (λ c. rw (sym (c .start .ensures))))
+renewed-spec = tie.close (tie.spec (λ c κs. tt) (λ c. rw (sym (c .line-start .ensures))))

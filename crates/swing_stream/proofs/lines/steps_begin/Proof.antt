@@ -7,4 +7,4 @@ use Rattle.swing_stream.proofs.lines.steps_begin.Tie as tie
 pub steps-begin-spec : {M : Type 1} → statement M
 unfolding stepsFrom
 steps-begin-spec = tie.close (tie.spec (λ c κs. tt) (λ c κs. tt)
-    (λ c. rw (sym (c .before .log-from .ensures), sym (c .start .ensures))))
+    (λ c. rw (sym (c .before .log-from .ensures), sym (c .line-start .ensures))))

@@ -7,4 +7,4 @@ use Rattle.swing_stream.proofs.lines.swings_begin.Tie as tie
 pub swings-begin-spec : {M : Type 1} → statement M
 unfolding swingsFrom
 swings-begin-spec = tie.close (tie.spec (λ c κs. tt) (λ c κs. tt)
-    (λ c. rw (sym (c .before .log-from .ensures), sym (c .start .ensures))))
+    (λ c. rw (sym (c .before .log-from .ensures), sym (c .line-start .ensures))))

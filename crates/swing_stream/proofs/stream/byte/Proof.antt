@@ -7,14 +7,14 @@ use borrow.Author.Tests.{eq-eqb, ne-eqb}
 use Rattle.writing.specs.Fed.{Fed}
 use Rattle.writing.specs.FedLaws.{fed-quiet}
 use Rattle.writing.specs.Written.{put-length}
-use Rattle.swing_read.specs.Reading.{byteAfter}
+use Rattle.millimetres.specs.Measured.{byteMeasured}
 use Rattle.swing_stream.specs.Stream.{swingByte}
-use Rattle.swing_read.specs.declared.Reading.{Reading}
+use Rattle.millimetres.specs.declared.Measured.{Measured}
 use Rattle.swing_stream.specs.declared.lines.State.{State}
 use Rattle.swing_stream.proofs.stream.byte.Statement.{statement}
 use Rattle.swing_stream.proofs.stream.byte.Tie as tie
 
-goes-on : (s : State) (r : Reading) (b : ℕ) (o : List ℕ) (at : ℕ) → (b ≡ 10 → ⊥) → r ≡ byteAfter (s .reading) b
+goes-on : (s : State) (r : Measured) (b : ℕ) (o : List ℕ) (at : ℕ) → (b ≡ 10 → ⊥) → r ≡ byteMeasured (s .reading) b
     → Fed (swingByte s b) (record { counting = s .counting; known = s .known; log = s .log; reading = r }) o at o at 0
 unfolding swingByte
 goes-on s r b o at ne e = rw (ne-eqb b 10 ne, e) (fed-quiet _ o at)
@@ -31,4 +31,4 @@ byte-spec =
     (λ c. put-length (returns c .said))
     returns
     (λ c κs. tt)
-    (λ c. goes-on _ _ _ _ _ (c .before .before .before .if1 .left) (c .step .ensures)))
+    (λ c. goes-on _ _ _ _ _ (c .before .before .before .if1 .left) (c .measure .ensures)))

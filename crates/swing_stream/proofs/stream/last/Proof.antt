@@ -6,7 +6,7 @@ use mathlib.Core.List.{List, _++_}
 use native.Mathlib.Omega.{arith}
 use Rattle.writing.specs.Fed.{Fed}
 use Rattle.writing.specs.Written.{Put, put-more, put-length, place-most}
-use Rattle.swing_read.specs.Reading.{atStart}
+use Rattle.millimetres.specs.Measured.{unread}
 use Rattle.swing_write.specs.Replies.{longestSwing, longestTotal}
 use Rattle.swing_stream.specs.Stream.{heard, said, lineEnd, saidAtEnd, saidLast}
 use Rattle.swing_stream.specs.declared.lines.State.{State}
@@ -14,13 +14,13 @@ use Rattle.swing_stream.proofs.Lengths.{said-length, said-end-length}
 use Rattle.swing_stream.proofs.stream.last.Statement.{statement}
 use Rattle.swing_stream.proofs.stream.last.Tie as tie
 
-ended : (s : State) (o out : List ℕ) (next : ℕ) → atStart (s .reading) ≡ true → Put o 0 (saidAtEnd s) out next
+ended : (s : State) (o out : List ℕ) (next : ℕ) → unread (s .reading) ≡ true → Put o 0 (saidAtEnd s) out next
     → Put o 0 (saidLast s) out next
 unfolding saidLast
 ended s o out next e p = subst (λ (b : Bool). Put o 0 (cond b (saidAtEnd s) (said s ++ saidAtEnd (heard s))) out next) (sym e) p
 
 begun :
-    (s t : State) (o half out : List ℕ) (h next : ℕ) → atStart (s .reading) ≡ false → Fed (lineEnd s) t o 0 half h 0
+    (s t : State) (o half out : List ℕ) (h next : ℕ) → unread (s .reading) ≡ false → Fed (lineEnd s) t o 0 half h 0
     → Put half h (saidAtEnd t) out next
     → Put o 0 (saidLast s) out next
 unfolding saidLast
@@ -32,7 +32,7 @@ returns : tie.Need-returns
 returns c =
     let k = c .before .before in
     let p = k .closing .ensures in (
-      ended _ _ _ _ (sym (k .before .before .before .nothing .ensures) ∙ k .before .before .if1 .taken) p,
+      ended _ _ _ _ (sym (k .before .before .before .nothing-measured .ensures) ∙ k .before .before .if1 .taken) p,
       omega (arith, place-most longestTotal p (said-end-length _)),
     )
 
@@ -41,7 +41,7 @@ returns-2 c =
     let k = c .before .before in
     let e = k .before .before .before .before .before in
     let p = k .closing2 .ensures in (
-      begun _ _ _ _ _ _ _ (sym (e .before .before .before .nothing .ensures) ∙ e .before .before .if1 .left)
+      begun _ _ _ _ _ _ _ (sym (e .before .before .before .nothing-measured .ensures) ∙ e .before .before .if1 .left)
           (e .line-end .ensures) p,
       omega (
         arith,

@@ -1,0 +1,3 @@
+pub mod Measured
+pub mod MeasuredLaws
+pub mod Begun
