@@ -15,8 +15,8 @@ ghost use mathlib.Core.Bool.{_&&_};
 ghost use lib.Dec.{T};
 ghost use lib.Ieee.{neg, lt, le};
 ghost use Rattle.carlson.specs.Constants.{half};
-ghost use Rattle.rj_positive.specs.Helper.{hundredth, three-halves, Outside, AtHalf};
-ghost use Rattle.rj_positive.specs.Helper.{byAtan1p, byLogs1p, byRc1p, byLn1p, rc1p};
+ghost use Rattle.rj_term.specs.Helper.{hundredth, three-halves, Outside, AtHalf};
+ghost use Rattle.rj_term.specs.Helper.{byAtan1p, byLogs1p, byRc1p, byLn1p, rc1p};
 
 fn by_atan(y: f64) -> f64
     requires { ⌜ T (lt hundredth y) ⌝ }

@@ -1,7 +1,7 @@
 -- `by_ln` meets its contract, step by step as its definition. Assumes nothing.
-use Rattle.rj_positive.specs.Helper.{byLn1p}
-use Rattle.rj_positive.proofs.helper.by_ln.Statement.{statement}
-use Rattle.rj_positive.proofs.helper.by_ln.Tie as tie
+use Rattle.rj_term.specs.Helper.{byLn1p}
+use Rattle.rj_term.proofs.helper.by_ln.Statement.{statement}
+use Rattle.rj_term.proofs.helper.by_ln.Tie as tie
 
 pub by-ln-spec : {M : Type 1} → statement M
 unfolding byLn1p

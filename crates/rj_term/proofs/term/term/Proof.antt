@@ -3,9 +3,9 @@
 use mathlib.Core.Path.{sym, subst}
 use mathlib.Core.Bool.{not}
 use lib.Dec.{T}
-use Rattle.rj_positive.specs.Duplicate.{rjTerm}
-use Rattle.rj_positive.proofs.duplicate.term.Statement.{statement}
-use Rattle.rj_positive.proofs.duplicate.term.Tie as tie
+use Rattle.rj_term.specs.Term.{rjTerm}
+use Rattle.rj_term.proofs.term.term.Statement.{statement}
+use Rattle.rj_term.proofs.term.term.Tie as tie
 
 -- below -1/2, by the second test
 elliprc1p-requires : tie.Need-elliprc1p-requires

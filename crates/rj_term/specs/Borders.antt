@@ -20,8 +20,8 @@ use Rattle.polynomial.specs.Polynomial.{horner}
 use Rattle.carlson.specs.Constants.{zero, one, two, half}
 use Rattle.carlson.specs.Answer.{closedAt}
 use Rattle.carlson.specs.declared.answer.Found.{Found}
-use Rattle.rj_positive.specs.Helper.{hundredth, three-halves, Outside, AtHalf, lnArgument}
-use Rattle.rj_positive.specs.Helper.{byAtan1p, byLogs1p, byRc1p, byLn1p, rc1p}
+use Rattle.rj_term.specs.Helper.{hundredth, three-halves, Outside, AtHalf, lnArgument}
+use Rattle.rj_term.specs.Helper.{byAtan1p, byLogs1p, byRc1p, byLn1p, rc1p}
 
 -- ---- the tests that lead to a branch, in the order of `rc1p`
 abbrev pub past : Float → Bool

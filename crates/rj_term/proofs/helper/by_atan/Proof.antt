@@ -1,7 +1,7 @@
 -- `by_atan` meets its contract, step by step as its definition. Assumes nothing.
-use Rattle.rj_positive.specs.Helper.{byAtan1p}
-use Rattle.rj_positive.proofs.helper.by_atan.Statement.{statement}
-use Rattle.rj_positive.proofs.helper.by_atan.Tie as tie
+use Rattle.rj_term.specs.Helper.{byAtan1p}
+use Rattle.rj_term.proofs.helper.by_atan.Statement.{statement}
+use Rattle.rj_term.proofs.helper.by_atan.Tie as tie
 
 pub by-atan-spec : {M : Type 1} → statement M
 unfolding byAtan1p

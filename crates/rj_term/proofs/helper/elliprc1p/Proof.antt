@@ -7,10 +7,10 @@ use lib.Ieee.{Float, neg, lt, le}
 use lib.Ieee.Fits.{and-i}
 use Rattle.binary64.specs.Leaves.{absolute}
 use Rattle.carlson.specs.Constants.{zero, one, half}
-use Rattle.rj_positive.specs.Helper.{hundredth, rc1p}
-use Rattle.rj_positive.specs.Borders.{past, atan-reached, logs-reached, rc-reached-from-rj, ln-reached-from-rj}
-use Rattle.rj_positive.proofs.helper.elliprc1p.Statement.{statement}
-use Rattle.rj_positive.proofs.helper.elliprc1p.Tie as tie
+use Rattle.rj_term.specs.Helper.{hundredth, rc1p}
+use Rattle.rj_term.specs.Borders.{past, atan-reached, logs-reached, rc-reached-from-rj, ln-reached-from-rj}
+use Rattle.rj_term.proofs.helper.elliprc1p.Statement.{statement}
+use Rattle.rj_term.proofs.helper.elliprc1p.Tie as tie
 
 yes : {b : Bool} → b ≡ true → T b
 yes e = subst T (sym e) tt
