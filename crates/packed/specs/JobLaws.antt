@@ -9,13 +9,13 @@ use borrow.Author.Tests.{eqb-true, eqb-false, ltb-true, ltb-false, lt-ltb, le-lt
 use lib.Dec.{eqb, ltb, lit<}
 use lib.ListN.{length, drop, length-append, length-drop}
 use lib.Seq.{drop-drop, drop-append-seam}
-use Rattle.packed.specs.Numbers.{numberBytes, numberAt}
+use Rattle.packed_number.specs.Numbers.{numberBytes, numberAt}
 use Rattle.packed.specs.Jobs.{unknown-function, arityOf, argumentOf, withArgument, argumentBytes, jobBytes, jobLength}
 use Rattle.packed.specs.Reading.{begun, functionRead, argumentRead, argumentAt, argumentAfter, jobAt, readAt}
 use Rattle.packed.specs.LengthLaws.{number-least, job-length-sum}
-use Rattle.packed.specs.NumberLaws.{Bytes, Stands, number-at-back, number-at-bytes}
-use Rattle.packed.specs.declared.numbers.Number.{Number}
-use Rattle.packed.specs.declared.numbers.Number.the-variants.{Whole, Refused as NoNumber}
+use Rattle.packed_number.specs.NumberLaws.{Bytes, Stands, number-at-back, number-at-bytes}
+use Rattle.packed_number.specs.declared.Number.{Number}
+use Rattle.packed_number.specs.declared.Number.the-variants.{Whole, Refused as NoNumber}
 use Rattle.packed.specs.declared.jobs.Job.{Job}
 use Rattle.packed.specs.declared.read.Got.{Got}
 use Rattle.packed.specs.declared.read.Read.{Read}

@@ -7,7 +7,7 @@ use native.Mathlib.Omega.{arith}
 use borrow.Author.Tests.{eqb-true, lt-ltb}
 use lib.Dec.{eqb, ltb}
 use lib.ListN.{length, length-append}
-use Rattle.packed.specs.Numbers.{groupsOf, numberBytes}
+use Rattle.packed_number.specs.Numbers.{groupsOf, numberBytes}
 use Rattle.packed.specs.Jobs.{arityOf, argumentOf, argumentBytes, jobBytes, jobLength}
 use Rattle.packed.specs.declared.jobs.Job.{Job}
 

@@ -9,7 +9,7 @@ use borrow.Author.Tests.{le-ltb}
 use lib.ListN.{length, getD, drop, length-append, length-drop}
 use Rattle.packed.specs.Jobs.{jobBytes, jobLength}
 use Rattle.packed.specs.LengthLaws.{job-some}
-use Rattle.packed.specs.NumberLaws.{Bytes}
+use Rattle.packed_number.specs.NumberLaws.{Bytes}
 use Rattle.packed.specs.JobLaws.{read-is}
 use Rattle.packed.specs.Reading.{Jobs, jobs, stopped, withJob, readOn, readAt, readFrom, readAll}
 use Rattle.packed.specs.declared.read.Got.{Got}

@@ -12,7 +12,7 @@ use lib.Dec.{eqb, leb, ltb, eqb·suc-suc, eqb·suc-zero}
 use lib.ListN.{length, getD, drop, length-drop}
 use lib.Seq.{drop-cons, drop-drop}
 use Rattle.algebra.specs.Order.{lt-or-le, same-ltb}
-use Rattle.packed.specs.NumberLaws.{Bytes}
+use Rattle.packed_number.specs.NumberLaws.{Bytes}
 use Rattle.packed.specs.RestLaws.{found-later}
 use Rattle.packed.specs.Reading.{Jobs, jobs, stopped, withJob, readOn, readAt, readFrom, readAll}
 use Rattle.packed.specs.declared.jobs.Job.{Job}

@@ -6,7 +6,7 @@ use mathlib.Core.List.{List, [], _∷_}
 use native.Mathlib.Omega.{arith}
 use lib.Dec.{eqb, ltb}
 use lib.ListN.{length, drop}
-use Rattle.packed.specs.Numbers.{list-cut, number-bad, lastGroup, numberFrom, numberAt}
+use Rattle.packed_number.specs.Numbers.{list-cut, number-bad, lastGroup, numberFrom, numberAt}
 use Rattle.packed.specs.Jobs.{unknown-function, arityOf}
 use Rattle.packed.specs.Reading.{
   begun,
@@ -24,8 +24,8 @@ use Rattle.packed.specs.Reading.{
   readFrom,
   readAll,
 }
-use Rattle.packed.specs.declared.numbers.Number.{Number}
-use Rattle.packed.specs.declared.numbers.Number.the-variants.{Whole, Refused as NoNumber}
+use Rattle.packed_number.specs.declared.Number.{Number}
+use Rattle.packed_number.specs.declared.Number.the-variants.{Whole, Refused as NoNumber}
 use Rattle.packed.specs.declared.jobs.Job.{Job}
 use Rattle.packed.specs.declared.read.Got.{Got}
 use Rattle.packed.specs.declared.read.Read.{Read}

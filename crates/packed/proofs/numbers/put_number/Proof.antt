@@ -8,9 +8,9 @@ use native.Mathlib.Omega.{arith}
 use denote.Ref.{now}
 use lib.ListN.{length, set, length-set}
 use lib.Seq.{sets}
-use Rattle.packed.specs.Numbers.{groupsOf, numberBytes}
+use Rattle.packed_number.specs.Numbers.{groupsOf, numberBytes}
 use Rattle.packed.specs.LengthLaws.{groups-some}
-use Rattle.packed.proofs.Groups.{groups-last, groups-more, groups-tenth, rest-less, one-bit}
+use Rattle.packed_number.specs.Groups.{groups-last, groups-more, groups-tenth, rest-less, one-bit}
 use Rattle.packed.proofs.numbers.put_number.Statement.{statement}
 use Rattle.packed.proofs.numbers.put_number.Tie as tie
 

@@ -6,7 +6,7 @@ use borrow.Author.Needs.{needs}
 use borrow.Author.Tests.{lt-ltb, le-ltb}
 use lib.ListN.{length}
 use Rattle.writing.specs.Written.{Put, put-none}
-use Rattle.packed.specs.Numbers.{numberBytes}
+use Rattle.packed_number.specs.Numbers.{numberBytes}
 use Rattle.packed.specs.Jobs.{arityOf, argumentOf, argumentBytes}
 use Rattle.packed.specs.declared.jobs.Job.{Job}
 use Rattle.packed.proofs.write.put_argument.Statement.{statement}

@@ -6,7 +6,7 @@ use native.Mathlib.Omega.{arith}
 use borrow.Author.Needs.{needs}
 use denote.Ref.{now}
 use lib.ListN.{length}
-use Rattle.packed.specs.NumberLaws.{Bytes}
+use Rattle.packed_number.specs.NumberLaws.{Bytes}
 use Rattle.packed.specs.ListLaws.{nothing-left}
 use Rattle.packed.specs.Reading.{readAt}
 use Rattle.packed.specs.declared.read.Read.the-variants.{Found}

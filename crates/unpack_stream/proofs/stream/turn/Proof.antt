@@ -13,7 +13,7 @@ use lib.Seq.{drop-cons, take-at}
 use Rattle.packed.specs.Jobs.{jobBytes, jobLength}
 use Rattle.packed.specs.LengthLaws.{job-some}
 use Rattle.packed.specs.Reading.{readAt}
-use Rattle.packed.specs.NumberLaws.{Bytes, bytes-drop}
+use Rattle.packed_number.specs.NumberLaws.{Bytes, bytes-drop}
 use Rattle.packed.specs.JobLaws.{Is, read-is}
 use Rattle.packed.specs.declared.read.Got.{Got}
 use Rattle.packed.specs.declared.read.Read.{Read}

@@ -1,9 +1,9 @@
 -- `last_group` meets its contract, test by test as its definition. Assumes nothing.
 use native.Mathlib.Omega.{arith}
 use borrow.Author.Tests.{eq-eqb, ne-eqb, lt-ltb, le-ltb}
-use Rattle.packed.specs.Numbers.{lastGroup}
-use Rattle.packed.proofs.numbers.last_group.Statement.{statement}
-use Rattle.packed.proofs.numbers.last_group.Tie as tie
+use Rattle.packed_number.specs.Numbers.{lastGroup}
+use Rattle.packed_number.proofs.last_group.Statement.{statement}
+use Rattle.packed_number.proofs.last_group.Tie as tie
 
 pub last-group-spec : {M : Type 1} → statement M
 unfolding lastGroup

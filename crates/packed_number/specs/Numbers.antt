@@ -4,8 +4,8 @@ use mathlib.Core.Bool.{cond}
 use mathlib.Core.List.{List, [], _∷_}
 use lib.Dec.{eqb, ltb}
 use lib.ListN.{drop}
-use Rattle.packed.specs.declared.numbers.Number.{Number}
-use Rattle.packed.specs.declared.numbers.Number.the-variants.{Whole, Refused}
+use Rattle.packed_number.specs.declared.Number.{Number}
+use Rattle.packed_number.specs.declared.Number.the-variants.{Whole, Refused}
 
 -- "14 the list stops inside a job"
 abbrev pub list-cut : ℕ

@@ -5,8 +5,8 @@ use mathlib.Core.Path.{_≡_, refl, sym, _∙_}
 use native.Mathlib.Omega.{arith}
 use denote.Ref.{now}
 use lib.ListN.{length, getD, drop}
-use Rattle.packed.specs.Numbers.{numberFrom, numberAt}
-use Rattle.packed.proofs.Groups.{
+use Rattle.packed_number.specs.Numbers.{numberFrom, numberAt}
+use Rattle.packed_number.specs.Groups.{
   tenth,
   weight-more,
   last-fits,
@@ -18,8 +18,8 @@ use Rattle.packed.proofs.Groups.{
   read-tenth,
   read-beyond,
 }
-use Rattle.packed.proofs.numbers.number_at.Statement.{statement}
-use Rattle.packed.proofs.numbers.number_at.Tie as tie
+use Rattle.packed_number.proofs.number_at.Statement.{statement}
+use Rattle.packed_number.proofs.number_at.Tie as tie
 
 abbrev Inv-loop : tie.InvT-loop
 Inv-loop bytes place left₀ weight₀ value₀ at₀ left weight value at =

@@ -4,10 +4,10 @@ use Prim.Native.Nat.{_+_, _-_, _≤_}
 use mathlib.Core.Path.{_≡_, refl, ap}
 use native.Mathlib.Omega.{arith}
 use lib.ListN.{length}
-use Rattle.packed.specs.Numbers.{groupsOf, numberBytes}
-use Rattle.packed.proofs.Groups.{groups-last, groups-more, groups-tenth}
-use Rattle.packed.proofs.numbers.number_length.Statement.{statement}
-use Rattle.packed.proofs.numbers.number_length.Tie as tie
+use Rattle.packed_number.specs.Numbers.{groupsOf, numberBytes}
+use Rattle.packed_number.specs.Groups.{groups-last, groups-more, groups-tenth}
+use Rattle.packed_number.proofs.number_length.Statement.{statement}
+use Rattle.packed_number.proofs.number_length.Tie as tie
 
 abbrev Inv-loop : tie.InvT-loop
 Inv-loop n left₀ rest₀ left rest = (left ≤ 9) × (9 - left + length (groupsOf left rest) ≡ length (numberBytes n))

@@ -8,10 +8,10 @@ use native.Mathlib.Omega.{arith}
 use borrow.Author.Tests.{lt-ltb, le-ltb, eq-eqb, ne-eqb}
 use lib.ListN.{length, getD, drop, drop-of-length-le}
 use lib.Seq.{drop-cons}
-use Rattle.packed.specs.Numbers.{list-cut, number-bad, groupsOf, lastGroup, numberFrom}
-use Rattle.packed.specs.NumberLaws.{power-some, group-adds}
-use Rattle.packed.specs.declared.numbers.Number.{Number}
-use Rattle.packed.specs.declared.numbers.Number.the-variants.{Whole, Refused}
+use Rattle.packed_number.specs.Numbers.{list-cut, number-bad, groupsOf, lastGroup, numberFrom}
+use Rattle.packed_number.specs.NumberLaws.{power-some, group-adds}
+use Rattle.packed_number.specs.declared.Number.{Number}
+use Rattle.packed_number.specs.declared.Number.the-variants.{Whole, Refused}
 
 -- 128 ^ 9, the weight of a tenth group
 abbrev pub tenth : ℕ

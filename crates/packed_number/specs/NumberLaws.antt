@@ -13,9 +13,9 @@ use lib.Dec.{eqb, ltb}
 use lib.ListN.{length, drop, length-append, length-drop}
 use lib.Seq.{drop-drop, drop-append-seam}
 use Rattle.algebra.specs.Order.{lt-or-le}
-use Rattle.packed.specs.Numbers.{list-cut, number-bad, groupsOf, numberBytes, lastGroup, numberFrom, numberAt}
-use Rattle.packed.specs.declared.numbers.Number.{Number}
-use Rattle.packed.specs.declared.numbers.Number.the-variants.{Whole, Refused}
+use Rattle.packed_number.specs.Numbers.{list-cut, number-bad, groupsOf, numberBytes, lastGroup, numberFrom, numberAt}
+use Rattle.packed_number.specs.declared.Number.{Number}
+use Rattle.packed_number.specs.declared.Number.the-variants.{Whole, Refused}
 
 -- a list of bytes
 abbrev pub Bytes : List ℕ → Type 0
