@@ -29,7 +29,7 @@ use Rattle.packed.specs.Reading.{
 }
 use Rattle.packed.specs.LengthLaws.{job-some}
 use Rattle.packed_number.specs.NumberLaws.{Bytes}
-use Rattle.packed.specs.JobLaws.{Proper, gotten, after, read-back, Is, read-is}
+use Rattle.packed.specs.JobLaws.{Proper, after, read-back, Is, read-is}
 use Rattle.packed_number.specs.declared.Number.{Number}
 use Rattle.packed_number.specs.declared.Number.the-variants.{Whole, Refused as NoNumber}
 use Rattle.packed.specs.declared.jobs.Job.{Job}

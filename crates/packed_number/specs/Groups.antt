@@ -1,6 +1,6 @@
 -- One group more of a number, read or written. Assumes nothing.
 use Prim.Native.Nat.{ℕ, zero, suc, _+_, _-_, _*_, _/_, _%_, _^_, _≤_, _<_}
-use mathlib.Core.Path.{_≡_, refl, sym, ap, _∙_}
+use mathlib.Core.Path.{_≡_, refl, sym}
 use mathlib.Core.List.{List, [], _∷_}
 use native.Mathlib.Nat.{mul-le-mul-right, le-mul-of-pos-right, pow-zero, pow-suc}
 use native.Mathlib.Numerals.{add-one}
@@ -10,7 +10,6 @@ use lib.ListN.{length, getD, drop, drop-of-length-le}
 use lib.Seq.{drop-cons}
 use Rattle.packed_number.specs.Numbers.{list-cut, number-bad, groupsOf, lastGroup, numberFrom}
 use Rattle.packed_number.specs.NumberLaws.{power-some, group-adds}
-use Rattle.packed_number.specs.declared.Number.{Number}
 use Rattle.packed_number.specs.declared.Number.the-variants.{Whole, Refused}
 
 -- 128 ^ 9, the weight of a tenth group

@@ -4,17 +4,13 @@ use Prim.Native.Nat.{ℕ, zero, suc, _+_, _-_, _*_, _/_, _%_, _^_, _≤_, _<_}
 use mathlib.Core.Path.{_≡_, refl, sym, ap, ap₂, _∙_}
 use mathlib.Core.Bool.{Bool, true, false, cond}
 use mathlib.Core.List.{List, [], _∷_, _++_}
-use mathlib.Core.Logic.{⊎-elim}
 use native.Mathlib.Nat.{pow-zero, pow-suc, pos-of-ne-zero}
-use native.Mathlib.Numerals.{add-one}
 use native.Mathlib.Omega.{arith}
-use borrow.Author.Tests.{eqb-true, eqb-false, ltb-true, ltb-false, lt-ltb, le-ltb, eq-eqb, ne-eqb}
+use borrow.Author.Tests.{eqb-true, eqb-false, ltb-true, ltb-false, lt-ltb, le-ltb}
 use lib.Dec.{eqb, ltb}
-use lib.ListN.{length, drop, length-append, length-drop}
-use lib.Seq.{drop-drop, drop-append-seam}
-use Rattle.algebra.specs.Order.{lt-or-le}
+use lib.ListN.{length, drop}
+use lib.Seq.{drop-drop}
 use Rattle.packed_number.specs.Numbers.{list-cut, number-bad, groupsOf, numberBytes, lastGroup, numberFrom, numberAt}
-use Rattle.packed_number.specs.declared.Number.{Number}
 use Rattle.packed_number.specs.declared.Number.the-variants.{Whole, Refused}
 
 -- a list of bytes

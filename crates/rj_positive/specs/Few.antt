@@ -11,7 +11,6 @@ use Rattle.carlson.specs.Answer.{closedAt, carriedAt, duplicationOver}
 use Rattle.carlson.specs.Loop.{capped-keeps}
 use Rattle.carlson.specs.Only.{chosen}
 use Rattle.carlson.specs.Ways.{Within, Few, counted, wider, few-wider, both-within}
-use Rattle.carlson.specs.declared.answer.Found.{Found}
 use Rattle.carlson.specs.declared.answer.Answer.{Answer}
 use Rattle.elliprc.specs.Few.{rc-within}
 use Rattle.elliprd.specs.Rd.{rdUnchecked}

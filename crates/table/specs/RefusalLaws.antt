@@ -1,7 +1,6 @@
 -- A list's own refusals are 14, 15 and 16, so that 22 is never one of them. Assumes nothing.
 use Prim.Native.Nat.{ℕ, zero, suc, _+_, _-_, _*_, _≤_}
-use mathlib.Core.Path.{_≡_, refl, sym, subst, _∙_}
-use mathlib.Core.Bool.{Bool, true, false, cond}
+use mathlib.Core.Path.{_≡_, subst}
 use mathlib.Core.List.{List, [], _∷_}
 use native.Mathlib.Omega.{arith}
 use lib.Dec.{eqb, ltb}
@@ -27,7 +26,6 @@ use Rattle.packed.specs.Reading.{
 use Rattle.packed_number.specs.declared.Number.{Number}
 use Rattle.packed_number.specs.declared.Number.the-variants.{Whole, Refused as NoNumber}
 use Rattle.packed.specs.declared.jobs.Job.{Job}
-use Rattle.packed.specs.declared.read.Got.{Got}
 use Rattle.packed.specs.declared.read.Read.{Read}
 use Rattle.packed.specs.declared.read.Read.the-variants.{Found, Nothing, Refused}
 use Rattle.carlson.specs.Only.{chosen}

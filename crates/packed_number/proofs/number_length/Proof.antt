@@ -1,7 +1,7 @@
 -- `number_length` meets its contract. The invariant: the groups passed and those of what is left are the groups of all. Assumes
 -- nothing.
 use Prim.Native.Nat.{_+_, _-_, _≤_}
-use mathlib.Core.Path.{_≡_, refl, ap}
+use mathlib.Core.Path.{_≡_, ap}
 use native.Mathlib.Omega.{arith}
 use lib.ListN.{length}
 use Rattle.packed_number.specs.Numbers.{groupsOf, numberBytes}

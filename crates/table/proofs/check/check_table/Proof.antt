@@ -1,6 +1,6 @@
 -- `check_table` meets its contract. The invariant: what is left of the list and of the words, with what is known so far, gives
 -- what all of them give. Assumes nothing.
-use Prim.Native.Nat.{ℕ, _-_, _≤_, _<_}
+use Prim.Native.Nat.{_-_, _≤_, _<_}
 use mathlib.Core.Path.{_≡_, sym, _∙_}
 use native.Mathlib.Omega.{arith}
 use borrow.Author.Needs.{needs}
