@@ -17,11 +17,11 @@ use Rattle.carlson.specs.Rescaling.{scaleOf2, rescales2, rescaling2}
 use Rattle.carlson.specs.Answer.{closedAt, carriedAt}
 use Rattle.elliprc.specs.Rc as rc
 use Rattle.elliprc.specs.Rc.{rcCases, rcSteps, rcFound, overRoot, rcUnchecked}
-use Rattle.rj_positive.specs.Helper as helper
-use Rattle.rj_positive.specs.Helper.{hundredth, three-halves, Outside, AtHalf, lnArgument, rc1p}
-use Rattle.rj_positive.specs.Borders.{past, ln-reached-from-rj}
-use Rattle.rj_positive.specs.Duplicate.{rjMiddle, rjTerm}
-use Rattle.rj_positive.specs.declared.duplicate.Roots.{Roots}
+use Rattle.rj_term.specs.Helper as helper
+use Rattle.rj_term.specs.Helper.{hundredth, three-halves, Outside, AtHalf, lnArgument, rc1p}
+use Rattle.rj_term.specs.Borders.{past, ln-reached-from-rj}
+use Rattle.rj_term.specs.Term.{rjMiddle, rjTerm}
+use Rattle.rj_term.specs.declared.term.Roots.{Roots}
 use Rattle.asked.specs.With.{Agrees, Agrees1p, ln-before, byLnWith, byLn1pWith, rcCasesWith, rcStepsWith, rcUncheckedWith}
 use Rattle.asked.specs.With.{byLogs1pWith, byRc1pWith, byLnOf1pWith, rc1pWith, rjTermWith}
 use Rattle.asked.specs.Arguments.{one-is}

@@ -14,8 +14,8 @@ use Rattle.root.specs.Root.{root}
 use Rattle.scaling.specs.Units.{Is, lt-units, neg-units}
 use Rattle.scaling.specs.Plain.{units-of}
 use Rattle.carlson.specs.Constants.{two, half}
-use Rattle.rj_positive.specs.Helper.{hundredth, AtHalf, lnArgument}
-use Rattle.rj_positive.specs.Borders.{toLogs, logs-reached, ln-from-two}
+use Rattle.rj_term.specs.Helper.{hundredth, AtHalf, lnArgument}
+use Rattle.rj_term.specs.Borders.{toLogs, logs-reached, ln-from-two}
 use Rattle.asked.specs.With.{FromTwo, Within}
 use Rattle.asked.specs.Lost.{split, neg-lost, lost-two, lost-within}
 use Rattle.asked.specs.Arguments.{half-is, root-within}

@@ -15,9 +15,9 @@ use Rattle.carlson.specs.Rescaling.{rescaling2}
 use Rattle.carlson.specs.Answer.{closedAt, carriedAt}
 use Rattle.carlson.specs.declared.answer.Found.{Found}
 use Rattle.elliprc.specs.Rc.{rcAtZero, rcAtEqual, rcByAtan, overRoot}
-use Rattle.rj_positive.specs.Helper.{hundredth, three-halves, byAtan1p, lnArgument}
-use Rattle.rj_positive.specs.Duplicate.{rjMiddle}
-use Rattle.rj_positive.specs.declared.duplicate.Roots.{Roots}
+use Rattle.rj_term.specs.Helper.{hundredth, three-halves, byAtan1p, lnArgument}
+use Rattle.rj_term.specs.Term.{rjMiddle}
+use Rattle.rj_term.specs.declared.term.Roots.{Roots}
 
 abbrev pub three-quarters : Float
 three-quarters = bits 0x3FE8_0000_0000_0000
@@ -59,7 +59,7 @@ module _ (log log1p : Float → Float) where
   unfoldable pub rcUncheckedWith : Float → Float → Found
   rcUncheckedWith = rescaling2 overRoot (λ x y. closedAt (rcStepsWith x y))
 
-  -- ---- RJ's helper: the text of crates/rj_positive/specs/Helper.antt
+  -- ---- RJ's helper: the text of crates/rj_term/specs/Helper.antt
   unfoldable pub byLogs1pWith : Float → Float
   byLogs1pWith y = let arg = root (neg y) in (log1p arg ⊖ log1p (neg arg)) ⊘ (two ⊗ root (neg y))
 
@@ -76,7 +76,7 @@ module _ (log log1p : Float → Float) where
       (cond (lt (neg half) y) (closedAt (byLogs1pWith y))
       (cond (lt y (neg one)) (byRc1pWith y) (closedAt (byLnOf1pWith y)))))
 
-  -- ---- a term of RJ's sum: the text of crates/rj_positive/specs/Duplicate.antt
+  -- ---- a term of RJ's sum: the text of crates/rj_term/specs/Term.antt
   unfoldable pub rjTermWith : Float → Roots → Float → Float → Found
   rjTermWith pn r dn en =
       cond (lt en (neg half)) (cond (lt (neg three-halves) en) (rcUncheckedWith one (rjMiddle pn r dn))

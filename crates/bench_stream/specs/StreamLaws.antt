@@ -1,17 +1,16 @@
 -- Fed block by block, the input is answered line by line, wherever the blocks are cut. Assumes nothing.
 use Prim.Native.Nat.{ℕ}
-use mathlib.Core.Path.{_≡_, refl, sym, ap, _∙_, subst}
+use mathlib.Core.Path.{_≡_, refl, subst}
 use mathlib.Core.Bool.{Bool, true, false, cond}
 use mathlib.Core.List.{List, [], _∷_, _++_, append-assoc}
-use native.Mathlib.Omega.{arith}
-use lib.Dec.{eqb, ltb}
+use lib.Dec.{eqb}
 use Rattle.writing.specs.Fed.{Ran, quiet, andRan, run}
 use Rattle.writing.specs.Input.{lastLine, linesFrom}
-use Rattle.bench_read.specs.Rows.{rowFrom, rowAfter}
+use Rattle.bench_read.specs.Rows.{rowFrom}
 use Rattle.bench_read.specs.Begun.{begins}
-use Rattle.bench_stream.specs.Lines.{Open, startRow, stateFrom, stateAfter, stateHeard, openAfter, said, heard, lineEnd}
+use Rattle.bench_stream.specs.Lines.{Open, startRow, stateAfter, stateHeard, openAfter, said, heard, lineEnd}
 use Rattle.bench_stream.specs.Lines.{benchByte, benchFrom}
-use Rattle.bench_stream.specs.Stream.{saidAtEnd, inputEnd, saidLast, opened, repliesFrom}
+use Rattle.bench_stream.specs.Stream.{inputEnd, saidLast, opened, repliesFrom}
 
 -- nothing of a line has come
 abbrev pub fresh : Open → Bool

@@ -1,6 +1,6 @@
 -- The tallies are counts over the lines, so they do not hang on the lines' order. Assumes nothing.
-use Prim.Native.Nat.{ℕ, _+_, _%_, _^_}
-use mathlib.Core.Path.{_≡_, refl, sym, ap, _∙_}
+use Prim.Native.Nat.{ℕ}
+use mathlib.Core.Path.{_≡_, refl, ap, _∙_}
 use mathlib.Core.Bool.{Bool, true, false}
 use mathlib.Core.List.{List, [], _∷_}
 use lib.Dec.{eqb}
@@ -9,7 +9,6 @@ use Rattle.bench_write.specs.declared.tallies.Tally.{Tally}
 use Rattle.bench_replies.specs.Replies.{kindOf, moreOf, countedOf, talliedOf}
 use Rattle.bench_stream.specs.Lines.{Open, under, startRow, stateFrom, stateAfter, stateHeard, openAfter, replyNow, heard}
 use Rattle.bench_stream.specs.Stream.{opened}
-use Rattle.bench_stream.specs.declared.lines.State.{State}
 
 -- at the start of a line, with these tallies
 abbrev pub atLine : Bool → Tally → Open

@@ -1,5 +1,5 @@
 -- Equal peaks do not decay: the decrement is +0. Assumes nothing.
-use Prim.Native.Nat.{ℕ, _*_, _^_}
+use Prim.Native.Nat.{ℕ, _^_}
 use mathlib.Core.Path.{_≡_, refl, _∙_}
 use mathlib.Core.Bool.{false}
 use native.Mathlib.Omega.{arith}

@@ -41,13 +41,3 @@ counted (suc more) n h = elim (lt-or-le n 10) [
   | inl l ↦ one (suc more) n l
   | inr l ↦ next more n l (counted more (n / 10) (shorter more n h))
 ]
-
--- so many digits are enough, so there are no more
-pub places-fit : (more j n : ℕ) → n < 10 ^ suc j → placesOf more n ≤ suc j
-unfolding placesOf
-places-fit zero j n h = omega arith
-places-fit (suc more) zero n h = rw (lt-ltb n 10 (omega arith)) (omega arith)
-places-fit (suc more) (suc j) n h = elim (lt-or-le n 10) [
-  | inl l ↦ rw (lt-ltb n 10 l) (omega arith)
-  | inr l ↦ rw (le-ltb n 10 l) (omega (arith, places-fit more j (n / 10) (shorter j n h)))
-]

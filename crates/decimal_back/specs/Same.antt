@@ -26,7 +26,8 @@ use Rattle.decimal_short.specs.Within.{ten-pos}
 use Rattle.decimal_text.specs.declared.shape.Shape.{Shape}
 use Rattle.decimal_text.specs.Shape.{wholeShape, pointShape, powerShape, shapeOf, shapeText}
 use Rattle.decimal_text.specs.Text.{signText}
-use Rattle.decimal_back.specs.Count.{Counted, counted, places-fit}
+use Rattle.writing.specs.Places.{places-few}
+use Rattle.decimal_back.specs.Count.{Counted, counted}
 use Rattle.decimal_back.specs.Laid.{Says, shape-says}
 
 -- the text l is a number, and its f64 that of d * 10 ^ (t - 1200)
@@ -135,7 +136,7 @@ shape-tells m d t D l u =
     k = c .k
 
     K : k ≤ 16
-    K = omega (arith, c .is, places-fit 19 16 d D)
+    K = omega (arith, c .is, places-few 16 19 d D)
 
     less : suc k - 1 ≡ k
     less = omega arith

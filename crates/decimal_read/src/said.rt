@@ -3,7 +3,7 @@ use decimal_long::long;
 use decimal_nearest::nearest;
 use decimal_scan::Scan;
 ghost use mathlib.Core.Path.{_≡_};
-ghost use mathlib.Core.Bool.{Bool, false};
+ghost use mathlib.Core.Bool.{false};
 ghost use Prim.Native.Nat.{_+_, _≤_};
 ghost use lib.Dec.{eqb};
 ghost use Rattle.decimal_scan.specs.Scan.{bad, startOf, bytesAfter};

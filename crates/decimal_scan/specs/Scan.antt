@@ -1,11 +1,10 @@
 -- A decimal as people write it: `-1.5`, `0.25`, `1e-3`, `6.02E23`. Definitions only.
 -- What has come is a phase: 0 nothing, 1 a minus, 2 digits, 3 the point, 4 digits after it, 5 the `e`, 6 its sign, 7 its digits,
 -- 8 what is no number, whatever follows.
-use Prim.Native.Nat.{ℕ, _+_, _-_, _*_, _^_}
-use mathlib.Core.Bool.{Bool, true, false, _||_, cond}
+use Prim.Native.Nat.{ℕ, _+_, _-_, _*_}
+use mathlib.Core.Bool.{Bool, true, false, cond}
 use mathlib.Core.List.{List, [], _∷_}
 use lib.Dec.{eqb, ltb, leb}
-use Rattle.decimal_scan.specs.declared.figures.Figures.{Figures}
 use Rattle.decimal_scan.specs.declared.scan.Scan.{Scan}
 use Rattle.decimal_scan.specs.Figures.{noFigures, figuresAfter, roomFor}
 

@@ -4,7 +4,7 @@ use crate::figures::after;
 use crate::figures::none;
 use crate::figures::room;
 ghost use mathlib.Core.Path.{_≡_};
-ghost use Prim.Native.Nat.{_<_, _^_};
+ghost use Prim.Native.Nat.{_<_};
 ghost use Rattle.decimal_scan.specs.Scan.{
   startOf,
   atPhase,

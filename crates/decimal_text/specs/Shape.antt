@@ -1,6 +1,6 @@
 -- How a decimal d * 10 ^ (t - 1200) is laid out for people: a whole part, places after a point, a power of ten. Definitions only.
 use Prim.Native.Nat.{ℕ, _+_, _-_, _*_, _/_, _%_, _^_}
-use mathlib.Core.Bool.{Bool, false, _&&_, cond}
+use mathlib.Core.Bool.{false, _&&_, cond}
 use mathlib.Core.List.{List, [], _∷_, _++_}
 use lib.Dec.{eqb, ltb, leb}
 use Rattle.digits.specs.Digits.{digits}

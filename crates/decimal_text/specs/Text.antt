@@ -1,6 +1,6 @@
 -- The text of an f64: the shortest decimal that reads back. Definitions only.
 use Prim.Native.Nat.{ℕ, zero, suc}
-use mathlib.Core.Bool.{Bool, true, false, cond}
+use mathlib.Core.Bool.{Bool, false, cond}
 use mathlib.Core.List.{List, [], _∷_, _++_}
 use lib.Ieee.{Float, nan, inf, fin}
 use Rattle.decimal_short.specs.Shortest.{placeOf, shortest}

@@ -6,7 +6,7 @@ use mathlib.Core.List.{[], _∷_}
 use native.Mathlib.Nat.{lt-irrefl, mul-pos, mul-one, zero-lt-suc, one-le-pow}
 use native.Mathlib.Omega.{arith}
 use lib.Dec.{eqb·suc-zero}
-use lib.IntN.{ℤ, pos}
+use lib.IntN.{pos}
 use lib.Ieee.{Float, nan, inf, fin, binary64, up, down, round, mul, div, ofInt, neg}
 use lib.Ieee.Back.{round-whole}
 use lib.Ieee.Exact.{HasValue}

@@ -5,7 +5,6 @@ use mathlib.Core.Path.{_≡_, refl}
 use mathlib.Core.Bool.{Bool, false, _&&_, _||_}
 use mathlib.Core.List.{List, [], _∷_}
 use native.Mathlib.Omega.{arith}
-use lib.Dec.{eqb}
 use lib.Ieee.{Float, lt, le, eq}
 use Rattle.binary64.specs.Leaves.{minimum, maximum}
 use Rattle.binary64.specs.Operators.{_⊗_, bits}

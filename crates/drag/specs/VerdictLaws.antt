@@ -1,8 +1,8 @@
 -- What a verdict cannot do: a slower knee never passes where a quicker one drags, nor does a knee drag by a wider limit that
 -- passes by a narrower one. `dragOf` is a function of the five numbers, so that a verdict hangs on nothing else. Assumes nothing.
-use Prim.Native.Nat.{ℕ, _+_, _*_, _^_, _≤_}
+use Prim.Native.Nat.{ℕ, _+_, _*_, _≤_}
 use mathlib.Core.Path.{_≡_, refl}
-use mathlib.Core.Bool.{Bool, true, false}
+use mathlib.Core.Bool.{true, false}
 use native.Mathlib.Nat.{le-trans, mul-le-mul-right}
 use native.Mathlib.Omega.{arith}
 use lib.Dec.{T, le→leb, leb→le}

@@ -8,7 +8,7 @@ use mathlib.Core.Logic.{inl, inr}
 use mathlib.Core.List.{[], _∷_}
 use native.Mathlib.Nat.{le-of-eq, mul-pos, mul-le-mul, pow-succ'}
 use native.Mathlib.Omega.{arith}
-use lib.Pow.{pow-pos, pow-add}
+use lib.Pow.{pow-add}
 use Rattle.algebra.specs.Ring.{con, nxt, _:+_, _:*_, _≈_, _⊩_, _times_≼_, Law, by-ring, Order, by-below}
 use Rattle.algebra.specs.Order.{lt-or-le}
 use Rattle.enclosure.specs.Quotient.{Quotient, _≼_, whole, parts, _⊞_, _⊟_, _⊠_}

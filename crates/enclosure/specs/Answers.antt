@@ -11,7 +11,7 @@ use Rattle.enclosure.specs.Quotient.{Quotient, _≼_, whole, parts, _⊞
 use Rattle.enclosure.specs.Order.{≼-refl, ≼-trans, ⊞-mono, ⊞-under, parts-join, parts-split, parts-mono}
 use Rattle.enclosure.specs.Enclosure.{atan-lower, atan-upper, steep-lower, steep-upper, ln-argument, ln-proper, ln-lower}
 use Rattle.enclosure.specs.Enclosure.{ln-upper, ln-below-lower, ln-below-upper, gain, gain-proper, loss, loss-proper}
-use Rattle.enclosure.specs.Enclosure.{double-lower, double-upper, T-lower, T-upper, Within}
+use Rattle.enclosure.specs.Enclosure.{double-lower, double-upper, Within}
 use Rattle.enclosure.specs.Pieces.{odd, terms}
 use Rattle.enclosure.specs.Rules.{atan-answer, steep-answer, T-answer, gain-seed, loss-seed, ln-answer, inverse-seed}
 use Rattle.enclosure.specs.Rules.{ln-below-answer, gain-answer, loss-answer}

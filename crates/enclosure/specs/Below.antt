@@ -2,7 +2,6 @@
 -- (`Addition`). Assumes nothing.
 use Prim.Native.Nat.{ℕ, suc, _*_, _≤_}
 use mathlib.Core.List.{[], _∷_}
-use native.Mathlib.Omega.{arith}
 use Rattle.algebra.specs.Ring.{con, nxt, _:+_, _:*_, _≈_, _⊩_, _times_≼_, Order, by-below}
 use Rattle.enclosure.specs.Quotient.{Quotient, _≼_, whole, _⊞_, _⊠_}
 use Rattle.enclosure.specs.Order.{≼-refl, ≼-trans, ⊞-mono}

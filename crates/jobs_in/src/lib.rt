@@ -2,9 +2,9 @@
 use console::Got;
 use console::read_from;
 use packed::Job;
-use packed::LIST_CUT;
 use packed::Read;
 use packed::read_job;
+use packed_number::LIST_CUT;
 use writing::least;
 ghost use Prim.Native.Nat.{_≤_};
 ghost use lib.ListN.{length};

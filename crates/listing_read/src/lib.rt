@@ -5,7 +5,7 @@ use digits::digit;
 ghost use mathlib.Core.Path.{_≡_};
 ghost use Prim.Native.Nat.{_+_, _≤_};
 ghost use mathlib.Core.List.{[], _∷_};
-ghost use lib.ListN.{length, take};
+ghost use lib.ListN.{length};
 ghost use Rattle.listing_read.specs.Lines.{argumentLength, lineLength, wordAt, same, all, named, readAs, callOf};
 
 pub enum Line {

@@ -1,11 +1,10 @@
 -- A line of our own listing is read as the claim that its answer is. Assumes nothing.
-use Prim.Native.Nat.{ℕ, zero, suc, _+_, _*_, _/_, _%_, _^_, _≤_, _<_}
+use Prim.Native.Nat.{ℕ, zero, suc, _+_, _/_, _%_, _^_, _≤_, _<_}
 use mathlib.Core.Path.{_≡_, refl, ap, _∙_}
 use mathlib.Core.Bool.{Bool, true, false, _&&_, cond}
 use mathlib.Core.List.{List, [], _∷_, _++_, append-assoc}
-use native.Mathlib.Nat.{pow-suc}
 use native.Mathlib.Omega.{arith}
-use borrow.Author.Tests.{ltb-true, le-ltb, ne-eqb}
+use borrow.Author.Tests.{le-ltb, ne-eqb}
 use lib.Dec.{T, ltb, ltb→lt, lit<, lit≤}
 use lib.Ieee.{binary64, toBits}
 use lib.Ieee.Fits.{and-l, and-r}
@@ -16,7 +15,7 @@ use Rattle.digits.specs.Digits.{glyphOf, digits, wordText}
 use Rattle.digits.specs.DigitLaws.{digits-length, read-written}
 use Rattle.digits.specs.declared.Word.the-variants.{Is, Not}
 use Rattle.writing.specs.Decimal.{placesOf, decimal}
-use Rattle.writing.specs.Places.{places-most}
+use Rattle.writing.specs.Places.{places-most, places-some, places-hold}
 use Rattle.calls.specs.Calls.{nameOf}
 use Rattle.calls.specs.declared.Call.{Call}
 use Rattle.calls.specs.declared.Call.the-variants.{Rc, Rf, Rd, Rg, Rj, Cel}
@@ -84,27 +83,6 @@ unfolding decimal
 decimal-over more n = digits-over 10 (placesOf more n) n
 
 -- ---- a number in decimal is read back
-places-some : (more n : ℕ) → 1 ≤ placesOf more n
-unfolding placesOf
-places-some zero n = omega arith
-places-some (suc more) n = go (ltb n 10)
-  where
-    go : (t : Bool) → 1 ≤ cond t 1 (suc (placesOf more (n / 10)))
-    go true = omega arith
-    go false = omega arith
-
-places-hold : (more n : ℕ) → n < 10 ^ suc more → n < 10 ^ placesOf more n
-unfolding placesOf
-places-hold zero n h = h
-places-hold (suc more) n h = go (ltb n 10) refl (places-hold more (n / 10) (less (rw (pow-suc 10 (suc more)) at h)))
-  where
-    less : n < 10 ^ suc more * 10 → n / 10 < 10 ^ suc more
-    less h = omega arith
-
-    go : (t : Bool) → ltb n 10 ≡ t → n / 10 < 10 ^ placesOf more (n / 10) → n < 10 ^ cond t 1 (suc (placesOf more (n / 10)))
-    go true e k = omega (arith, ltb-true n 10 e)
-    go false e k = rw (pow-suc 10 (placesOf more (n / 10))) (omega arith)
-
 count-back : (n : ℕ) → n < 10 ^ 10 → countOf (decimal 9 n) ≡ Is n
 unfolding countOf decimal
 count-back n h =

@@ -15,7 +15,7 @@ use Rattle.carlson.specs.declared.answer.Road.the-variants.{Closed, Infinite, A
 use Rattle.digits.specs.Digits.{digits}
 use Rattle.writing.specs.Decimal.{decimal}
 use Rattle.writing.specs.Input.{lastLine, linesFrom}
-use Rattle.packed.specs.NumberLaws.{Bytes}
+use Rattle.packed_number.specs.NumberLaws.{Bytes}
 use Rattle.packed.specs.JobLaws.{Proper}
 use Rattle.packed.specs.ListLaws.{Propers, bytes-back}
 use Rattle.packed.specs.Reading.{jobs, readAll}

@@ -1,21 +1,21 @@
 -- A job that is written is read back, whatever follows it, and what is read is how that job is written. Assumes nothing.
-use Prim.Native.Nat.{ℕ, zero, suc, _+_, _-_, _^_, _≤_, _<_}
+use Prim.Native.Nat.{ℕ, _+_, _^_, _≤_, _<_}
 use mathlib.Core.Path.{_≡_, refl, sym, ap, subst, _∙_}
 use mathlib.Core.Bool.{Bool, true, false, cond}
-use mathlib.Core.List.{List, [], _∷_, _++_, append-assoc}
+use mathlib.Core.List.{List, [], _++_, append-assoc}
 use native.Mathlib.Nat.{add-zero}
 use native.Mathlib.Omega.{arith}
-use borrow.Author.Tests.{eqb-true, eqb-false, ltb-true, ltb-false, lt-ltb, le-ltb, eq-eqb, ne-eqb}
+use borrow.Author.Tests.{eqb-true, eqb-false, ltb-true, ltb-false, lt-ltb, ne-eqb}
 use lib.Dec.{eqb, ltb, lit<}
 use lib.ListN.{length, drop, length-append, length-drop}
 use lib.Seq.{drop-drop, drop-append-seam}
-use Rattle.packed.specs.Numbers.{numberBytes, numberAt}
+use Rattle.packed_number.specs.Numbers.{numberBytes, numberAt}
 use Rattle.packed.specs.Jobs.{unknown-function, arityOf, argumentOf, withArgument, argumentBytes, jobBytes, jobLength}
 use Rattle.packed.specs.Reading.{begun, functionRead, argumentRead, argumentAt, argumentAfter, jobAt, readAt}
 use Rattle.packed.specs.LengthLaws.{number-least, job-length-sum}
-use Rattle.packed.specs.NumberLaws.{Bytes, Stands, number-at-back, number-at-bytes}
-use Rattle.packed.specs.declared.numbers.Number.{Number}
-use Rattle.packed.specs.declared.numbers.Number.the-variants.{Whole, Refused as NoNumber}
+use Rattle.packed_number.specs.NumberLaws.{Bytes, Stands, number-at-back, number-at-bytes}
+use Rattle.packed_number.specs.declared.Number.{Number}
+use Rattle.packed_number.specs.declared.Number.the-variants.{Whole, Refused as NoNumber}
 use Rattle.packed.specs.declared.jobs.Job.{Job}
 use Rattle.packed.specs.declared.read.Got.{Got}
 use Rattle.packed.specs.declared.read.Read.{Read}

@@ -4,7 +4,7 @@ use mathlib.Core.Bool.{cond}
 use mathlib.Core.List.{List, [], _∷_, _++_}
 use lib.Dec.{eqb, ltb}
 use lib.ListN.{length}
-use Rattle.packed.specs.Numbers.{numberBytes}
+use Rattle.packed_number.specs.Numbers.{numberBytes}
 use Rattle.packed.specs.declared.jobs.Job.{Job}
 
 -- "16 unknown function"

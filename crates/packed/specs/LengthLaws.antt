@@ -2,12 +2,12 @@
 use Prim.Native.Nat.{ℕ, zero, suc, _+_, _/_, _%_, _≤_, _<_}
 use mathlib.Core.Path.{_≡_, refl}
 use mathlib.Core.Bool.{Bool, true, false, cond}
-use mathlib.Core.List.{List, [], _∷_, _++_}
+use mathlib.Core.List.{[], _∷_}
 use native.Mathlib.Omega.{arith}
 use borrow.Author.Tests.{eqb-true, lt-ltb}
 use lib.Dec.{eqb, ltb}
 use lib.ListN.{length, length-append}
-use Rattle.packed.specs.Numbers.{groupsOf, numberBytes}
+use Rattle.packed_number.specs.Numbers.{groupsOf, numberBytes}
 use Rattle.packed.specs.Jobs.{arityOf, argumentOf, argumentBytes, jobBytes, jobLength}
 use Rattle.packed.specs.declared.jobs.Job.{Job}
 

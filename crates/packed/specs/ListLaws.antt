@@ -9,7 +9,7 @@ use native.Mathlib.Omega.{arith}
 use borrow.Author.Tests.{le-ltb, ltb-false}
 use lib.Dec.{eqb, ltb}
 use lib.ListN.{length, drop, length-append, length-drop, drop-of-length-le}
-use Rattle.packed.specs.Numbers.{numberAt}
+use Rattle.packed_number.specs.Numbers.{numberAt}
 use Rattle.packed.specs.Jobs.{unknown-function, arityOf, jobBytes, jobLength, listBytes}
 use Rattle.packed.specs.Reading.{
   begun,
@@ -28,10 +28,10 @@ use Rattle.packed.specs.Reading.{
   readAll,
 }
 use Rattle.packed.specs.LengthLaws.{job-some}
-use Rattle.packed.specs.NumberLaws.{Bytes}
-use Rattle.packed.specs.JobLaws.{Proper, gotten, after, read-back, Is, read-is}
-use Rattle.packed.specs.declared.numbers.Number.{Number}
-use Rattle.packed.specs.declared.numbers.Number.the-variants.{Whole, Refused as NoNumber}
+use Rattle.packed_number.specs.NumberLaws.{Bytes}
+use Rattle.packed.specs.JobLaws.{Proper, after, read-back, Is, read-is}
+use Rattle.packed_number.specs.declared.Number.{Number}
+use Rattle.packed_number.specs.declared.Number.the-variants.{Whole, Refused as NoNumber}
 use Rattle.packed.specs.declared.jobs.Job.{Job}
 use Rattle.packed.specs.declared.read.Got.{Got}
 use Rattle.packed.specs.declared.read.Read.{Read}

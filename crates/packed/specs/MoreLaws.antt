@@ -1,20 +1,20 @@
 -- "14 is given where the bytes seen so far are good": what is read otherwise stays so, whatever comes after. Assumes nothing.
 use Prim.Native.Nat.{ℕ, zero, suc, _+_, _-_, _*_, _≤_, _<_}
-use mathlib.Core.Path.{_≡_, refl, sym, ap, _∙_}
+use mathlib.Core.Path.{_≡_, refl, ap, _∙_}
 use mathlib.Core.Bool.{Bool, true, false, cond}
 use mathlib.Core.List.{List, [], _∷_, _++_}
 use mathlib.Core.Logic.{⊎-elim}
 use native.Mathlib.Omega.{arith}
-use borrow.Author.Tests.{lt-ltb, ltb-true}
+use borrow.Author.Tests.{lt-ltb}
 use lib.Dec.{eqb, ltb}
 use lib.ListN.{length, drop, length-append, length-drop, drop-of-length-le}
 use lib.Seq.{drop-append-le}
 use Rattle.algebra.specs.Order.{lt-or-le}
-use Rattle.packed.specs.Numbers.{list-cut, number-bad, numberFrom, numberAt, lastGroup}
+use Rattle.packed_number.specs.Numbers.{list-cut, number-bad, numberFrom, numberAt, lastGroup}
 use Rattle.packed.specs.Jobs.{unknown-function, arityOf}
 use Rattle.packed.specs.Reading.{begun, functionRead, argumentRead, argumentAt, argumentAfter, jobAt, readAt}
-use Rattle.packed.specs.declared.numbers.Number.{Number}
-use Rattle.packed.specs.declared.numbers.Number.the-variants.{Whole, Refused as NoNumber}
+use Rattle.packed_number.specs.declared.Number.{Number}
+use Rattle.packed_number.specs.declared.Number.the-variants.{Whole, Refused as NoNumber}
 use Rattle.packed.specs.declared.read.Got.{Got}
 use Rattle.packed.specs.declared.read.Read.{Read}
 use Rattle.packed.specs.declared.read.Read.the-variants.{Found, Nothing, Refused}

@@ -1,7 +1,7 @@
 -- What is read at a place hangs only on the bytes from there on: read from the beginning of those, only the places differ.
 -- Assumes nothing.
 use Prim.Native.Nat.{ℕ, zero, suc, _+_, _-_, _*_}
-use mathlib.Core.Path.{_≡_, refl, sym, ap, _∙_}
+use mathlib.Core.Path.{_≡_, refl, ap, _∙_}
 use mathlib.Core.Bool.{Bool, true, false, cond}
 use mathlib.Core.List.{List, [], _∷_}
 use mathlib.Core.Logic.{⊎-elim}
@@ -12,7 +12,7 @@ use lib.Dec.{eqb, ltb}
 use lib.ListN.{length, drop, length-drop}
 use lib.Seq.{drop-drop}
 use Rattle.algebra.specs.Order.{lt-or-le}
-use Rattle.packed.specs.Numbers.{number-bad, lastGroup, numberFrom, numberAt}
+use Rattle.packed_number.specs.Numbers.{number-bad, lastGroup, numberFrom, numberAt}
 use Rattle.packed.specs.Jobs.{unknown-function, arityOf}
 use Rattle.packed.specs.Reading.{
   begun,
@@ -29,8 +29,8 @@ use Rattle.packed.specs.Reading.{
   readOn,
   readFrom,
 }
-use Rattle.packed.specs.declared.numbers.Number.{Number}
-use Rattle.packed.specs.declared.numbers.Number.the-variants.{Whole, Refused as NoNumber}
+use Rattle.packed_number.specs.declared.Number.{Number}
+use Rattle.packed_number.specs.declared.Number.the-variants.{Whole, Refused as NoNumber}
 use Rattle.packed.specs.declared.jobs.Job.{Job}
 use Rattle.packed.specs.declared.read.Got.{Got}
 use Rattle.packed.specs.declared.read.Read.{Read}

@@ -4,10 +4,10 @@ use mathlib.Core.Bool.{cond}
 use mathlib.Core.List.{List, [], _∷_}
 use lib.Dec.{eqb, ltb}
 use lib.ListN.{length}
-use Rattle.packed.specs.Numbers.{numberAt}
+use Rattle.packed_number.specs.Numbers.{numberAt}
 use Rattle.packed.specs.Jobs.{unknown-function, arityOf, withArgument}
-use Rattle.packed.specs.declared.numbers.Number.{Number}
-use Rattle.packed.specs.declared.numbers.Number.the-variants.{Whole, Refused as NoNumber}
+use Rattle.packed_number.specs.declared.Number.{Number}
+use Rattle.packed_number.specs.declared.Number.the-variants.{Whole, Refused as NoNumber}
 use Rattle.packed.specs.declared.jobs.Job.{Job}
 use Rattle.packed.specs.declared.read.Got.{Got}
 use Rattle.packed.specs.declared.read.Read.{Read}

@@ -1,7 +1,6 @@
 -- A list gone through job by job: what is left of it from a place on. Assumes nothing.
 use Prim.Native.Nat.{ℕ, zero, suc, _+_, _-_, _≤_, _<_}
 use mathlib.Core.Path.{_≡_, refl, sym, ap, _∙_}
-use mathlib.Core.Bool.{true, false, cond}
 use mathlib.Core.List.{List, [], _∷_}
 use native.Mathlib.Nat.{sub-zero}
 use native.Mathlib.Omega.{arith}
@@ -9,7 +8,7 @@ use borrow.Author.Tests.{le-ltb}
 use lib.ListN.{length, getD, drop, length-append, length-drop}
 use Rattle.packed.specs.Jobs.{jobBytes, jobLength}
 use Rattle.packed.specs.LengthLaws.{job-some}
-use Rattle.packed.specs.NumberLaws.{Bytes}
+use Rattle.packed_number.specs.NumberLaws.{Bytes}
 use Rattle.packed.specs.JobLaws.{read-is}
 use Rattle.packed.specs.Reading.{Jobs, jobs, stopped, withJob, readOn, readAt, readFrom, readAll}
 use Rattle.packed.specs.declared.read.Got.{Got}

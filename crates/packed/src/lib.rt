@@ -8,7 +8,6 @@ mod write;
 pub use crate::jobs::Job;
 pub use crate::jobs::argument_of;
 pub use crate::jobs::arity;
-pub use crate::numbers::LIST_CUT;
 pub use crate::read::Got;
 pub use crate::read::Read;
 pub use crate::read::read_job;

@@ -3,10 +3,10 @@ use crate::jobs::Job;
 use crate::jobs::UNKNOWN_FUNCTION;
 use crate::jobs::arity;
 use crate::jobs::with_argument;
-use crate::numbers::Number;
-use crate::numbers::number_at;
+use packed_number::Number;
+use packed_number::number_at;
 ghost use mathlib.Core.Path.{_≡_};
-ghost use Rattle.packed.specs.Numbers.{numberAt};
+ghost use Rattle.packed_number.specs.Numbers.{numberAt};
 ghost use Rattle.packed.specs.Reading.{functionRead, argumentAt, argumentAfter, readAt};
 
 pub struct Got {

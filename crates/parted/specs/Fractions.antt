@@ -1,6 +1,6 @@
 -- The parts of a fraction are told by how whole numbers compare with twice the fraction. So equal fractions have the same, and a
 -- number that stands for a fraction, its lost digits kept as one bit, has that fraction's. Assumes nothing.
-use Prim.Native.Nat.{ℕ, _+_, _-_, _*_, _/_, _%_, _≤_, _<_, compare, Ordering, Ordering·lt, Ordering·eq, Ordering·gt}
+use Prim.Native.Nat.{ℕ, _+_, _-_, _*_, _/_, _%_, _<_, compare, Ordering, Ordering·lt, Ordering·eq, Ordering·gt}
 use mathlib.Core.Path.{_≡_, refl, sym, ap, ap₂, _∙_, subst}
 use mathlib.Core.List.{[], _∷_}
 use mathlib.Core.Logic.{inl, inr}
@@ -12,7 +12,6 @@ use Rattle.algebra.specs.Ring.{con, _:+_, _:*_, _≈_, _⊩_, _times_≼_, ring
 use Rattle.algebra.specs.Order.{Compared, compared, lt-compare, eq-compare, gt-compare, scaled-compare}
 use Rattle.rounding.specs.Jam.{Jam, jam-even}
 use Rattle.parted.specs.Parts.{sideOf, partOf, partsOf}
-use Rattle.parted.specs.declared.parts.Parts.{Parts}
 
 -- 2 n / d is 2 q, below 2 q + 1, that, or above it and below 2 q + 2; k tells which
 pub data Lies (n d q k : ℕ) : Type 0 where

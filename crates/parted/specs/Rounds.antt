@@ -1,16 +1,15 @@
 -- What the parts of a fraction round to is the whole number nearest to it, half to even; and how large they are. Assumes nothing.
 use Prim.Native.Nat.{ℕ, _+_, _-_, _*_, _/_, _%_, _^_, _≤_, _<_, compare, Ordering, Ordering·lt, Ordering·eq, Ordering·gt}
-use mathlib.Core.Path.{_≡_, refl, sym, ap, _∙_, subst}
-use mathlib.Core.Bool.{Bool, true, false, _&&_, cond}
+use mathlib.Core.Path.{_≡_, refl, ap, _∙_, subst}
+use mathlib.Core.Bool.{Bool, true, false, _&&_}
 use mathlib.Core.List.{[], _∷_}
 use mathlib.Core.Logic.{inl, inr}
-use native.Mathlib.Nat.{mod-lt, mod-eq-of-lt, add-zero, eq-zero-or-pos, le-of-eq, le-of-lt, lt-of-mul-lt-mul-right}
-use native.Mathlib.Nat.{lt-of-le-of-lt, div-lt-iff-lt-mul}
+use native.Mathlib.Nat.{mod-eq-of-lt, add-zero, eq-zero-or-pos, le-of-eq, lt-of-mul-lt-mul-right}
+use native.Mathlib.Nat.{div-lt-iff-lt-mul}
 use native.Mathlib.Numerals.{add-one}
 use native.Mathlib.Omega.{arith}
 use borrow.Author.Tests.{eq-eqb, ne-eqb}
 use lib.Dec.{T, ltb, leb, ltb→lt, leb→le}
-use lib.Pow.{pow-pos}
 use lib.Ieee.{Float, binary64, fits, toBits, nearest}
 use lib.Ieee.Fits.{and-l, and-r}
 use lib.Ieee.Nearest.{closest}
@@ -19,9 +18,8 @@ use Rattle.algebra.specs.Ring.{con, nxt, _:*_, _≈_, _⊩_, _times_≼_, below
 use Rattle.algebra.specs.Order.{lt-compare}
 use Rattle.rounding.specs.Cut.{value}
 use Rattle.rounding.specs.Value.{value-lt}
-use Rattle.parted.specs.Parts.{sideOf, partOf, partsOf, noParts, measured, partedOf, stepOf, roundedOf}
+use Rattle.parted.specs.Parts.{sideOf, partOf, partsOf, measured, partedOf, stepOf, roundedOf}
 use Rattle.parted.specs.Sizes.{size-is}
-use Rattle.parted.specs.declared.parts.Parts.{Parts}
 
 -- ---- rounding
 module _ (q : ℕ) where

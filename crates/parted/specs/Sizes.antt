@@ -1,14 +1,13 @@
 -- The parts of an f64 by its pattern: its digits over a power of two; and nothing but itself where it is small. Assumes nothing.
 use Prim.Native.Nat.{ℕ, _+_, _-_, _*_, _/_, _%_, _^_, _≤_, _<_}
-use mathlib.Core.Path.{_≡_, refl, sym, ap, ap₂, _∙_, subst}
-use mathlib.Core.Bool.{Bool, true, false, cond}
+use mathlib.Core.Path.{_≡_, refl, sym, ap, _∙_, subst}
 use mathlib.Core.List.{[], _∷_}
 use mathlib.Core.Logic.{inl, inr}
 use native.Mathlib.Nat.{eq-of-mul-eq-mul-right, le-of-mul-le-mul-right, le-of-eq, le-of-lt, zero-mul, eq-zero-or-pos, mul-pos}
 use native.Mathlib.Nat.{one-mul}
 use native.Mathlib.Omega.{arith}
 use borrow.Author.Tests.{eq-eqb, ne-eqb}
-use lib.Dec.{T, eqb}
+use lib.Dec.{T}
 use lib.Pow.{pow-pos, pow-add}
 use lib.Ieee.{Float, nan, inf, fin, binary64, fits, neg, toBits, ofBits}
 use lib.Ieee.Bits.{ofBits-toBits, toBits-lt}
@@ -18,7 +17,7 @@ use Rattle.algebra.specs.Order.{lt-or-le}
 use Rattle.rounding.specs.Cut.{value, infinity}
 use Rattle.rounding.specs.Value.{value-is, value-high, value-lt}
 use Rattle.rounding.specs.Sign.{bits-neg}
-use Rattle.parted.specs.Parts.{partsOf, noParts, tinyOf}
+use Rattle.parted.specs.Parts.{partsOf, tinyOf}
 use Rattle.parted.specs.Fractions.{none, less, found, same-parts}
 
 -- ---- the size is the pattern's without its sign

@@ -1,12 +1,11 @@
 -- A list's answers added job by job. Assumes nothing.
-use Prim.Native.Nat.{ℕ, _≤_, _<_}
+use Prim.Native.Nat.{ℕ, _≤_}
 use mathlib.Core.Path.{_≡_, refl, sym, ap, _∙_}
-use mathlib.Core.Bool.{true, false}
 use mathlib.Core.List.{List, [], _∷_}
 use borrow.Author.Tests.{eq-eqb, ne-eqb}
 use native.Mathlib.Omega.{arith}
 use lib.ListN.{length}
-use Rattle.packed.specs.NumberLaws.{Bytes}
+use Rattle.packed_number.specs.NumberLaws.{Bytes}
 use Rattle.packed.specs.Reading.{Jobs, jobs, stopped, withJob, readAt, readAll}
 use Rattle.packed.specs.RestLaws.{found-later, restAt, rest-all, rest-found, rest-refused, rest-none}
 use Rattle.packed.specs.declared.jobs.Job.{Job}

@@ -1,11 +1,11 @@
 -- The report of a work list: the same jobs in any order, lists put together of any parts, and 18. Assumes nothing.
-use Prim.Native.Nat.{ℕ, zero, suc, _+_, _*_, _%_, _^_, _≤_, _<_}
+use Prim.Native.Nat.{ℕ, zero, suc, _+_, _*_, _^_, _<_}
 use mathlib.Core.Path.{_≡_, refl, sym, ap, subst, _∙_}
 use mathlib.Core.Bool.{Bool, true, false, cond}
 use mathlib.Core.List.{List, [], _∷_, _++_}
 use native.Mathlib.Nat.{zero-add, add-zero, mod-eq-of-lt}
 use native.Mathlib.Omega.{arith}
-use borrow.Author.Tests.{eq-eqb, ne-eqb, eqb-true, eqb-false, leb-true, leb-false, lt-leb, le-leb}
+use borrow.Author.Tests.{eq-eqb, ne-eqb, eqb-true, leb-false, lt-leb}
 use lib.Dec.{eqb, leb}
 use lib.ListN.{length, getD, replicate}
 use Rattle.exact.specs.Exact.{heldSum, Reordered, nothing, kept, swapped, onward}
@@ -13,8 +13,7 @@ use Rattle.packed.specs.Jobs.{arityOf}
 use Rattle.packed.specs.Reading.{Jobs, jobs, stopped, readAll}
 use Rattle.packed.specs.declared.jobs.Job.{Job}
 use Rattle.worklist.specs.Count.{countOf}
-use Rattle.worklist.specs.declared.count.Count.{Count}
-use Rattle.worklist.specs.declared.count.Count.the-variants.{Jobs as Some, Refused}
+use Rattle.worklist.specs.declared.count.Count.the-variants.{Jobs as Some}
 use Rattle.answers.specs.Answers.{answerOf}
 use Rattle.job_answers.specs.JobAnswers.{callOfJob}
 use Rattle.table.specs.RefusalLaws.{list-numbers}
@@ -23,7 +22,7 @@ use Rattle.limbs.specs.Value.{limbsOf}
 use Rattle.tally.specs.Meaning.{callsOf, refusedOf, roundsOf, mostOf, valuesOf, wordOf, wordsFrom, blockOf}
 use Rattle.tally.specs.MeaningLaws.{block-at}
 use Rattle.tally.specs.declared.counted.Counted.{Counted}
-use Rattle.report_words.specs.Words.{blockIn, countedAdded, callsIn, callsInAll, wordsJoined}
+use Rattle.report_words.specs.Words.{countedAdded, callsIn, callsInAll}
 use Rattle.report_words.specs.Room.{most-calls, too-many, roomFor, listJudged}
 use Rattle.report_words.specs.Meaning.{Entry, countsOf, blocksFrom, reportOf, entriesAdded}
 use Rattle.report_words.specs.BlockLaws.{block-word}

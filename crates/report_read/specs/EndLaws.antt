@@ -1,16 +1,17 @@
 -- What is read at the end of a line that was written is what was written there. Assumes nothing.
-use Prim.Native.Nat.{ℕ, zero, suc, _+_, _-_, _*_, _/_, _%_, _^_, _≤_, _<_}
+use Prim.Native.Nat.{ℕ, zero, suc, _+_, _-_, _/_, _%_, _^_, _≤_, _<_}
 use mathlib.Core.Path.{_≡_, refl, ap, _∙_}
 use mathlib.Core.Bool.{Bool, true, false, cond}
 use mathlib.Core.List.{List, [], _∷_, _++_}
 use native.Mathlib.Nat.{pow-zero, pow-suc, div-add-mod', div-le-self, div-lt-iff-lt-mul, mod-lt, mod-eq-of-lt, lt-of-le-of-lt}
 use native.Mathlib.Omega.{arith}
-use borrow.Author.Tests.{ltb-true, lt-ltb, ne-eqb}
+use borrow.Author.Tests.{lt-ltb, ne-eqb}
 use lib.Dec.{eqb, leb, ltb}
 use Rattle.exact.specs.Exact.{turn, belowZero, sizeHeld}
 use Rattle.digits.specs.Digits.{digitOf, glyphOf, digits}
 use Rattle.digits.specs.DigitLaws.{digit-of-glyph}
 use Rattle.writing.specs.Decimal.{placesOf, decimal}
+use Rattle.writing.specs.Places.{places-hold}
 use Rattle.unpack_stream.specs.Text.{letterOf, nameText}
 use Rattle.report_text.specs.Text.{refusedKey, slotKey, slotLine, hexPlaces, hexText, signText, exactLine}
 use Rattle.report_text.specs.HexLaws.{size-lt, digits-hold}
@@ -42,18 +43,6 @@ module _ (base m : ℕ) (low : 1 < base) (high : base ≤ 16) where
       ∙ next n l
 
 -- ---- a word's line
-places-hold : (more n : ℕ) → n < 10 ^ suc more → n < 10 ^ placesOf more n
-unfolding placesOf
-places-hold zero n h = h
-places-hold (suc more) n h = go (ltb n 10) refl (places-hold more (n / 10) (less (rw (pow-suc 10 (suc more)) at h)))
-  where
-    less : n < 10 ^ suc more * 10 → n / 10 < 10 ^ suc more
-    less h = omega arith
-
-    go : (t : Bool) → ltb n 10 ≡ t → n / 10 < 10 ^ placesOf more (n / 10) → n < 10 ^ cond t 1 (suc (placesOf more (n / 10)))
-    go true e k = omega (arith, ltb-true n 10 e)
-    go false e k = rw (pow-suc 10 (placesOf more (n / 10))) (omega arith)
-
 -- a key ends with a blank
 refused-ends : (m v n : ℕ) → trailing 10 m v (refusedKey n) ≡ 0
 unfolding refusedKey trailing numberStep digitOf

@@ -1,22 +1,21 @@
 -- From what each function leaves to its definition. Assumes nothing.
 use Prim.Native.Nat.{ℕ, zero, suc, _+_, _-_, _*_, _≤_, _<_}
-use mathlib.Core.Path.{_≡_, refl, sym, ap, _∙_}
-use mathlib.Core.Bool.{Bool, true, false, _&&_, cond}
-use mathlib.Core.List.{List, [], _∷_, _++_}
+use mathlib.Core.Path.{_≡_, refl, sym, _∙_}
+use mathlib.Core.Bool.{Bool, true, false, _&&_}
+use mathlib.Core.List.{List, []}
 use native.Mathlib.Nat.{zero-add, suc-add, sub-zero}
 use native.Mathlib.Numerals.{add-one}
 use native.Mathlib.Omega.{arith}
-use borrow.Rule.Slice.PartMut.{midOf, putMid, same-len-mid}
+use borrow.Rule.Slice.PartMut.{midOf, putMid}
 use borrow.Author.Tests.{le-leb, lt-leb, lt-ltb, le-ltb, eq-eqb, ne-eqb, eqb-true, leb-true}
 use lib.Dec.{eqb, leb}
-use lib.ListN.{length, getD, take, drop}
+use lib.ListN.{length, getD}
 use lib.Ieee.{binary64, ofBits, round}
 use Rattle.exact.specs.Exact.{turn, belowZero, sizeHeld, roundedHeld, heldBy}
 use Rattle.tally.specs.Tally.{blockAdded, blockJoined}
 use Rattle.tally.specs.declared.counted.Counted.{Counted}
 use Rattle.report_words.specs.Words.{standsIn, countedAdded, callsIn, callsInAll, roomAfter, blocksJoined, wordsJoined}
-use Rattle.report_words.specs.Words.{blockIn, withBlock, wordAt, refusedAt, sumAt}
-use Rattle.report_words.specs.declared.calls.Room.{Room}
+use Rattle.report_words.specs.Words.{wordAt, refusedAt, sumAt}
 use Rattle.report_words.specs.declared.calls.Room.the-variants.{For, Over}
 
 -- ---- what the test tells

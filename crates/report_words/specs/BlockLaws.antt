@@ -1,20 +1,19 @@
 -- A report is its six blocks: what an answer more, and another report, make of each. Assumes nothing.
-use Prim.Native.Nat.{ℕ, zero, suc, _+_, _-_, _*_, _/_, _%_, _≤_, _<_}
+use Prim.Native.Nat.{ℕ, suc, _+_, _-_, _*_, _/_, _%_, _≤_, _<_}
 use mathlib.Core.Path.{_≡_, refl, sym, ap, _∙_}
-use mathlib.Core.Bool.{Bool, true, false, _&&_, cond}
-use mathlib.Core.List.{List, [], _∷_, _++_}
+use mathlib.Core.Bool.{Bool, true, false, cond}
+use mathlib.Core.List.{List, [], _++_}
 use mathlib.Core.Logic.{⊎-elim}
 use native.Mathlib.Omega.{arith}
-use borrow.Author.Tests.{le-leb, lt-leb, eq-eqb, ne-eqb, eqb-true, eqb-false, leb-true, leb-false}
+use borrow.Author.Tests.{eq-eqb, ne-eqb, eqb-true, eqb-false, leb-true, leb-false}
 use lib.Dec.{eqb, leb}
-use lib.ListN.{length, getD, take, drop, length-append, length-drop, List·getD-append, List·getD-eq-default}
+use lib.ListN.{length, getD, take, drop, length-append, length-drop, List·getD-append}
 use lib.Seq.{length-take-le, getD-take, getD-drop, getD-append-add, ext-getD}
 use Rattle.algebra.specs.Order.{lt-or-le}
-use Rattle.tally.specs.Tally.{blockAdded, blockJoined}
+use Rattle.tally.specs.Tally.{blockAdded}
 use Rattle.tally.specs.WordLaws.{block-length, added-swap}
-use Rattle.tally.specs.JoinLaws.{joined-length, join-comm, join-assoc}
 use Rattle.tally.specs.declared.counted.Counted.{Counted}
-use Rattle.report_words.specs.Words.{standsIn, blockIn, withBlock, countedAdded, blocksJoined, wordsJoined}
+use Rattle.report_words.specs.Words.{standsIn, blockIn, withBlock, countedAdded}
 
 -- ---- a word of a block
 pub block-word : (ws : List ℕ) (k i : ℕ) → i < 64 → getD (blockIn ws k) i 0 ≡ getD ws (k * 64 + i) 0

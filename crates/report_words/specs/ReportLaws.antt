@@ -1,23 +1,21 @@
 -- A report is that of its list of answers, in any order and put together of any parts. Assumes nothing.
-use Prim.Native.Nat.{ℕ, zero, suc, _+_, _-_, _*_, _%_, _^_, _≤_, _<_}
+use Prim.Native.Nat.{ℕ, zero, suc, _+_, _*_, _≤_, _<_}
 use mathlib.Core.Path.{_≡_, refl, sym, ap, ap₂, _∙_}
-use mathlib.Core.Bool.{Bool, true, false, _&&_, cond}
-use mathlib.Core.List.{List, [], _∷_, _++_, append-assoc}
-use native.Mathlib.Nat.{add-comm, add-assoc, add-zero, zero-add, mod-eq-of-lt}
+use mathlib.Core.Bool.{Bool, true, false, cond}
+use mathlib.Core.List.{List, [], _∷_, _++_}
+use native.Mathlib.Nat.{add-zero, zero-add}
 use native.Mathlib.Omega.{arith}
-use borrow.Author.Tests.{le-leb, lt-leb, eq-eqb, eqb-true, eqb-false, leb-true, leb-false}
-use lib.Dec.{eqb, leb}
-use lib.ListN.{length, getD, take, drop, length-append}
+use borrow.Author.Tests.{eq-eqb, eqb-true, eqb-false}
+use lib.Dec.{eqb}
+use lib.ListN.{length, take, drop, length-append}
 use lib.Seq.{take-at, drop-append-add}
 use Rattle.exact.specs.Exact.{Reordered, nothing, kept, swapped, onward}
-use Rattle.tally.specs.Tally.{blockAdded, wordJoined, blockJoined}
+use Rattle.tally.specs.Tally.{blockAdded, blockJoined}
 use Rattle.tally.specs.Meaning.{blockOf}
-use Rattle.tally.specs.WordLaws.{added-swap}
-use Rattle.tally.specs.JoinLaws.{word-joined, joined-length, join-comm, join-assoc}
+use Rattle.tally.specs.JoinLaws.{joined-length, join-comm, join-assoc}
 use Rattle.tally.specs.MeaningLaws.{block-words, block-more, block-both}
 use Rattle.tally.specs.declared.counted.Counted.{Counted}
-use Rattle.report_words.specs.Words.{blockIn, withBlock, countedAdded, callsIn, callsInAll, blocksJoined, wordsJoined}
-use Rattle.report_words.specs.Room.{roomBoth, joinNumber, joinAfter}
+use Rattle.report_words.specs.Words.{blockIn, withBlock, countedAdded, blocksJoined, wordsJoined}
 use Rattle.report_words.specs.Meaning.{Entry, countsOf, blocksFrom, reportOf, entriesAdded}
 use Rattle.report_words.specs.BlockLaws.{block-long, by-blocks, with-long, with-same, with-other, ofFunction}
 use Rattle.report_words.specs.BlockLaws.{counted-long, counted-block, counted-swap}

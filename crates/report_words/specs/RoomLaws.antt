@@ -1,21 +1,19 @@
 -- 18 exactly when the calls in all would pass 2 ^ 32 - 1, in whatever order reports are joined. Assumes nothing.
 use Prim.Native.Nat.{ℕ, zero, suc, _+_, _-_, _*_, _%_, _^_, _≤_, _<_}
 use mathlib.Core.Path.{_≡_, refl, sym, ap, _∙_}
-use mathlib.Core.Bool.{Bool, true, false, _&&_, cond}
+use mathlib.Core.Bool.{Bool, true, false, _&&_}
 use mathlib.Core.List.{List}
-use mathlib.Core.Logic.{⊎-elim}
 use native.Mathlib.Nat.{add-zero, mod-eq-of-lt}
 use native.Mathlib.Omega.{arith}
-use borrow.Author.Tests.{le-leb, lt-leb, eq-eqb, leb-true, leb-false}
+use borrow.Author.Tests.{lt-leb, eq-eqb, leb-true, leb-false}
 use lib.Dec.{leb}
 use lib.ListN.{length, getD}
-use Rattle.algebra.specs.Order.{lt-or-le}
-use Rattle.tally.specs.Tally.{wordJoined, blockJoined}
+use Rattle.tally.specs.Tally.{wordJoined}
 use Rattle.tally.specs.JoinLaws.{word-joined}
 use Rattle.report_words.specs.Words.{blockIn, callsIn, callsInAll, wordsJoined}
-use Rattle.report_words.specs.Room.{most-calls, roomBoth, joinNumber, joinAfter}
+use Rattle.report_words.specs.Room.{most-calls, roomBoth, joinNumber}
 use Rattle.report_words.specs.BlockLaws.{block-word, block-long}
-use Rattle.report_words.specs.ReportLaws.{words-long, words-block, words-comm, words-assoc}
+use Rattle.report_words.specs.ReportLaws.{words-long, words-block}
 
 calls-are : (ws : List ℕ) → length ws ≡ 384 → callsInAll ws ≡ callsIn 6 ws
 unfolding callsInAll

@@ -1,5 +1,5 @@
 -- RJ's duplication for p above zero, in the Rust's steps (elliprj.rs; document 01, Rounds). Definitions only.
-use Prim.Native.Nat.{ℕ, _+_, _%_, _^_}
+use Prim.Native.Nat.{ℕ}
 use mathlib.Core.Bool.{Bool, false, cond}
 use lib.Ieee.{Float, nan, neg, lt, le}
 use Rattle.binary64.specs.Leaves.{absolute, maximum}
@@ -7,16 +7,15 @@ use Rattle.binary64.specs.Operators.{_⊕_, _⊖_, _⊗_, _⊘_, bits}
 use Rattle.root.specs.Root.{root}
 use Rattle.power.specs.Power.{power}
 use Rattle.derived.specs.Starts.{rj-start}
-use Rattle.carlson.specs.Constants.{zero, one, two, three, four, half}
+use Rattle.carlson.specs.Constants.{zero, one, two, three, four}
 use Rattle.carlson.specs.Common.{lambdaWith, thirdKind}
 use Rattle.carlson.specs.Loop.{capped}
 use Rattle.carlson.specs.Answer.{duplicationOver}
 use Rattle.carlson.specs.declared.answer.Found.{Found}
 use Rattle.carlson.specs.declared.common.Lambda.{Lambda}
-use Rattle.elliprc.specs.Rc.{rcUnchecked}
-use Rattle.rj_positive.specs.Helper.{three-halves, rc1p}
+use Rattle.rj_term.specs.Term.{rjTerm, rjRescalings}
+use Rattle.rj_term.specs.declared.term.Roots.{Roots}
 use Rattle.rj_positive.specs.declared.duplicate.Round.{Round}
-use Rattle.rj_positive.specs.declared.duplicate.Roots.{Roots}
 
 -- by its bits: 5
 unfoldable pub rjMean : Float → Float → Float → Float → Float
@@ -55,19 +54,6 @@ rjRatio s r dn =
     cond (le (bits 0x0010_0000_0000_0000) (dn ⊗ dn)) (s .delta ⊘ (dn ⊗ dn))
     (shareOf (s .pn) (s .xn) (r .p ⊕ r .x) ⊗ shareOf (s .pn) (s .yn) (r .p ⊕ r .y) ⊗ shareOf (s .pn) (s .zn) (r .p ⊕ r .z))
 
-unfoldable pub rjMiddle : Float → Roots → Float → Float
-rjMiddle pn r dn = two ⊗ r .p ⊗ (pn ⊕ r .x ⊗ (r .y ⊕ r .z) ⊕ r .y ⊗ r .z) ⊘ dn
-
--- between -3/2 and -1/2 RC itself, at an argument that keeps its digits
-unfoldable pub rjTerm : Float → Roots → Float → Float → Found
-rjTerm pn r dn en =
-    cond (lt en (neg half)) (cond (lt (neg three-halves) en) (rcUnchecked one (rjMiddle pn r dn))
-    (rc1p en)) (rc1p en)
-
--- "the number of rescalings over the call and all it calls": those of the terms before, and of this one
-unfoldable pub rjRescalings : Round → Found → ℕ
-rjRescalings s rc = (s .rescalings + rc .way .rescalings) % 2 ^ 32
-
 -- by its bits: 64
 unfoldable pub rjMoved : Round → Lambda → Float → ℕ → Round
 rjMoved s l added rescalings = record {
@@ -86,7 +72,7 @@ unfoldable pub rjWith : Round → Roots → Round
 rjWith s r =
     let dn = rjDenominator r in
     let rc = rjTerm (s .pn) r dn (rjRatio s r dn) in
-    rjMoved s (lambdaWith (r .x) (r .y) (r .z)) (s .fmn ⊘ dn ⊗ rc .value) (rjRescalings s rc)
+    rjMoved s (lambdaWith (r .x) (r .y) (r .z)) (s .fmn ⊘ dn ⊗ rc .value) (rjRescalings (s .rescalings) rc)
 
 unfoldable pub rjStep : Round → Round
 rjStep s = rjWith s (record { x = root (s .xn); y = root (s .yn); z = root (s .zn); p = root (s .pn) })

@@ -4,29 +4,26 @@ use Prim.Native.Nat.{ℕ, suc, _+_, _≤_}
 use mathlib.Core.Path.{_≡_}
 use mathlib.Core.Bool.{false}
 use native.Mathlib.Omega.{arith}
-use lib.Ieee.{Float, neg, lt, le, eq}
-use Rattle.binary64.specs.Leaves.{absolute, maximum}
+use lib.Ieee.{Float, le, eq}
+use Rattle.binary64.specs.Leaves.{maximum}
 use Rattle.root.specs.Root.{root}
-use Rattle.carlson.specs.Constants.{one, half}
-use Rattle.carlson.specs.Constants.{zero as +0}
 use Rattle.carlson.specs.Answer.{closedAt, carriedAt, duplicationOver}
 use Rattle.carlson.specs.Loop.{capped-keeps}
 use Rattle.carlson.specs.Only.{chosen}
 use Rattle.carlson.specs.Ways.{Within, Few, counted, wider, few-wider, both-within}
-use Rattle.carlson.specs.declared.answer.Found.{Found}
 use Rattle.carlson.specs.declared.answer.Answer.{Answer}
 use Rattle.elliprc.specs.Few.{rc-within}
 use Rattle.elliprd.specs.Rd.{rdUnchecked}
 use Rattle.elliprd.specs.Few.{rd-few}
-use Rattle.rj_positive.specs.Helper.{hundredth, three-halves, byRc1p, rc1p}
+use Rattle.rj_term.specs.Term.{rjTerm, rjRescalings}
+use Rattle.rj_term.specs.Few.{term-few}
+use Rattle.rj_term.specs.declared.term.Roots.{Roots}
 use Rattle.rj_positive.specs.Duplicate.{
   rjMean,
   rjStart,
   rjBegin,
   rjRatio,
   rjDenominator,
-  rjTerm,
-  rjRescalings,
   rjMoved,
   rjWith,
   rjStep,
@@ -38,24 +35,6 @@ use Rattle.rj_positive.specs.Duplicate.{
 }
 use Rattle.rj_positive.specs.Positive.{wellApart, rjAll, rjThree, rjTwo, rjLast, rjPair, rjCases, rjPositive}
 use Rattle.rj_positive.specs.declared.duplicate.Round.{Round}
-use Rattle.rj_positive.specs.declared.duplicate.Roots.{Roots}
-
--- ---- a term of the sum is RC's, or one like it
-abbrev Term : Found → Type 0
-Term f = Within 0 1 (f .way)
-
-helper-few : (y : Float) → Term (rc1p y)
-unfolding rc1p closedAt byRc1p carriedAt
-helper-few y =
-    chosen Term (le (absolute y) hundredth) (counted 0 (omega arith))
-    (chosen Term (lt +0 y) (counted 0 (omega arith))
-    (chosen Term (lt (neg half) y) (counted 0 (omega arith))
-    (chosen Term (lt y (neg one)) (rc-within _ _) (counted 0 (omega arith)))))
-
-term-few : (pn : Float) (r : Roots) (dn en : Float) → Term (rjTerm pn r dn en)
-unfolding rjTerm
-term-few pn r dn en =
-    chosen Term (lt en (neg half)) (chosen Term (lt (neg three-halves) en) (rc-within _ _) (helper-few en)) (helper-few en)
 
 -- so a pass adds at most one rescaling
 passed : (s : Round) (n : ℕ) → s .rescalings ≤ n → rjStep s .rescalings ≤ suc n
@@ -67,7 +46,7 @@ passed s n h =
 
 -- and the modulus with which it is counted never acts
 pub passed-plain : (s : Round) (n : ℕ) → s .rescalings ≤ n → n ≤ rjCap → (pn : Float) (r : Roots) (dn en : Float)
-    → rjRescalings s (rjTerm pn r dn en) ≡ s .rescalings + rjTerm pn r dn en .way .rescalings
+    → rjRescalings (s .rescalings) (rjTerm pn r dn en) ≡ s .rescalings + rjTerm pn r dn en .way .rescalings
 unfolding rjRescalings
 passed-plain s n h g pn r dn en = omega (arith, term-few pn r dn en .scaled)
 

@@ -1,5 +1,4 @@
 // RJ's duplication for p above zero (DLMF 19.26.21, 19.36.2), with its sum of RC values.
-use crate::helper::elliprc1p;
 use binary64::abs;
 use binary64::max;
 use carlson::answer::Found;
@@ -8,8 +7,10 @@ use carlson::answer::not_a_number;
 use carlson::common::Lambda;
 use carlson::common::lambda_with;
 use carlson::common::third_kind;
-use elliprc::elliprc_unchecked;
 use power::pow_neg_3_2;
+use rj_term::term::Roots;
+use rj_term::term::rescalings_with;
+use rj_term::term::term;
 use root::certain;
 use root::sqrt;
 use root::together::numbers4;
@@ -24,9 +25,6 @@ ghost use Rattle.rj_positive.specs.Duplicate.{
   rjDenominator,
   shareOf,
   rjRatio,
-  rjMiddle,
-  rjTerm,
-  rjRescalings,
   rjMoved,
   rjWith,
   rjStep,
@@ -57,14 +55,6 @@ pub struct Round {
     pub fmn: f64,
     pub sum: f64,
     pub rescalings: u32,
-}
-
-// The roots of the running arguments.
-pub struct Roots {
-    pub x: f64,
-    pub y: f64,
-    pub z: f64,
-    pub p: f64,
 }
 
 fn mean_of(x: f64, y: f64, z: f64, p: f64) -> f64
@@ -119,32 +109,6 @@ fn ratio(s: Round, r: Roots, dn: f64) -> f64
     share(s.pn, s.xn, r.p + r.x) * share(s.pn, s.yn, r.p + r.y) * share(s.pn, s.zn, r.p + r.z)
 }
 
-fn middle(pn: f64, r: Roots, dn: f64) -> f64
-    ensures { λ b. ⌜ b ≡ rjMiddle pn r dn ⌝ }
-{
-    2.0 * r.p * (pn + r.x * (r.y + r.z) + r.y * r.z) / dn
-}
-
-// RC(1, 1 + en), by another way where 1 + en would lose its digits.
-fn term(pn: f64, r: Roots, dn: f64, en: f64) -> Found
-    ensures { λ t. ⌜ t ≡ rjTerm pn r dn en ⌝ }
-{
-    if en < -0.5 {
-        if en > -1.5 {
-            return elliprc_unchecked(1.0, middle(pn, r, dn));
-        }
-        return elliprc1p(en);
-    }
-    elliprc1p(en)
-}
-
-// The rescalings of the passes so far and of one term more.
-fn rescalings_with(s: Round, rc: Found) -> u32
-    ensures { λ r. ⌜ r ≡ rjRescalings s rc ⌝ }
-{
-    std::num::wrapping_add_u32(s.rescalings, rc.way.rescalings)
-}
-
 fn moved(s: Round, l: Lambda, added: f64, rescalings: u32) -> Round
     ensures { λ r. ⌜ r ≡ rjMoved s l added rescalings ⌝ }
 {
@@ -168,7 +132,12 @@ fn with_roots(s: Round, r: Roots) -> Round
     let dn = denominator(r);
     let rc = term(s.pn, r, dn, ratio(s, r, dn));
     let added = s.fmn / dn * rc.value;
-    moved(s, lambda_with(r.x, r.y, r.z), added, rescalings_with(s, rc))
+    moved(
+        s,
+        lambda_with(r.x, r.y, r.z),
+        added,
+        rescalings_with(s.rescalings, rc),
+    )
 }
 
 // The guesses first and then the tests, so that the processor makes the guesses side by side.

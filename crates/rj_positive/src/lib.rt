@@ -1,4 +1,3 @@
-// RJ for p above zero, before any rescaling; and RC(1, 1 + y), which its sum adds up.
+// RJ for p above zero, before any rescaling.
 mod duplicate;
-mod helper;
 pub mod positive;

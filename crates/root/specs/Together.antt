@@ -1,6 +1,6 @@
 -- Several f64s of which none is NaN, by one test of their sum; and what the test of a guess says of the f64s. Assumes nothing.
-use mathlib.Core.Path.{_≡_, refl, sym, ap, _∙_, subst}
-use mathlib.Core.Bool.{Bool, true, false, not, cond, true≢false}
+use mathlib.Core.Path.{_≡_, sym, ap, _∙_, subst}
+use mathlib.Core.Bool.{Bool, true, not, true≢false}
 use lib.Dec.{T}
 use lib.Ieee.{Float, nan, inf, fin, binary64, fits, isNan, eq, add, ofBits, toBits}
 use lib.Ieee.Bits.{ofBits-toBits}

@@ -20,7 +20,7 @@ use root_guess::Ahead;
 use root_guess::by_ahead;
 use root_guess::guess;
 ghost use mathlib.Core.Path.{_≡_};
-ghost use Prim.Native.Nat.{_^_, _≤_, _<_};
+ghost use Prim.Native.Nat.{_^_, _<_};
 ghost use lib.Ieee.{binary64, ofBits};
 ghost use Rattle.rounding.specs.Cut.{infinity};
 ghost use Rattle.root.specs.Root.{root};

@@ -7,7 +7,7 @@ use native.Mathlib.Nat.{mul-lt-mul-of-pos-right, mul-div-mul-right, div-div-eq-d
 use native.Mathlib.Omega.{arith}
 use lib.Dec.{lit<}
 use lib.Pow.{pow-pos, pow-add, pow-mono}
-use lib.Ieee.{fits, size}
+use lib.Ieee.{size}
 use lib.Ieee.Digits.{size-le}
 use Rattle.algebra.specs.Order.{lt-or-le}
 use Rattle.rounding.specs.Cut.{value}

@@ -6,7 +6,7 @@ use mathlib.Core.Bool.{true, false}
 use native.Mathlib.Omega.{arith}
 use lib.Dec.{leb→le}
 use lib.Ieee.{Float, nan, inf, binary64, ofBits, toBits, round}
-use Rattle.rounding.specs.Cut.{infinity, value}
+use Rattle.rounding.specs.Cut.{value}
 use Rattle.rounding.specs.Laws.{middle}
 use Rattle.enclosure.specs.Quotient.{Quotient, _≼_, whole, parts, _⊞_, _⊠_}
 use Rattle.enclosure.specs.Order.{≼-refl, ≼-trans, ⊞-mono}

@@ -2,28 +2,22 @@
 // argument `table` asks for a heading and rows that a spreadsheet opens, `hex` for the same with the values' bits; without one a
 // line is for people.
 mod numbers;
+mod parts;
 mod said;
 mod text;
 mod words;
 
+use crate::parts::Form;
 use crate::said::Said;
 use crate::said::said_to;
 use crate::text::put_given;
-use crate::text::put_heading;
-use crate::text::put_row;
-use crate::text::put_said;
+use crate::text::put_line;
 use console::written;
 use rows::BLOCK;
 use rows::ROW;
 use rows::begin;
 use rows::next;
 use writing::OUT;
-use writing::put_text;
-
-struct Form {
-    table: bool,
-    hex: bool,
-}
 
 fn is_asked(name: &[u8]) -> bool {
     let mut word = io::buffer();
@@ -31,17 +25,17 @@ fn is_asked(name: &[u8]) -> bool {
     check::same(&word[..length], name)
 }
 
-fn put_form(form: Form, line: &[u8], said: Said, out: &mut [u8]) -> usize {
+fn put_call(form: Form, line: &[u8], out: &mut [u8]) -> usize {
     if form.table {
-        let call = put_given(line, out, 0);
-        return put_row(said, form.hex, out, call);
+        return put_given(line, out, 0);
     }
-    put_said(said, out, 0)
+    0
 }
 
 fn is_nothing(said: Said) -> bool {
     match said {
         Said::Nothing => true,
+        Said::Heading => false,
         Said::Value(_) => false,
         Said::Leaf(_) => false,
         Said::Refused(_) => false,
@@ -55,8 +49,8 @@ fn put_reply(form: Form, line: &[u8], out: &mut [u8]) -> usize {
     if is_nothing(said) {
         return 0;
     }
-    let end = put_form(form, line, said, out);
-    put_text(b"\n", out, end)
+    let call = put_call(form, line, out);
+    put_line(said, form, out, call)
 }
 
 // Each line is answered before the next is waited for.
@@ -84,8 +78,7 @@ fn reply_to_all(form: Form, out: &mut [u8; OUT]) {
 
 fn headed(form: Form, out: &mut [u8; OUT]) -> bool {
     if form.table {
-        let end = put_heading(form.hex, out, 0);
-        let used = put_text(b"\n", out, end);
+        let used = put_line(Said::Heading, form, out, 0);
         return written(out, used);
     }
     true

@@ -29,6 +29,8 @@ pub enum Bad {
 pub enum Said {
     // there is no word in the line
     Nothing,
+    // the table's first line
+    Heading,
     // an entry's value
     Value(Found),
     // a leaf's
@@ -51,6 +53,11 @@ enum Function {
     Other,
 }
 
+// No name is longer: ln_1p.
+const LONGEST: usize = 5;
+
+const HELD: u64 = 0x100_0000_0000; // 2^40: the 1 and four letters are less
+
 fn lower(b: u8) -> u8 {
     if b < b'A' {
         return b;
@@ -61,58 +68,35 @@ fn lower(b: u8) -> u8 {
     b + 32
 }
 
-// Whether a word is this name, in lower or upper case.
-fn is_called(word: &[u8], name: &[u8]) -> bool {
+// A word's bytes in lower case as one number, after a 1 that keeps those in front from being lost; of a longer word 0.
+fn spelled(word: &[u8]) -> u64 {
+    if word.len() > LONGEST {
+        return 0;
+    }
+    let mut n: u64 = 1;
     let mut i = 0;
     while i < word.len() {
-        if i < name.len() {
-            if lower(word[i]) != name[i] {
-                return false;
-            }
-        } else {
-            return false;
-        }
+        n = n % HELD * 256 + lower(word[i]) as u64;
         i += 1;
     }
-    i == name.len()
+    n
 }
 
-fn leaf_called(word: &[u8]) -> Function {
-    if is_called(word, b"sqrt") {
-        return Function::Sqrt;
-    }
-    if is_called(word, b"ln") {
-        return Function::Ln;
-    }
-    if is_called(word, b"ln_1p") {
-        return Function::Ln1p;
-    }
-    if is_called(word, b"atan") {
-        return Function::Atan;
-    }
-    Function::Other
-}
-
+// In lower or upper case.
 fn called(word: &[u8]) -> Function {
-    if is_called(word, b"rc") {
-        return Function::Rc;
+    match spelled(word) {
+        0x1_7263 => Function::Rc, // rc
+        0x1_7266 => Function::Rf, // rf
+        0x1_7264 => Function::Rd, // rd
+        0x1_7267 => Function::Rg, // rg
+        0x1_726a => Function::Rj, // rj
+        0x163_656c => Function::Cel, // cel
+        0x1_7371_7274 => Function::Sqrt, // sqrt
+        0x1_6c6e => Function::Ln, // ln
+        0x16c_6e5f_3170 => Function::Ln1p, // ln_1p
+        0x1_6174_616e => Function::Atan, // atan
+        _ => Function::Other,
     }
-    if is_called(word, b"rf") {
-        return Function::Rf;
-    }
-    if is_called(word, b"rd") {
-        return Function::Rd;
-    }
-    if is_called(word, b"rg") {
-        return Function::Rg;
-    }
-    if is_called(word, b"rj") {
-        return Function::Rj;
-    }
-    if is_called(word, b"cel") {
-        return Function::Cel;
-    }
-    leaf_called(word)
 }
 
 fn wants(function: Function) -> u64 {

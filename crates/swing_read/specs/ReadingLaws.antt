@@ -13,6 +13,7 @@ use lib.Ieee.Fits.{and-r}
 use Rattle.algebra.specs.Order.{lt-or-le}
 use Rattle.digits.specs.Digits.{glyphOf, digits}
 use Rattle.writing.specs.Decimal.{placesOf, decimal}
+use Rattle.writing.specs.Places.{places-same}
 use Rattle.swing_read.specs.Reading.{startOf, spoiltOf, blankAfter, roomFor, digitAfter, byteAfter, bytesAfter, lineOf}
 use Rattle.swing_read.specs.Reading.{readLine}
 use Rattle.swing_read.specs.declared.Reading.{Reading}
@@ -133,12 +134,6 @@ three-back a b c A B C =
     rw e
 
 -- ---- what is read is how it is written
-places-enough : (more n : ℕ) → n < 10 ^ suc more → placesOf (suc more) n ≡ placesOf more n
-unfolding placesOf
-places-enough zero n h = rw (lt-ltb n 10 (omega arith))
-places-enough (suc more) n h = ap (λ (p : ℕ). cond (ltb n 10) 1 (suc p))
-    (places-enough more (n / 10) (shorter 0 0 0 (omega arith) more n h))
-
 decimal-digit : (d : ℕ) → d < 10 → decimal 19 d ≡ (48 + d) ∷ []
 unfolding decimal placesOf digits
 decimal-digit d h = rw (lt-ltb d 10 h, mod-eq-of-lt h, glyph 0 0 0 (omega arith) d h)
@@ -152,7 +147,9 @@ decimal-more v d o h u =
     rw p (unfolded (placesOf 19 v) (v * 10 + d) ∙ rw (q, m, glyph 0 0 0 (omega arith) d h))
   where
     places-next : (v d : ℕ) → (v * 10 + d) / 10 ≡ v → 1 ≤ v → v < 10 ^ 19 → placesOf 19 (v * 10 + d) ≡ suc (placesOf 19 v)
-    places-next v d q o l = unfold placesOf in rw (le-ltb (v * 10 + d) 10 (omega arith), q) (ap suc (sym (places-enough 18 v l)))
+    places-next v d q o l =
+        unfold placesOf in
+        rw (le-ltb (v * 10 + d) 10 (omega arith), q) (ap suc (places-same 18 18 19 v l (omega arith) (omega arith)))
 
     unfolded : (k n : ℕ) → digits 10 (suc k) n ≡ digits 10 k (n / 10) ++ (glyphOf (n % 10) ∷ [])
     unfolded k n = unfold digits in refl

@@ -1,24 +1,23 @@
 -- What is left of a table, from a job and a place in the words on, gives what all of it gives. Assumes nothing.
-use Prim.Native.Nat.{ℕ, zero, suc, _+_, _-_, _*_, _≤_, _<_}
+use Prim.Native.Nat.{ℕ, suc, _+_, _-_, _*_, _≤_, _<_}
 use mathlib.Core.Path.{_≡_, refl, sym, ap, _∙_}
 use mathlib.Core.Bool.{Bool, true, false, cond}
-use mathlib.Core.List.{List, [], _∷_, _++_}
+use mathlib.Core.List.{List, [], _∷_}
 use mathlib.Core.Logic.{⊎-elim}
 use native.Mathlib.Nat.{sub-zero}
 use native.Mathlib.Numerals.{add-one}
 use native.Mathlib.Omega.{arith}
-use borrow.Author.Tests.{le-leb, lt-leb, lt-ltb, le-ltb, ne-eqb}
-use lib.Dec.{eqb, leb, ltb, eqb·suc-suc, eqb·suc-zero}
+use borrow.Author.Tests.{le-leb, lt-ltb, le-ltb, ne-eqb}
+use lib.Dec.{eqb, ltb, eqb·suc-suc, eqb·suc-zero}
 use lib.ListN.{length, getD, drop, length-drop}
 use lib.Seq.{drop-cons, drop-drop}
 use Rattle.algebra.specs.Order.{lt-or-le, same-ltb}
-use Rattle.packed.specs.NumberLaws.{Bytes}
+use Rattle.packed_number.specs.NumberLaws.{Bytes}
 use Rattle.packed.specs.RestLaws.{found-later}
 use Rattle.packed.specs.Reading.{Jobs, jobs, stopped, withJob, readOn, readAt, readFrom, readAll}
 use Rattle.packed.specs.declared.jobs.Job.{Job}
 use Rattle.packed.specs.declared.read.Got.{Got}
-use Rattle.packed.specs.declared.read.Read.{Read}
-use Rattle.packed.specs.declared.read.Read.the-variants.{Found, Nothing, Refused as NotRead}
+use Rattle.packed.specs.declared.read.Read.the-variants.{Found, Refused as NotRead}
 use Rattle.claim.specs.Rows.{numbers-differ, rowAfter, missingAt, endedAt}
 use Rattle.claim.specs.declared.rows.Checked.{Checked}
 use Rattle.claim.specs.declared.rows.Checked.the-variants.{Accepted, BadRow, Refused}

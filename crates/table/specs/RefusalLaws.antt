@@ -1,12 +1,11 @@
 -- A list's own refusals are 14, 15 and 16, so that 22 is never one of them. Assumes nothing.
 use Prim.Native.Nat.{ℕ, zero, suc, _+_, _-_, _*_, _≤_}
-use mathlib.Core.Path.{_≡_, refl, sym, subst, _∙_}
-use mathlib.Core.Bool.{Bool, true, false, cond}
+use mathlib.Core.Path.{_≡_, subst}
 use mathlib.Core.List.{List, [], _∷_}
 use native.Mathlib.Omega.{arith}
 use lib.Dec.{eqb, ltb}
 use lib.ListN.{length, drop}
-use Rattle.packed.specs.Numbers.{list-cut, number-bad, lastGroup, numberFrom, numberAt}
+use Rattle.packed_number.specs.Numbers.{list-cut, number-bad, lastGroup, numberFrom, numberAt}
 use Rattle.packed.specs.Jobs.{unknown-function, arityOf}
 use Rattle.packed.specs.Reading.{
   begun,
@@ -24,10 +23,9 @@ use Rattle.packed.specs.Reading.{
   readFrom,
   readAll,
 }
-use Rattle.packed.specs.declared.numbers.Number.{Number}
-use Rattle.packed.specs.declared.numbers.Number.the-variants.{Whole, Refused as NoNumber}
+use Rattle.packed_number.specs.declared.Number.{Number}
+use Rattle.packed_number.specs.declared.Number.the-variants.{Whole, Refused as NoNumber}
 use Rattle.packed.specs.declared.jobs.Job.{Job}
-use Rattle.packed.specs.declared.read.Got.{Got}
 use Rattle.packed.specs.declared.read.Read.{Read}
 use Rattle.packed.specs.declared.read.Read.the-variants.{Found, Nothing, Refused}
 use Rattle.carlson.specs.Only.{chosen}

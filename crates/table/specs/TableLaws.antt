@@ -1,5 +1,5 @@
 -- What the check of a table says (document 02, 2026-11). Assumes nothing.
-use Prim.Native.Nat.{ℕ, zero, suc, _+_, _*_, _≤_, _<_}
+use Prim.Native.Nat.{ℕ, zero, suc, _+_, _*_, _≤_}
 use mathlib.Core.Path.{_≡_, refl, sym, ap, subst, _∙_}
 use mathlib.Core.Bool.{Bool, true, false, cond}
 use mathlib.Core.List.{List, [], _∷_}
@@ -12,7 +12,7 @@ use Rattle.packed.specs.Reading.{Jobs, jobs, stopped, readAll}
 use Rattle.packed.specs.declared.jobs.Job.{Job}
 use Rattle.answers.specs.Answers.{answerOf}
 use Rattle.job_answers.specs.JobAnswers.{callOfJob}
-use Rattle.claim.specs.Claims.{meetsOf, ownClaim}
+use Rattle.claim.specs.Claims.{ownClaim}
 use Rattle.claim.specs.ClaimLaws.{Finite, meets-wider, own-meets}
 use Rattle.claim.specs.Rows.{numbers-differ}
 use Rattle.claim.specs.declared.meeting.Claim.{Claim}

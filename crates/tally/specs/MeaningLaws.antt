@@ -3,11 +3,11 @@ use Prim.Native.Nat.{ℕ, zero, suc, _+_, _-_, _*_, _%_, _^_, _≤_, _<_}
 use mathlib.Core.Path.{_≡_, refl, sym, ap, ap₂, _∙_}
 use mathlib.Core.Bool.{Bool, true, false, cond}
 use mathlib.Core.List.{List, [], _∷_, _++_}
-use native.Mathlib.Nat.{add-comm, mod-add-mod, add-mod-mod, mod-eq-of-lt, zero-add, add-zero, add-suc}
+use native.Mathlib.Nat.{add-comm, mod-add-mod, add-mod-mod, mod-eq-of-lt, zero-add, add-zero}
 use native.Mathlib.Omega.{arith}
-use borrow.Author.Tests.{le-leb, eq-eqb, ne-eqb, lt-ltb, le-ltb, ltb-true, ltb-false}
-use lib.Dec.{eqb, leb, ltb}
-use lib.ListN.{length, getD, take, drop, replicate, length-append, List·getD-append}
+use borrow.Author.Tests.{le-leb, ne-eqb, lt-ltb, le-ltb}
+use lib.Dec.{eqb}
+use lib.ListN.{length, getD, drop, length-append, List·getD-append}
 use lib.Seq.{drop-at}
 use Rattle.limbs.specs.Value.{limbsOf, length-limbs}
 use Rattle.exact.specs.Exact.{heldSum, finitePattern, valueAdded, sumsJoined}

@@ -1,20 +1,19 @@
 -- What an answer more, and another block, make of each word below the sum; and so that order makes no difference. Assumes
 -- nothing.
-use Prim.Native.Nat.{ℕ, zero, suc, _+_, _-_, _%_, _^_, _≤_, _<_}
+use Prim.Native.Nat.{ℕ, zero, suc, _+_, _%_, _^_, _≤_, _<_}
 use mathlib.Core.Path.{_≡_, refl, sym, ap, ap₂, _∙_}
 use mathlib.Core.Bool.{Bool, true, false, _&&_, cond}
-use mathlib.Core.List.{List, [], _∷_, _++_}
-use native.Mathlib.Nat.{add-comm, add-assoc, mod-add-mod, add-mod-mod}
+use mathlib.Core.List.{List, [], _++_}
+use native.Mathlib.Nat.{mod-add-mod}
 use native.Mathlib.Omega.{arith}
-use borrow.Author.Tests.{le-leb, lt-leb, lt-ltb, le-ltb, eq-eqb, ne-eqb, eqb-true, eqb-false, leb-true, leb-false, ltb-true}
+use borrow.Author.Tests.{le-leb, lt-leb, eq-eqb, ne-eqb, eqb-true, eqb-false, leb-true, leb-false, ltb-true}
 use borrow.Author.Tests.{ltb-false}
 use lib.Dec.{eqb, leb, ltb}
 use lib.ListN.{length, getD, take, drop, set, length-append, length-drop, length-set, take-append-drop, List·getD-append}
-use lib.Seq.{length-take-le, getD-take, getD-drop, getD-set-same, getD-set-other, ext-getD, drop-set-lt, take-at, drop-at}
-use Rattle.exact.specs.Exact.{valueAdded, sumsJoined}
-use Rattle.tally.specs.Tally.{grown, tallied, raised, summed, larger, blockAdded, wordJoined, slotsJoined, sumsOf}
-use Rattle.tally.specs.Tally.{blockJoined}
-use Rattle.tally.specs.SumLaws.{added-length, value-swap, sums-length, sums-comm, sums-assoc}
+use lib.Seq.{length-take-le, getD-take, getD-drop, getD-set-same, getD-set-other, ext-getD, drop-at}
+use Rattle.exact.specs.Exact.{valueAdded}
+use Rattle.tally.specs.Tally.{grown, tallied, raised, summed, larger, blockAdded}
+use Rattle.tally.specs.SumLaws.{added-length, value-swap}
 use Rattle.tally.specs.declared.counted.Counted.{Counted}
 
 -- a word below the sum after an answer more

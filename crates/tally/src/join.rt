@@ -1,7 +1,6 @@
 // Two blocks made one.
 use crate::block::BLOCK;
 ghost use mathlib.Core.Path.{_≡_};
-ghost use Prim.Native.Nat.{_≤_};
 ghost use lib.ListN.{length};
 ghost use Rattle.tally.specs.Tally.{blockWords, sumPlace, wordJoined, slotsJoined, sumsOf, blockJoined};
 

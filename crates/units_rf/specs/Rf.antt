@@ -1,6 +1,6 @@
 -- Units drop out of RF: every argument in range before and after all are multiplied by 4 ^ k, both calls refuse alike, or they
 -- have one round count and the second value is the first times 2 ^ -k.
-use mathlib.Core.Path.{_≡_, sym, ap, subst, subst₂}
+use mathlib.Core.Path.{_≡_, sym, subst, subst₂}
 use Prim.Native.Nat.{ℕ, _+_, _*_}
 use native.Mathlib.Omega.{arith}
 use mathlib.Core.Bool.{not, _&&_, cond}

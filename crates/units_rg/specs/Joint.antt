@@ -1,6 +1,6 @@
 -- RG's joint loop of RF and RD in two runs, and the value made of both: as many passes, and the second value is the first times
 -- 2 ^ k. What is not done when the cap is spent is NaN in both. Assumes nothing.
-use mathlib.Core.Path.{_≡_, refl, sym, ap, ap₂, _∙_, subst, subst₂}
+use mathlib.Core.Path.{_≡_, refl, ap, ap₂, _∙_, subst}
 use mathlib.Core.Logic.{inl, inr}
 use Prim.Native.Nat.{ℕ, suc, _^_, _<_, max}
 use native.Mathlib.Nat.{le-refl}

@@ -20,8 +20,8 @@ use Rattle.carlson.specs.Answer.{closedAt, carriedAt}
 use Rattle.carlson.specs.declared.answer.Found.{Found}
 use Rattle.elliprc.specs.Rc.{rcUnchecked}
 use Rattle.polynomial.specs.Polynomial.{horner}
-use Rattle.rj_positive.specs.Helper.{hundredth, three-halves, Outside, AtHalf, byAtan1p, byLogs1p, byRc1p, byLn1p, rc1p}
-use Rattle.rj_positive.specs.Borders.{past, toAtan, toLogs, atan-reached, logs-reached, ln-reached-from-rj}
+use Rattle.rj_term.specs.Helper.{hundredth, three-halves, Outside, AtHalf, byAtan1p, byLogs1p, byRc1p, byLn1p, rc1p}
+use Rattle.rj_term.specs.Borders.{past, toAtan, toLogs, atan-reached, logs-reached, ln-reached-from-rj}
 use Rattle.scaling.specs.Kind.{Kind, last, floor-le, mulK, mulOk, divK, divOk, plusK, plusOk, nudgeK, nudgeOk, within}
 use Rattle.scaling.specs.Units.{Is, lt-units}
 use Rattle.scaling.specs.Two.{Two, mul-two, div-two, plus-two}

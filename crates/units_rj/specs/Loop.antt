@@ -1,7 +1,6 @@
 -- RJ's duplication whole, in two runs: as many passes, and the second value is the first divided by 2 ^ 3k, or neither is a
 -- number. Assumes nothing.
-use mathlib.Core.Path.{_≡_, sym, subst, subst₂}
-use mathlib.Core.Logic.{inl, inr}
+use mathlib.Core.Path.{_≡_, subst}
 use Prim.Native.Nat.{ℕ, suc, _≤_, _<_}
 use native.Mathlib.Nat.{le-refl}
 use native.Mathlib.Omega.{arith}
@@ -11,7 +10,6 @@ use lib.Ieee.{Float, binary64}
 use Rattle.carlson.specs.Loop.{capped}
 use Rattle.rj_positive.specs.Duplicate.{rjMean, rjStart, rjBegin, rjStep, rjClose, rjFound, rjSpent, rjDuplication}
 use Rattle.rj_positive.specs.declared.duplicate.Round.{Round}
-use Rattle.scaling.specs.Kind.{Kind}
 use Rattle.scaling.specs.Two.{Two}
 use Rattle.units.specs.Runs.{Same, duplicated-over, neither, loops-two}
 use Rattle.units_rd.specs.Mean.{argK, Arg, some, some?}

@@ -5,7 +5,7 @@ use mathlib.Core.Logic.{_⊎_, inl, inr}
 use Prim.Native.Nat.{ℕ, _*_, _^_, _≤_, _<_, max}
 use native.Mathlib.Nat.{le-trans, le-of-lt, le-max-left}
 use native.Mathlib.Omega.{arith}
-use mathlib.Core.Bool.{Bool, true, false, not, cond}
+use mathlib.Core.Bool.{true, false, not}
 use lib.Dec.{T, T-not, eqb, ltb→lt, lt→ltb, nltb→le, lit≤}
 use lib.Pow.{pow-pos, pow-add, pow-mono}
 use lib.Ieee.{Float, nan, binary64, low, sub, lt, eq, level, ofBits}

@@ -17,10 +17,11 @@ use Rattle.carlson.specs.Constants.{one, four, half}
 use Rattle.carlson.specs.Common.{lambdaOf}
 use Rattle.carlson.specs.declared.answer.Found.{Found}
 use Rattle.elliprc.specs.Rc.{rcUnchecked}
-use Rattle.rj_positive.specs.Helper.{three-halves, rc1p}
-use Rattle.rj_positive.specs.Duplicate.{rjDenominator, rjRatio, rjMiddle, rjTerm, rjRescalings, rjMoved, rjWith, rjStep}
+use Rattle.rj_term.specs.Helper.{three-halves, rc1p}
+use Rattle.rj_term.specs.Term.{rjMiddle, rjTerm, rjRescalings}
+use Rattle.rj_positive.specs.Duplicate.{rjDenominator, rjRatio, rjMoved, rjWith, rjStep}
 use Rattle.rj_positive.specs.declared.duplicate.Round.{Round}
-use Rattle.rj_positive.specs.declared.duplicate.Roots.{Roots}
+use Rattle.rj_term.specs.declared.term.Roots.{Roots}
 use Rattle.scaling.specs.Near.{near, near-same, near-zero}
 use Rattle.scaling.specs.Kind.{Kind, In, and₃, last, floor-le, mulK, mulOk, divK, divOk, plusK, plusOk, within, sameK}
 use Rattle.scaling.specs.Last.{Digits, digits-of}

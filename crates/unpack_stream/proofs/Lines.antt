@@ -10,7 +10,7 @@ use lib.Seq.{take-all, length-take-le}
 use Rattle.algebra.specs.Order.{lt-or-le}
 use Rattle.digits.specs.Digits.{wordText}
 use Rattle.digits.specs.DigitLaws.{word-length}
-use Rattle.packed.specs.Numbers.{list-cut}
+use Rattle.packed_number.specs.Numbers.{list-cut}
 use Rattle.packed.specs.Jobs.{arityOf, argumentOf}
 use Rattle.packed.specs.Reading.{readAt}
 use Rattle.packed.specs.declared.jobs.Job.{Job}

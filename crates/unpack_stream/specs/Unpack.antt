@@ -5,7 +5,7 @@ use mathlib.Core.List.{List, [], _∷_, _++_}
 use lib.Dec.{eqb}
 use lib.ListN.{length, take, drop}
 use Rattle.packed.specs.Jobs.{listBytes}
-use Rattle.packed.specs.Numbers.{list-cut}
+use Rattle.packed_number.specs.Numbers.{list-cut}
 use Rattle.packed.specs.Reading.{readAt, Jobs, jobs, stopped}
 use Rattle.packed.specs.declared.jobs.Job.{Job}
 use Rattle.packed.specs.declared.read.Read.{Read}

@@ -12,12 +12,12 @@ use lib.Dec.{eqb}
 use lib.ListN.{length, take, drop, length-append, take-append-drop}
 use lib.Seq.{take-all, take-append-le, take-at, drop-at}
 use Rattle.algebra.specs.Order.{lt-or-le}
-use Rattle.packed.specs.Numbers.{list-cut}
+use Rattle.packed_number.specs.Numbers.{list-cut}
 use Rattle.packed.specs.Jobs.{jobBytes, jobLength, listBytes}
 use Rattle.packed.specs.Reading.{readAt, Jobs, jobs, stopped, withJob, readOn, readFrom, readAll}
 use Rattle.packed.specs.LengthLaws.{job-some}
-use Rattle.packed.specs.NumberLaws.{Bytes}
-use Rattle.packed.specs.JobLaws.{Proper, Is, gotten, read-back, read-is}
+use Rattle.packed_number.specs.NumberLaws.{Bytes}
+use Rattle.packed.specs.JobLaws.{Proper, Is, read-back, read-is}
 use Rattle.packed.specs.ListLaws.{nothing-left, jobs-back}
 use Rattle.packed.specs.MoreLaws.{Good, read-more, cut-short}
 use Rattle.packed.specs.PlaceLaws.{jobsLater, list-later}

@@ -1,8 +1,8 @@
 // The bytes as they come: what is held of a job that is not whole, and the lines of those that are. A refusal ends it.
 use crate::text::put_job_text;
-use packed::LIST_CUT;
 use packed::Read;
 use packed::read_job;
+use packed_number::LIST_CUT;
 use writing::OUT;
 use writing::least;
 use writing::push;

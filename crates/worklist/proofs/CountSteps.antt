@@ -1,18 +1,17 @@
 -- The count of a list, job by job. Assumes nothing.
-use Prim.Native.Nat.{ℕ, suc, _+_, _≤_, _<_}
+use Prim.Native.Nat.{ℕ, suc, _+_, _≤_}
 use mathlib.Core.Path.{_≡_, refl, sym, ap, _∙_}
 use mathlib.Core.List.{List, []}
 use native.Mathlib.Nat.{add-zero}
 use native.Mathlib.Omega.{arith}
 use lib.ListN.{length}
-use Rattle.packed.specs.NumberLaws.{Bytes}
+use Rattle.packed_number.specs.NumberLaws.{Bytes}
 use Rattle.packed.specs.Reading.{Jobs, jobs, stopped, withJob, readAt, readAll}
 use Rattle.packed.specs.RestLaws.{found-later, restAt, rest-all, rest-found, rest-refused, rest-none}
 use Rattle.packed.specs.declared.jobs.Job.{Job}
 use Rattle.packed.specs.declared.read.Got.{Got}
 use Rattle.packed.specs.declared.read.Read.the-variants.{Found, Refused as NotRead}
 use Rattle.worklist.specs.Count.{countOf}
-use Rattle.worklist.specs.declared.count.Count.{Count}
 use Rattle.worklist.specs.declared.count.Count.the-variants.{Jobs as Some, Refused}
 
 count-more : (n : ℕ) (j : Job) (r : Jobs) → countOf n (withJob j r) ≡ countOf (n + 1) r

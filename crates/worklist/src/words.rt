@@ -2,8 +2,6 @@
 use packed::Job;
 use packed::Read;
 use packed::Written;
-ghost use mathlib.Core.Path.{_≡_};
-ghost use lib.ListN.{length};
 ghost use Rattle.packed.specs.Reading.{readAt};
 ghost use Rattle.worklist.specs.Words.{WriteWords, ReadWords};
 

@@ -1,6 +1,5 @@
 -- `apart` meets its contract: the smaller step number is taken from the larger. Assumes nothing.
 use native.Mathlib.Omega.{arith}
-use borrow.Author.Needs.{needs}
 use Rattle.distance.specs.Steps.{gap, apartOf}
 use Rattle.distance.proofs.apart.Statement.{statement}
 use Rattle.distance.proofs.apart.Tie as tie

@@ -1,5 +1,4 @@
 -- `step` meets its contract, by the pattern's sign. Assumes nothing.
-use mathlib.Core.Path.{sym}
 use native.Mathlib.Omega.{arith}
 use borrow.Author.Tests.{lt-leb, le-leb}
 use Rattle.distance.specs.Steps.{stepOf}

@@ -6,7 +6,7 @@ use lib.Ieee.{Float}
 use Rattle.carlson.specs.Constants.{no-result}
 use Rattle.carlson.specs.Answer.{handedAt, settled}
 use Rattle.carlson.specs.declared.answer.Found.{Found}
-use Rattle.carlson.specs.Door.{Inside3, moderate3, inside3, no-nan3, none-below3, no-zeros3, none-infinite3, unscaled3}
+use Rattle.carlson.specs.Door.{moderate3, inside3, no-nan3, none-below3, no-zeros3, none-infinite3, unscaled3}
 use Rattle.elliprc.specs.Rc.{overRoot}
 use Rattle.elliprf.specs.Rf.{rfSteps, rfUnchecked, rf}
 use Rattle.elliprf.proofs.elliprf.Statement.{statement}

@@ -18,7 +18,6 @@ use Rattle.carlson.specs.Door.{
   not-rescaled4,
 }
 use Rattle.rj_positive.specs.Positive.{rjPositive}
-use Rattle.elliprj.specs.declared.plan.Plan.{Plan}
 use Rattle.elliprj.specs.declared.plan.Plan.the-variants.{Done}
 use Rattle.elliprj.specs.Rj.{planUnscaled, planScaled, planOf, rjRun, rjUnchecked, rjSettled, rjRest, rjSigned}
 use Rattle.elliprj.specs.Rj.{rjOfPositive}

@@ -1,8 +1,7 @@
 -- `shift` meets its contract: no more bytes are kept than there is room for. Assumes nothing.
 use Prim.Native.Nat.{_-_, _≤_, _<_}
-use mathlib.Core.Path.{_≡_, refl, _∙_}
+use mathlib.Core.Path.{_≡_, refl}
 use native.Mathlib.Omega.{arith}
-use borrow.Author.Needs.{needs}
 use lib.ListN.{length, length-set}
 use Rattle.jobs_in.proofs.shift.Statement.{statement}
 use Rattle.jobs_in.proofs.shift.Tie as tie

@@ -1,6 +1,5 @@
 use mathlib.Core.Path.{_≡_}
 use lib.ListN.{length}
-use Prim.Native.Nat.{_-_}
 use borrow.Author.Needs.{needs}
 use Rattle.join_run.proofs.join_all.Statement.{statement}
 use Rattle.join_run.proofs.join_all.Tie as tie

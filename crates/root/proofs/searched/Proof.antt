@@ -1,5 +1,4 @@
 -- `root::searched` meets its contract, by `Law`: `search` vouches for the digits. Assumes nothing.
-use borrow.Author.Needs.{needs}
 use native.Mathlib.Omega.{arith}
 use Prim.Native.Nat.{_+_, _*_, _^_, _≤_, _<_}
 use mathlib.Core.Path.{sym}

@@ -1,5 +1,5 @@
 -- `reply_to` meets its contract: the flag says which. Assumes nothing.
-use mathlib.Core.Path.{_≡_, sym, ap, _∙_}
+use mathlib.Core.Path.{sym}
 use Rattle.bench_replies.specs.Replies.{replyOf}
 use Rattle.bench_replies.proofs.asked.reply_to.Statement.{statement}
 use Rattle.bench_replies.proofs.asked.reply_to.Tie as tie

@@ -1,5 +1,5 @@
 -- `counted` meets its contract, step by step as its definition. Assumes nothing.
-use mathlib.Core.Path.{_≡_, sym, ap, _∙_}
+use mathlib.Core.Path.{sym}
 use Rattle.bench_replies.specs.Replies.{countedOf}
 use Rattle.bench_replies.proofs.counts.counted.Statement.{statement}
 use Rattle.bench_replies.proofs.counts.counted.Tie as tie

@@ -1,5 +1,5 @@
 -- `tallied` meets its contract, step by step as its definition. Assumes nothing.
-use mathlib.Core.Path.{_≡_, sym, ap, _∙_}
+use mathlib.Core.Path.{sym}
 use Rattle.bench_replies.specs.Replies.{talliedOf}
 use Rattle.bench_replies.proofs.counts.tallied.Statement.{statement}
 use Rattle.bench_replies.proofs.counts.tallied.Tie as tie

@@ -1,5 +1,5 @@
 -- `begin` meets its contract, step by step as its definition. Assumes nothing.
-use mathlib.Core.Path.{_≡_, refl, sym, ap, _∙_, subst}
+use mathlib.Core.Path.{sym}
 use Rattle.bench_stream.specs.Lines.{stateFrom}
 use Rattle.bench_stream.proofs.lines.begin.Statement.{statement}
 use Rattle.bench_stream.proofs.lines.begin.Tie as tie

@@ -1,16 +1,16 @@
 -- `byte` meets its contract: a newline ends the line, any other byte is read. Assumes nothing.
-use Prim.Native.Nat.{ℕ, _+_, _*_, _-_, _≤_, _<_}
-use mathlib.Core.Path.{_≡_, refl, sym, ap, _∙_, subst}
-use mathlib.Core.List.{List, [], _∷_, _++_}
+use Prim.Native.Nat.{ℕ}
+use mathlib.Core.Path.{_≡_}
+use mathlib.Core.List.{List, []}
 use native.Mathlib.Omega.{arith}
 use borrow.Author.Needs.{needs}
 use borrow.Author.Tests.{eq-eqb, ne-eqb}
 use denote.Ref.{now}
-use lib.ListN.{length, take}
+use lib.ListN.{take}
 use Rattle.writing.specs.Fed.{Fed}
 use Rattle.writing.specs.FedLaws.{fed-quiet}
-use Rattle.writing.specs.Written.{Put, put-length}
-use Rattle.bench_stream.specs.Lines.{stateAfter, nameAfter, under, openAfter, heard, lineEnd, benchByte, heldLength}
+use Rattle.writing.specs.Written.{put-length}
+use Rattle.bench_stream.specs.Lines.{stateAfter, nameAfter, under, openAfter, lineEnd, benchByte}
 use Rattle.bench_stream.specs.Stream.{Benches}
 use Rattle.bench_stream.specs.declared.lines.State.{State}
 use Rattle.bench_stream.specs.declared.stream.Progress.{Progress}

@@ -5,4 +5,4 @@ use Rattle.carlson.proofs.answer.rescaled.Tie as tie
 
 pub rescaled-spec : {M : Type 1} → statement M
 unfolding rescaledAt
-rescaled-spec = tie.close (tie.spec (λ c κs. tt) (λ c. cc))
+rescaled-spec = tie.close (tie.spec (λ c κs. tt) (λ c. rw (c .wrapping-add-u32 .ensures)))

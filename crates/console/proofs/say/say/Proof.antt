@@ -1,6 +1,5 @@
 -- `say` is safe: what is written lies within the text. Assumes nothing.
 use mathlib.Core.Path.{sym}
-use borrow.Author.Needs.{needs}
 use lib.Seq.{length-take-le}
 use Rattle.console.proofs.say.say.Statement.{statement}
 use Rattle.console.proofs.say.say.Tie as tie

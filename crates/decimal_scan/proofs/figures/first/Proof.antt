@@ -1,5 +1,4 @@
 -- `first` meets its contract: below 10 ^ 18 there is room for a digit more. Assumes nothing.
-use native.Mathlib.Omega.{arith}
 use borrow.Author.Needs.{needs}
 use borrow.Author.Tests.{lt-ltb, le-ltb}
 use Rattle.decimal_scan.specs.Figures.{firstOf}

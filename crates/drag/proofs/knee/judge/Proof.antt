@@ -1,8 +1,7 @@
 -- `judge` meets its contract: what the swing answers, weighed. Assumes nothing.
-use mathlib.Core.Path.{_≡_, sym, ap, _∙_, subst}
-use Rattle.carlson.specs.declared.answer.Answer.{Answer}
+use mathlib.Core.Path.{sym, subst}
 use Rattle.swing.specs.Bounded.{Bounded, period-bounded}
-use Rattle.drag.specs.Verdict.{dragOf, judgedOf}
+use Rattle.drag.specs.Verdict.{dragOf}
 use Rattle.drag.proofs.knee.judge.Statement.{statement}
 use Rattle.drag.proofs.knee.judge.Tie as tie
 

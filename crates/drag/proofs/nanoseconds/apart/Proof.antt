@@ -1,6 +1,5 @@
 -- `apart` meets its contract, step by step as its definition. Assumes nothing.
 use mathlib.Core.Path.{sym}
-use native.Mathlib.Omega.{arith}
 use borrow.Author.Needs.{needs}
 use borrow.Author.Tests.{eq-eqb, ne-eqb, le-leb, lt-leb}
 use Rattle.drag.specs.Verdict.{apartOf}

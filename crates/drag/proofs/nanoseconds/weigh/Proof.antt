@@ -1,9 +1,8 @@
 -- `weigh` meets its contract: the parts tell what the fraction does. Assumes nothing.
-use Prim.Native.Nat.{ℕ, _+_, _-_, _*_, _/_, _^_, _<_}
-use mathlib.Core.Path.{_≡_, refl, sym, ap, _∙_, subst}
-use mathlib.Core.Bool.{Bool, true, cond}
+use Prim.Native.Nat.{ℕ, _+_, _*_, _^_, _<_}
+use mathlib.Core.Path.{_≡_, sym, ap, _∙_, subst}
+use mathlib.Core.Bool.{Bool, true}
 use native.Mathlib.Omega.{arith}
-use borrow.Author.Needs.{needs}
 use lib.Dec.{T, leb}
 use lib.Ieee.{Float, binary64, fits}
 use lib.Ieee.Positive.{num, den, den-pos}
@@ -12,7 +11,6 @@ use Rattle.parted.specs.Parts.{partsOf, measured, partedOf, roundedOf}
 use Rattle.parted.specs.Rounds.{few}
 use Rattle.drag.specs.Verdict.{passes, quicker, excess, weighed, aheadOf, apartOf}
 use Rattle.drag.specs.ByParts.{within-limit, ahead-is, excess-is}
-use Rattle.drag.specs.declared.nanoseconds.Verdict.{Verdict}
 use Rattle.drag.proofs.nanoseconds.weigh.Statement.{statement}
 use Rattle.drag.proofs.nanoseconds.weigh.Tie as tie
 

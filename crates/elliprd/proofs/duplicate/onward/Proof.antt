@@ -1,6 +1,6 @@
 -- `onward` meets its contract. The invariant: what is left of the loop gives what was left of it at first. Assumes nothing.
 use Prim.Native.Nat.{_+_, _-_}
-use mathlib.Core.Path.{_≡_, refl, sym, ap, _∙_}
+use mathlib.Core.Path.{refl, sym, ap, _∙_}
 use mathlib.Core.Bool.{false}
 use native.Mathlib.Omega.{arith}
 use lib.Ieee.{Float}

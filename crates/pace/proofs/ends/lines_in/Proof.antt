@@ -1,10 +1,10 @@
 -- `lines_in` meets its contract. The invariant: the lines that end in the first `at` bytes are counted. Assumes nothing.
-use Prim.Native.Nat.{ℕ, _+_, _-_, _^_, _≤_, _<_}
-use mathlib.Core.Path.{_≡_, refl, sym, ap, _∙_}
-use mathlib.Core.List.{List, []}
+use Prim.Native.Nat.{_-_, _≤_}
+use mathlib.Core.Path.{_≡_, refl}
+use mathlib.Core.List.{[]}
 use native.Mathlib.Omega.{arith}
 use borrow.Author.Needs.{needs}
-use lib.ListN.{length, drop, take}
+use lib.ListN.{take}
 use Rattle.pace.specs.Numbers.{newlines}
 use Rattle.pace.specs.NumberLaws.{newlines-part, newlines-few, newlines-all, part-short}
 use Rattle.pace.proofs.ends.lines_in.Statement.{statement}

@@ -1,16 +1,14 @@
 -- `put_number` meets its contract. The invariant: what is left of the groups, written where the loop stands, gives what all of
 -- them give. Assumes nothing.
-use Prim.Native.Nat.{ℕ, _+_, _-_, _*_, _/_, _%_, _^_, _≤_, _<_}
-use mathlib.Core.Path.{_≡_, refl, sym, ap, _∙_}
-use mathlib.Core.List.{List}
+use Prim.Native.Nat.{_+_, _-_, _*_, _^_, _<_}
+use mathlib.Core.Path.{_≡_, refl, ap}
 use native.Mathlib.Numerals.{add-one}
 use native.Mathlib.Omega.{arith}
-use denote.Ref.{now}
-use lib.ListN.{length, set, length-set}
+use lib.ListN.{length, length-set}
 use lib.Seq.{sets}
-use Rattle.packed.specs.Numbers.{groupsOf, numberBytes}
+use Rattle.packed_number.specs.Numbers.{groupsOf, numberBytes}
 use Rattle.packed.specs.LengthLaws.{groups-some}
-use Rattle.packed.proofs.Groups.{groups-last, groups-more, groups-tenth, rest-less, one-bit}
+use Rattle.packed_number.specs.Groups.{groups-last, groups-more, groups-tenth, rest-less, one-bit}
 use Rattle.packed.proofs.numbers.put_number.Statement.{statement}
 use Rattle.packed.proofs.numbers.put_number.Tie as tie
 

@@ -1,6 +1,5 @@
 -- `job_length` meets its contract: five lengths of ten bytes at most. Assumes nothing.
 use Prim.Native.Nat.{_+_, _≤_}
-use mathlib.Core.Path.{sym}
 use native.Mathlib.Omega.{arith}
 use Rattle.packed.specs.LengthLaws.{number-most, argument-most, job-length-sum}
 use Rattle.packed.proofs.write.job_length.Statement.{statement}

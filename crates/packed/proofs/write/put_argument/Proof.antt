@@ -1,12 +1,11 @@
 -- `put_argument` meets its contract: it writes where the function has this argument. Assumes nothing.
-use Prim.Native.Nat.{ℕ, _+_, _≤_, _<_}
-use mathlib.Core.Path.{_≡_, sym, ap, subst}
-use mathlib.Core.List.{List, []}
+use Prim.Native.Nat.{ℕ, _≤_, _<_}
+use mathlib.Core.Path.{_≡_, sym}
+use mathlib.Core.List.{[]}
 use borrow.Author.Needs.{needs}
 use borrow.Author.Tests.{lt-ltb, le-ltb}
-use lib.ListN.{length}
-use Rattle.writing.specs.Written.{Put, put-none}
-use Rattle.packed.specs.Numbers.{numberBytes}
+use Rattle.writing.specs.Written.{put-none}
+use Rattle.packed_number.specs.Numbers.{numberBytes}
 use Rattle.packed.specs.Jobs.{arityOf, argumentOf, argumentBytes}
 use Rattle.packed.specs.declared.jobs.Job.{Job}
 use Rattle.packed.proofs.write.put_argument.Statement.{statement}

@@ -1,5 +1,4 @@
 -- `put_job` meets its contract: a run after a run is one run. Assumes nothing.
-use Prim.Native.Nat.{_+_, _≤_}
 use native.Mathlib.Omega.{arith}
 use borrow.Author.Needs.{needs}
 use Rattle.writing.specs.Written.{put-more, put-length}

@@ -6,7 +6,6 @@ use native.Mathlib.Omega.{arith}
 use borrow.Author.Needs.{needs}
 use lib.Pow.{pow-lt}
 use Rattle.parted.specs.Parts.{partOf, partsOf}
-use Rattle.parted.specs.declared.parts.Parts.{Parts}
 use Rattle.parted.proofs.parts.cut.Statement.{statement}
 use Rattle.parted.proofs.parts.cut.Tie as tie
 

@@ -1,17 +1,16 @@
 -- `scaled` meets its contract: the word stands for the two words of the product. Assumes nothing.
 use Prim.Native.Nat.{ℕ, _+_, _-_, _*_, _/_, _%_, _^_, _≤_, _<_}
-use mathlib.Core.Path.{_≡_, sym, ap, _∙_, subst}
+use mathlib.Core.Path.{_≡_, ap, _∙_}
 use mathlib.Core.List.{[], _∷_}
-use native.Mathlib.Nat.{mod-lt, mul-le-mul, le-of-lt}
+use native.Mathlib.Nat.{mod-lt, le-of-lt}
 use native.Mathlib.Omega.{arith}
 use borrow.Author.Needs.{needs}
 use lib.Pow.{pow-pos, pow-add}
-use Rattle.algebra.specs.Ring.{con, nxt, _:*_, _≈_, _⊩_, _times_≼_, ring, below}
+use Rattle.algebra.specs.Ring.{con, _:*_, _≈_, _⊩_, _times_≼_, below}
 use Rattle.nearest.specs.Stands.{stuck}
 use Rattle.nearest.specs.Shift.{jam-flag}
 use Rattle.parted.specs.Parts.{partsOf}
 use Rattle.parted.specs.Fractions.{jam-parts}
-use Rattle.parted.specs.declared.parts.Parts.{Parts}
 use Rattle.parted.proofs.size.scaled.Statement.{statement}
 use Rattle.parted.proofs.size.scaled.Tie as tie
 

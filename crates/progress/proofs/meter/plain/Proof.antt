@@ -3,9 +3,9 @@ use mathlib.Core.Path.{sym, subst}
 use mathlib.Core.Bool.{Bool, not}
 use native.Mathlib.Nat.{lt-of-le-of-lt}
 use borrow.Author.Needs.{needs}
-use lib.IntN.{ℤ, pos, natAbs}
+use lib.IntN.{ℤ, natAbs}
 use lib.Dec.{T, lit<}
-use lib.Signed.{_≤ℤ_, ltZ-no, yes-nonNeg, natAbs-le}
+use lib.Signed.{ltZ-no, yes-nonNeg, natAbs-le}
 use mir.Syntax.{w64}
 use mir.Val.{Fits, toZ, ofZ}
 use mir.ValLaws.{toZ-ofZ}

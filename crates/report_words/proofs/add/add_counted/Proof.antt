@@ -1,4 +1,3 @@
-use native.Mathlib.Omega.{arith}
 use Rattle.report_words.proofs.Steps.{stands-is, added, added-not}
 use borrow.Author.Needs.{needs}
 use Rattle.report_words.proofs.add.add_counted.Statement.{statement}

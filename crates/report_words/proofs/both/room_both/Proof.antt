@@ -1,4 +1,3 @@
-use native.Mathlib.Omega.{arith}
 use mathlib.Core.Path.{sym, _∙_}
 use Rattle.report_words.proofs.RoomSteps.{both-left, both-over}
 use borrow.Author.Needs.{needs}

@@ -1,5 +1,4 @@
 use mathlib.Core.Path.{_∙_}
-use native.Mathlib.Omega.{arith}
 use Rattle.report_words.proofs.Steps.{stands-is, sum-there, sum-not}
 use borrow.Author.Needs.{needs}
 use Rattle.report_words.proofs.parts.sum_of.Statement.{statement}

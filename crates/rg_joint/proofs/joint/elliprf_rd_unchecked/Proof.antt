@@ -1,6 +1,6 @@
 -- `elliprf_rd_unchecked` meets its contract. The invariant: what is left of the loop gives what the whole loop gives. Assumes
 -- nothing.
-use Prim.Native.Nat.{_+_, _≤_, _-_}
+use Prim.Native.Nat.{_-_}
 use mathlib.Core.Path.{_≡_, refl, sym, _∙_}
 use mathlib.Core.Bool.{false}
 use native.Mathlib.Omega.{arith}

@@ -1,7 +1,7 @@
 -- `agm_of` meets its contract. The invariant: what is left of the loop gives what the whole loop gives. Assumes nothing.
-use Prim.Native.Nat.{_≤_, _-_}
+use Prim.Native.Nat.{_-_}
 use mathlib.Core.Path.{_≡_, refl, sym, ap, _∙_}
-use mathlib.Core.Bool.{Bool, not}
+use mathlib.Core.Bool.{not}
 use native.Mathlib.Omega.{arith}
 use lib.Ieee.{Float}
 use Rattle.root.specs.Root.{root}

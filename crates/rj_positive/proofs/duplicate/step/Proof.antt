@@ -3,7 +3,7 @@ use mathlib.Core.Path.{_≡_, sym, ap, _∙_}
 use lib.Ieee.{Float}
 use Rattle.root.specs.Root.{root}
 use Rattle.rj_positive.specs.declared.duplicate.Round.{Round}
-use Rattle.rj_positive.specs.declared.duplicate.Roots.{Roots}
+use Rattle.rj_term.specs.declared.term.Roots.{Roots}
 use Rattle.rj_positive.specs.Duplicate.{rjWith, rjStep}
 use Rattle.rj_positive.proofs.duplicate.step.Statement.{statement}
 use Rattle.rj_positive.proofs.duplicate.step.Tie as tie

@@ -5,7 +5,6 @@ use native.Mathlib.Omega.{arith}
 use borrow.Author.Needs.{needs}
 use lib.Count.{leadingZeros}
 use lib.Ieee.{ofBits, nanBits, size}
-use lib.Ieee.Digits.{size-le}
 use Rattle.series.specs.Ln.{ln-below-half, below-exponent, full-digits}
 use Rattle.series.specs.Cases as cases
 use Rattle.series.proofs.Zeros.{zeros, shift-least, shift-most, shifted-is}

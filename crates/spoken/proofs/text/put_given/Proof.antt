@@ -8,10 +8,10 @@ use Rattle.spoken.proofs.text.put_given.Statement.{statement}
 use Rattle.spoken.proofs.text.put_given.Tie as tie
 
 abbrev Inv-loop : tie.InvT-loop
-Inv-loop line out₀ at end₀ i₀ t6 out end i = length out ≡ length out₀
+Inv-loop line out₀ at end₀ i₀ out end i = length out ≡ length out₀
 
 abbrev μ-loop : tie.MeasureT-loop
-μ-loop line out₀ at end₀ i₀ t6 out end i = length line - i
+μ-loop line out₀ at end₀ i₀ out end i = length line - i
 
 pub put-given-spec : {M : Type 1} → statement M
 put-given-spec =
@@ -25,7 +25,6 @@ put-given-spec =
     (λ c κs. tt)
     (λ c. omega arith)
     (λ c. omega arith)
-    (λ c. search needs)
     (λ c. search needs)
     (λ c κs. tt)
     (λ c. search needs)

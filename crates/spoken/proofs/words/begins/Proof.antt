@@ -1,7 +1,6 @@
 -- `begins` meets its contract: it goes from `at` to the line's end at most. Assumes nothing.
 use Prim.Native.Nat.{_-_, _≤_}
 use native.Mathlib.Omega.{arith}
-use borrow.Author.Needs.{needs}
 use lib.ListN.{length}
 use Rattle.spoken.proofs.words.begins.Statement.{statement}
 use Rattle.spoken.proofs.words.begins.Tie as tie

@@ -1,7 +1,6 @@
 -- `ends` meets its contract: it goes from past `at` to the line's end at most. Assumes nothing.
 use Prim.Native.Nat.{_-_, _≤_, _<_}
 use native.Mathlib.Omega.{arith}
-use borrow.Author.Needs.{needs}
 use lib.ListN.{length}
 use Rattle.spoken.proofs.words.ends.Statement.{statement}
 use Rattle.spoken.proofs.words.ends.Tie as tie

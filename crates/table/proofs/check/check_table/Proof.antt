@@ -1,12 +1,12 @@
 -- `check_table` meets its contract. The invariant: what is left of the list and of the words, with what is known so far, gives
 -- what all of them give. Assumes nothing.
-use Prim.Native.Nat.{ℕ, _-_, _≤_, _<_}
+use Prim.Native.Nat.{_-_, _≤_, _<_}
 use mathlib.Core.Path.{_≡_, sym, _∙_}
 use native.Mathlib.Omega.{arith}
 use borrow.Author.Needs.{needs}
 use denote.Ref.{now}
 use lib.ListN.{length}
-use Rattle.packed.specs.NumberLaws.{Bytes}
+use Rattle.packed_number.specs.NumberLaws.{Bytes}
 use Rattle.packed.specs.ListLaws.{nothing-left}
 use Rattle.packed.specs.Reading.{readAt}
 use Rattle.packed.specs.declared.read.Read.the-variants.{Found}

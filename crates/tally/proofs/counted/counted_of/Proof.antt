@@ -1,4 +1,5 @@
 use Rattle.tally.specs.Tally.{countedOf}
+use mathlib.Core.Path.{sym}
 use borrow.Author.Needs.{needs}
 use Rattle.tally.proofs.counted.counted_of.Statement.{statement}
 use Rattle.tally.proofs.counted.counted_of.Tie as tie
@@ -29,12 +30,12 @@ cast-t8 c = search needs
 -- src/counted.rt:16:1
 returns : tie.Need-returns
 unfolding countedOf
-returns c = cc
+returns c = rw (c .before .before .before .before .answer .given .1, sym (c .split .ensures))
 
 -- src/counted.rt:16:1
 returns-2 : tie.Need-returns-2
 unfolding countedOf
-returns-2 c = cc
+returns-2 c = rw (c .before .answer2 .given .1)
 
 pub counted-of-spec : {M : Type 1} → statement M
 counted-of-spec =

@@ -8,7 +8,7 @@ use borrow.Author.Needs.{needs}
 use borrow.Author.Tests.{eq-eqb, ne-eqb}
 use lib.ListN.{length}
 use lib.Seq.{take-length}
-use Rattle.packed.specs.Numbers.{list-cut}
+use Rattle.packed_number.specs.Numbers.{list-cut}
 use Rattle.packed.specs.declared.read.Got.{Got}
 use Rattle.packed.specs.declared.read.Read.{Read}
 use Rattle.packed.specs.declared.read.Read.the-variants.{Found, Nothing, Refused}

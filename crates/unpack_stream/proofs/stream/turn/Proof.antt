@@ -1,8 +1,8 @@
 -- `turn` meets its contract: a byte is taken, or a job's bytes at once. Assumes nothing.
-use Prim.Native.Nat.{ℕ, zero, suc, _+_, _-_, _≤_, _<_}
+use Prim.Native.Nat.{ℕ, suc, _+_, _-_, _≤_, _<_}
 use mathlib.Core.Path.{_≡_, refl, sym, ap, _∙_}
 use mathlib.Core.Bool.{Bool, true, false, cond}
-use mathlib.Core.List.{List, [], _∷_, _++_}
+use mathlib.Core.List.{List, [], _∷_}
 use native.Mathlib.Omega.{arith}
 use borrow.Author.Needs.{needs}
 use borrow.Author.Tests.{eqb-true}
@@ -13,16 +13,14 @@ use lib.Seq.{drop-cons, take-at}
 use Rattle.packed.specs.Jobs.{jobBytes, jobLength}
 use Rattle.packed.specs.LengthLaws.{job-some}
 use Rattle.packed.specs.Reading.{readAt}
-use Rattle.packed.specs.NumberLaws.{Bytes, bytes-drop}
+use Rattle.packed_number.specs.NumberLaws.{Bytes, bytes-drop}
 use Rattle.packed.specs.JobLaws.{Is, read-is}
 use Rattle.packed.specs.declared.read.Got.{Got}
-use Rattle.packed.specs.declared.read.Read.{Read}
-use Rattle.packed.specs.declared.read.Read.the-variants.{Found, Nothing, Refused}
-use Rattle.writing.specs.Fed.{Fed}
+use Rattle.packed.specs.declared.read.Read.the-variants.{Found, Nothing}
 use Rattle.writing.specs.FedLaws.{run-one}
-use Rattle.writing.specs.Written.{Put, put-length}
+use Rattle.writing.specs.Written.{Put}
 use Rattle.unpack_stream.specs.Text.{jobText}
-use Rattle.unpack_stream.specs.Unpack.{holding, unpackByte, unpackFrom, aheadAt, heldLength, Unpacks, Turns}
+use Rattle.unpack_stream.specs.Unpack.{holding, unpackByte, aheadAt, heldLength, Unpacks, Turns}
 use Rattle.unpack_stream.specs.WholeLaws.{bytes-front, job-run}
 use Rattle.unpack_stream.specs.declared.stream.Progress.{Progress}
 use Rattle.unpack_stream.proofs.stream.turn.Statement.{statement}

@@ -1,17 +1,12 @@
 -- `put_job_text` meets its contract: a run after a run is one run. Assumes nothing.
-use Prim.Native.Nat.{ℕ, _+_, _≤_, _<_}
+use Prim.Native.Nat.{_<_}
 use mathlib.Core.Path.{_≡_, _∙_}
-use mathlib.Core.Bool.{Bool, true, false, cond}
-use mathlib.Core.List.{List, []}
+use mathlib.Core.List.{[]}
 use native.Mathlib.Omega.{arith}
 use denote.Ref.{now}
 use lib.ListN.{length, length-set}
-use Rattle.digits.specs.Digits.{wordText}
-use Rattle.digits.specs.DigitLaws.{word-length}
-use Rattle.packed.specs.Jobs.{arityOf, argumentOf}
-use Rattle.packed.specs.declared.jobs.Job.{Job}
 use Rattle.writing.specs.Written.{put-more, put-length, put-byte}
-use Rattle.unpack_stream.specs.Text.{argumentText, jobText}
+use Rattle.unpack_stream.specs.Text.{jobText}
 use Rattle.unpack_stream.proofs.Lines.{argument-most, name-most}
 use Rattle.unpack_stream.proofs.text.put_job_text.Statement.{statement}
 use Rattle.unpack_stream.proofs.text.put_job_text.Tie as tie

@@ -1,11 +1,11 @@
 -- `count_jobs` meets its contract, by `CountSteps`. Assumes nothing.
-use Prim.Native.Nat.{ℕ, _-_, _≤_, _<_}
+use Prim.Native.Nat.{_-_, _≤_, _<_}
 use mathlib.Core.Path.{_≡_, sym, _∙_}
 use native.Mathlib.Omega.{arith}
 use borrow.Author.Needs.{needs}
 use denote.Ref.{now}
 use lib.ListN.{length}
-use Rattle.packed.specs.NumberLaws.{Bytes}
+use Rattle.packed_number.specs.NumberLaws.{Bytes}
 use Rattle.packed.specs.ListLaws.{nothing-left}
 use Rattle.packed.specs.RestLaws.{bytes-all, found-later}
 use Rattle.packed.specs.Reading.{readAt}

@@ -1,7 +1,6 @@
 -- `write_words` meets its contract: it hands out what `write_job` answers. Assumes nothing.
 use mathlib.Core.Path.{sym, _∙_}
 use borrow.Author.Needs.{needs}
-use Rattle.packed.specs.Writing.{bytesAfter}
 use Rattle.worklist.specs.Words.{jobOf, writtenNumber, writtenPlace}
 use Rattle.worklist.proofs.words.write_words.Statement.{statement}
 use Rattle.worklist.proofs.words.write_words.Tie as tie

@@ -1,0 +1,4 @@
+pub mod Helper
+pub mod Borders
+pub mod Term
+pub mod Few
