@@ -5,8 +5,8 @@ use lib.Ieee.{Float}
 use lib.Ieee.Scale.{finite}
 use Rattle.carlson.specs.Constants.{one, rc-no-result}
 use Rattle.carlson.specs.Answer.{closedAt, settled, settledLate}
-use Rattle.carlson.specs.Door.{moderate, moderate2, Moderate, moderate-told, inside2, not-below, not-zero, no-nan2, none-infinite2}
-use Rattle.carlson.specs.Door.{unscaled2}
+use Rattle.carlson.specs.Door.{moderate, moderate2, Moderate, moderate-told, inside2}
+use Rattle.carlson.specs.Door.{not-below, not-zero, no-nan2, none-infinite2, unscaled2}
 use Rattle.carlson.specs.declared.answer.Answer.the-variants.{Value}
 use Rattle.elliprc.specs.Rc.{rcCases, rcSteps, rcFound, overRoot, rcUnchecked, rc}
 
@@ -22,7 +22,8 @@ both-told true true h = (h, h)
 both-told true false h = absurd (true≢false (sym h))
 both-told false b h = absurd (true≢false (sym h))
 
-pub above : (x y v : Float) → moderate x && moderate y ≡ true → v ≡ rcCases one x y → finite v ≡ true → Value (closedAt v) ≡ rc x y
+pub above : (x y v : Float) → moderate x && moderate y ≡ true → v ≡ rcCases one x y → finite v ≡ true
+    → Value (closedAt v) ≡ rc x y
 above x y v h e f =
     let b = both-told (moderate x) (moderate y) h in
     let m = moderate-told y (b .1) in

@@ -72,8 +72,8 @@ fn checked(x: f64, y: f64) -> Answer
     )
 }
 
-// Two moderate arguments are answered here. This is small enough to be compiled into its callers, so that no answer is put together in
-// memory; `checked` is called twice, so that LLVM leaves it where it is.
+// Two moderate arguments are answered here. This is small enough to be compiled into its callers, so that no answer is put
+// together in memory; `checked` is called twice, so that LLVM leaves it where it is.
 pub fn elliprc(x: f64, y: f64) -> Answer
     ensures { λ r. ⌜ r ≡ rc x y ⌝ }
 {

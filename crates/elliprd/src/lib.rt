@@ -144,8 +144,8 @@ fn checked(x: f64, y: f64, z: f64) -> Answer
     )
 }
 
-// Three moderate arguments, x and y apart from z, are duplicated at once. This is small enough to be compiled into its callers, so that
-// the answer is put together where it goes; `checked` is called twice, so that LLVM leaves it where it is.
+// Three moderate arguments, x and y apart from z, are duplicated at once. This is small enough to be compiled into its callers,
+// so that the answer is put together where it goes; `checked` is called twice, so that LLVM leaves it where it is.
 pub fn elliprd(x: f64, y: f64, z: f64) -> Answer
     ensures { λ r. ⌜ r ≡ rd x y z ⌝ }
 {

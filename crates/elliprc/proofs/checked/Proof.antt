@@ -1,8 +1,6 @@
 -- `checked` meets its contract: within the door no test of the definition says yes; else its tests are those of the definition,
 -- in its order. Assumes nothing.
-use mathlib.Core.Path.{_≡_, sym, ap, _∙_}
-use mathlib.Core.Bool.{true}
-use lib.Ieee.{Float}
+use mathlib.Core.Path.{sym, ap, _∙_}
 use Rattle.carlson.specs.Constants.{rc-no-result}
 use Rattle.carlson.specs.Answer.{settled}
 use Rattle.carlson.specs.declared.answer.Found.{Found}

@@ -1,4 +1,4 @@
--- `elliprc` meets its contract: two moderate arguments take the closed forms, which no check comes before; all others are checked.
+-- `elliprc` meets its contract: two moderate arguments take the closed forms, and no check comes before; all others are checked.
 -- Assumes nothing.
 use mathlib.Core.Path.{_≡_, sym, ap, ap₂, _∙_}
 use mathlib.Core.Bool.{true, _&&_}
@@ -12,7 +12,8 @@ use Rattle.elliprc.proofs.elliprc.Tie as tie
 door : (c : tie.Then1) → (let a = c .before .before .before .before .args in moderate (a .x) && moderate (a .y) ≡ true)
 door c =
     let b = c .before in
-    ap₂ _&&_ (sym (b .before .before .moderate .ensures)) (sym (b .before .moderate2 .ensures)) ∙ sym (b .both .ensures) ∙ c .if1 .taken
+    ap₂ _&&_ (sym (b .before .before .moderate .ensures)) (sym (b .before .moderate2 .ensures))
+    ∙ sym (b .both .ensures) ∙ c .if1 .taken
 
 returns : tie.Need-returns
 returns c =

@@ -1,5 +1,5 @@
--- `elliprd` meets its contract: moderate arguments that are apart are duplicated, and no check comes before; all others are checked.
--- Assumes nothing.
+-- `elliprd` meets its contract: moderate arguments that are apart are duplicated, and no check comes before; all others are
+-- checked. Assumes nothing.
 use mathlib.Core.Path.{_≡_, refl, sym, ap, ap₂, _∙_}
 use mathlib.Core.Bool.{_&&_}
 use Rattle.carlson.specs.Answer.{handedAt}
