@@ -218,8 +218,9 @@ fn moved(s: Joint, l: Lambda, x: f64, y: f64, arf: f64, ard: f64) -> Joint
     }
 }
 
-// Whether the guesses are the roots. They are tested in one of three orders, to the same end: `rf_last` and `rd_last` foretell that
-// RF or RD will be close after this pass, and the processor, which sees here which way is gone, has begun what follows by then.
+// Whether the guesses are the roots. They are tested in one of three orders, to the same end: `rf_last` and `rd_last` foretell
+// that RF or RD will be close after this pass, and the processor, which sees here which way is gone, has begun what follows by
+// then.
 fn told(a: u64, b: u64, c: u64, rx: f64, ry: f64, rz: f64, rf_last: bool, rd_last: bool) -> bool
     requires { ⌜ Numbers3 rx ry rz ⌝ }
     ensures { λ r. ⌜ (r ≡ true → Rooted3 a b c rx ry rz) ⌝ }
@@ -274,13 +275,7 @@ fn step(s: Joint, x: f64, y: f64, arf: f64, ard: f64) -> Joint
 {
     let p = s.rf;
     let q = s.rd;
-    let l = lambda_at(
-        s.xn,
-        s.yn,
-        s.zn,
-        p.q * 0.25 < p.an,
-        q.q * 0.25 < q.an,
-    );
+    let l = lambda_at(s.xn, s.yn, s.zn, p.q * 0.25 < p.an, q.q * 0.25 < q.an);
     moved(s, l, x, y, arf, ard)
 }
 
