@@ -7,8 +7,8 @@
 // written as a product of three factors, which a processor works out side by side. So that no number stands before them, the
 // quotients are 1.456 times as large: 1.456 / (2 * r), and its square for w. The factors take u = m * 1.456² / (4 * r * r), which
 // is w * 1.456² and 1.456² / 4 more, so that they need not wait for d. The sum with r comes last, so that the only rounding that
-// counts is its own. (The factors are multiplied out in three different ways, so that LLVM works out no two of them as a pair,
-// for which it moves u and the results about: in a chain of roots that took 1.5 ns more.)
+// counts is its own. (The factors are written in three different ways, so that LLVM works out no two of them as a pair, for which
+// it moves u and the results about: in a chain of roots that took 1.5 ns more.)
 mod ahead;
 mod rows;
 mod start;
@@ -47,7 +47,9 @@ pub fn guess(b: u64) -> f64 {
     let f = u - 0.6632040417534174;
     let a = d * (by.0 * scale);
     let left = a * (e * e) + a * 0.36426702543150663;
-    let right = (f * f + 0.8884544985790055) * (2.1435591331037918 - u * (2.789318092962407 - u));
+    let g = 1.3946590464812034 - u;
+    let h = u - 1.3946590464812034;
+    let right = (f * f + 0.8884544985790055) * (0.19848527717193246 - g * h);
     near.0 * scale + left * right
 }
 
