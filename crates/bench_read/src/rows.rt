@@ -5,11 +5,11 @@ use millimetres::lengths;
 use millimetres::measure;
 use millimetres::plain;
 ghost use mathlib.Core.Path.{_≡_};
-ghost use Rattle.bench_read.specs.Rows.{timesFrom, rowFrom, named, stagedOf, fieldAt, swingFed, timesFed, blankAfter, otherAfter};
-ghost use Rattle.bench_read.specs.Rows.{rowAfter, swingBlank};
+ghost use Rattle.bench_read.specs.Rows.{timesFrom, rowFrom, named, stagedOf, fieldAt, swingFed, timesFed};
+ghost use Rattle.bench_read.specs.Rows.{swingBlank, blankAfter, otherAfter, rowAfter};
 
-// How far the line is: 0 nothing has come, 1 something, 2 a carriage return last, 3 something after that, which makes it bad. Where
-// it is: 0 in the name, 1 in the swing, 2 behind it. What is read of `L h g`, and of the two numbers that come last.
+// How far the line is: 0 nothing has come, 1 something, 2 a carriage return last, 3 something after that, which makes it bad.
+// Where it is: 0 in the name, 1 in the swing, 2 behind it. What is read of `L h g`, and of the two numbers that come last.
 pub struct Row {
     pub stage: u64,
     pub field: u64,

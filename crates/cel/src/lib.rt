@@ -6,6 +6,7 @@ use binary64::abs;
 use binary64::is_finite;
 use carlson::answer::Answer;
 use carlson::answer::Found;
+use carlson::answer::handed;
 use carlson::answer::infinite;
 use carlson::checks::any_nan4;
 use carlson::checks::both;
@@ -69,12 +70,13 @@ fn unsettled(kc: f64, p: f64, a: f64, b: f64) -> Answer
     Answer::Refused(NO_RESULT)
 }
 
+// What was found is put together anew, field by field: copied whole, the bytes between its fields are copied too, one by one.
 fn settled(found: Found, kc: f64, p: f64, a: f64, b: f64) -> Answer
     ensures { λ r. ⌜ r ≡ celSettled found kc p a b ⌝ }
 {
     let value = found.value;
     if is_finite(value) {
-        return Answer::Value(found);
+        return Answer::Value(handed(found, value));
     }
     unsettled(kc, p, a, b)
 }

@@ -7,8 +7,9 @@ use carlson::constants::PI_2;
 use root::sqrt;
 use root::sqrt_ahead;
 use root_guess::Ahead;
-use root_guess::nearly;
+use root_guess::nearly_twice;
 use root_guess::ready;
+use root_guess::unready;
 ghost use mathlib.Core.Path.{_≡_};
 ghost use Rattle.cel.specs.Passes.{
   celAbove,
@@ -29,6 +30,9 @@ ghost use Rattle.cel.specs.Passes.{
 const CAP: u32 = 30;
 
 const TOLERANCE: f64 = 1.4901161193847656e-8;
+
+// Eight times as much: no answer rests on it.
+const TOO_FAR: f64 = 1.1920928955078125e-7;
 
 // The running quantities by the Rust's names; g is the m of before the pass.
 pub struct Running {
@@ -138,9 +142,15 @@ fn next(s: Running, k: Ahead) -> Running
     pass(with_kc(s, 2.0 * sqrt_ahead(s.e, k)))
 }
 
-// For the root after that, whose number is the next kc times m.
+// For the root after that, whose number is the next kc times m. None will be wanted where the next pass brings kc as near to m as
+// the tolerance asks: its distance is some d * d / (4 * g). To say so here is for the processor, which so learns a pass ahead how
+// the loop will end, and has begun what follows by then.
 fn ready_next(s: Running, k: Ahead) -> Ahead {
-    ready(nearly(s.e, k) * (2.0 * s.m))
+    let d = s.g - s.kc;
+    if d * d > s.g * s.g * TOO_FAR {
+        return ready(nearly_twice(s.e, k) * s.m);
+    }
+    unready()
 }
 
 fn value_of(s: Running) -> f64

@@ -7,6 +7,9 @@ use series::atan;
 use series::ln;
 use series::ln_1p;
 ghost use mathlib.Core.Path.{_≡_};
+ghost use lib.Ieee.{neg};
+ghost use Rattle.binary64.specs.Operators.{_⊖_};
+ghost use Rattle.series.specs.Ln1p.{ln-1p};
 ghost use Rattle.elliprc.specs.Rc.{rcSteps, rcCases, rcAtZero, rcAtEqual, rcByAtan, rcByLn1p, rcByLn};
 
 // RC(0, y)
@@ -31,12 +34,19 @@ fn by_atan(prefix: f64, x: f64, y: f64) -> f64
     prefix * atan(r.x) / r.y
 }
 
+// Of both logarithms LLVM makes much code, so it stands apart: RJ's helper calls it too, and no caller holds it.
+pub fn ln_1p_apart(a: f64) -> f64
+    ensures { λ r. ⌜ r ≡ ln-1p a ⊖ ln-1p (neg a) ⌝ }
+{
+    ln_1p(a) - ln_1p(-a)
+}
+
 // y < x, with y near x: a difference of two logarithms near 1 keeps its digits.
 fn by_ln_1p(prefix: f64, x: f64, y: f64) -> f64
     ensures { λ r. ⌜ r ≡ rcByLn1p prefix x y ⌝ }
 {
     let r = both_roots((x - y) / x, x - y);
-    prefix * (ln_1p(r.x) - ln_1p(-r.x)) / (2.0 * r.y)
+    prefix * ln_1p_apart(r.x) / (2.0 * r.y)
 }
 
 // y < x, with y at most x / 2
@@ -47,7 +57,7 @@ fn by_ln(prefix: f64, x: f64, y: f64) -> f64
     prefix * ln((r.x + r.y) / r.z) / r.y
 }
 
-fn cases(prefix: f64, x: f64, y: f64) -> f64
+pub fn cases(prefix: f64, x: f64, y: f64) -> f64
     ensures { λ r. ⌜ r ≡ rcCases prefix x y ⌝ }
 {
     if x == 0.0 {

@@ -3,7 +3,10 @@
 mod cases;
 mod roots;
 
+use crate::cases::cases;
+pub use crate::cases::ln_1p_apart;
 use crate::cases::steps;
+use binary64::is_finite;
 use carlson::answer::Answer;
 use carlson::answer::Found;
 use carlson::answer::closed;
@@ -12,9 +15,11 @@ use carlson::answer::settle;
 use carlson::answer::settle_late;
 use carlson::checks::any_infinite2;
 use carlson::checks::any_nan2;
+use carlson::checks::both;
 use carlson::constants::BELOW_ZERO;
 use carlson::constants::RC_NO_RESULT;
 use carlson::constants::ZERO_GIVEN;
+use carlson::door::moderate;
 use carlson::door::moderate2;
 use carlson::rescaling::rescales2;
 use carlson::rescaling::scale2;
@@ -46,7 +51,8 @@ pub fn elliprc_unchecked(x: f64, y: f64) -> Found
     found(x, y)
 }
 
-pub fn elliprc(x: f64, y: f64) -> Answer
+// At any two f64s.
+fn checked(x: f64, y: f64) -> Answer
     ensures { λ r. ⌜ r ≡ rc x y ⌝ }
 {
     if moderate2(x, y) {
@@ -64,4 +70,19 @@ pub fn elliprc(x: f64, y: f64) -> Answer
         any_infinite2(x, y),
         RC_NO_RESULT,
     )
+}
+
+// Two moderate arguments are answered here. This is small enough to be compiled into its callers, so that no answer is put
+// together in memory; `checked` is called twice, so that LLVM leaves it where it is.
+pub fn elliprc(x: f64, y: f64) -> Answer
+    ensures { λ r. ⌜ r ≡ rc x y ⌝ }
+{
+    if both(moderate(x), moderate(y)) {
+        let value = cases(1.0, x, y);
+        if is_finite(value) {
+            return Answer::Value(closed(value));
+        }
+        return checked(x, y);
+    }
+    checked(x, y)
 }

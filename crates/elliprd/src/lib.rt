@@ -7,6 +7,7 @@ mod means;
 
 use crate::duplicate::duplicated;
 use crate::means::agm_of;
+use binary64::is_finite;
 use binary64::min;
 use carlson::answer::Answer;
 use carlson::answer::closed;
@@ -21,6 +22,7 @@ use carlson::constants::NO_RESULT;
 use carlson::constants::PI;
 use carlson::constants::Z_NOT_ABOVE;
 use carlson::constants::ZEROS;
+use carlson::door::moderate;
 use carlson::door::moderate3;
 use carlson::rescaling::rescales3;
 use carlson::rescaling::scale3;
@@ -118,7 +120,8 @@ fn settled(a: Answer, nan: bool, unbounded: bool) -> Answer
     }
 }
 
-pub fn elliprd(x: f64, y: f64, z: f64) -> Answer
+// At any three f64s.
+fn checked(x: f64, y: f64, z: f64) -> Answer
     ensures { λ r. ⌜ r ≡ rd x y z ⌝ }
 {
     if moderate3(x, y, z) {
@@ -139,4 +142,22 @@ pub fn elliprd(x: f64, y: f64, z: f64) -> Answer
         any_nan3(x, y, z),
         any_infinite3(x, y, z),
     )
+}
+
+// Three moderate arguments, x and y apart from z, are duplicated at once. This is small enough to be compiled into its callers,
+// so that the answer is put together where it goes; `checked` is called twice, so that LLVM leaves it where it is.
+pub fn elliprd(x: f64, y: f64, z: f64) -> Answer
+    ensures { λ r. ⌜ r ≡ rd x y z ⌝ }
+{
+    if both(
+        both(both(moderate(x), x != z), both(moderate(y), y != z)),
+        moderate(z),
+    ) {
+        let found = duplicated(x, y, z);
+        if is_finite(found.value) {
+            return Answer::Value(handed(found, found.value));
+        }
+        return checked(x, y, z);
+    }
+    checked(x, y, z)
 }

@@ -16,6 +16,7 @@ ghost use Prim.Native.Nat.{_-_, _≤_};
 ghost use mathlib.Core.Path.{_≡_};
 ghost use mathlib.Core.Bool.{true, false};
 ghost use Rattle.root.specs.Root.{root};
+ghost use Rattle.root.specs.Together.{Numbers3, Rooted3};
 ghost use Rattle.carlson.specs.Common.{lambdaWith};
 ghost use Rattle.carlson.specs.Loop.{capped};
 ghost use Rattle.elliprf.specs.Duplicate.{
@@ -90,9 +91,31 @@ fn moved(s: Round, l: Lambda) -> Round
     }
 }
 
+// Whether the guesses are the roots. They are tested in the one order or the other, to the same end: `last` foretells that the
+// loop will end with this pass, and the processor, which sees here which way is gone, has begun what follows by then.
+fn told(a: u64, b: u64, c: u64, rx: f64, ry: f64, rz: f64, last: bool) -> bool
+    requires { ⌜ Numbers3 rx ry rz ⌝ }
+    ensures { λ r. ⌜ (r ≡ true → Rooted3 a b c rx ry rz) ⌝ }
+{
+    if last {
+        if certain(c, f64::to_bits(rz)) {
+            if certain(b, f64::to_bits(ry)) {
+                return certain(a, f64::to_bits(rx));
+            }
+        }
+        return false;
+    }
+    if certain(a, f64::to_bits(rx)) {
+        if certain(b, f64::to_bits(ry)) {
+            return certain(c, f64::to_bits(rz));
+        }
+    }
+    false
+}
+
 // The guesses first and then the tests, so that the processor makes the guesses side by side. This stands in each entry, since
 // LLVM compiles a function of this size into a loop only where it is called once.
-fn tried(x: f64, y: f64, z: f64) -> Trial
+fn tried(x: f64, y: f64, z: f64, last: bool) -> Trial
     ensures { λ r. ⌜ (r .told ≡ true → r .by ≡ lambdaWith (root x) (root y) (root z)) ⌝ }
 {
     if numbers3(x, y, z) {
@@ -103,15 +126,11 @@ fn tried(x: f64, y: f64, z: f64) -> Trial
         let ry = by_row(b, row(b));
         let rz = by_row(c, row(c));
         if numbers3(rx, ry, rz) {
-            if certain(a, f64::to_bits(rx)) {
-                if certain(b, f64::to_bits(ry)) {
-                    if certain(c, f64::to_bits(rz)) {
-                        return Trial {
-                            told: true,
-                            by: lambda_with(rx, ry, rz),
-                        };
-                    }
-                }
+            if told(a, b, c, rx, ry, rz, last) {
+                return Trial {
+                    told: true,
+                    by: lambda_with(rx, ry, rz),
+                };
             }
         }
     }
@@ -187,7 +206,7 @@ pub fn duplicated(x: f64, y: f64, z: f64) -> Found
         if n == CAP {
             break onward(x, y, a0, at, n);
         }
-        let t = tried(at.xn, at.yn, at.zn);
+        let t = tried(at.xn, at.yn, at.zn, at.q * 0.25 < at.an);
         if t.told {
             at = moved(at, t.by);
             n += 1;

@@ -6,13 +6,17 @@ use carlson::constants::PI;
 use root::sqrt;
 use root::sqrt_ahead;
 use root_guess::Ahead;
-use root_guess::nearly;
+use root_guess::nearly_twice;
 use root_guess::ready;
+use root_guess::unready;
 ghost use mathlib.Core.Path.{_≡_};
 ghost use Rattle.elliprf.specs.Means.{rfMeansOf, rfAgmValue, rfAgmOf};
 
 // The Rust's cap on its passes, which it shares with duplication.
 const CAP: u32 = 11;
+
+// 8 * 2.7 * 2 ^ -52: no answer rests on it.
+const TOO_FAR: f64 = 4.8e-15;
 
 // The running means.
 pub struct Means {
@@ -30,9 +34,14 @@ fn next_means(m: Means, k: Ahead) -> Means
     }
 }
 
-// For the root after that, before the one of this pass is there.
+// For the root after that, before the one of this pass is there. None will be wanted where the next means agree: they differ by
+// some d * d / (8 * xn). The processor so learns a pass ahead how the loop will end.
 fn ready_next(m: Means, k: Ahead) -> Ahead {
-    ready((m.xn + m.yn) / 2.0 * nearly(m.xn * m.yn, k))
+    let d = m.xn - m.yn;
+    if d * d > m.xn * m.xn * TOO_FAR {
+        return ready((m.xn + m.yn) * 0.25 * nearly_twice(m.xn * m.yn, k));
+    }
+    unready()
 }
 
 fn value_of(m: Means) -> f64

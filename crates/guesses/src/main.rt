@@ -11,6 +11,7 @@ use root_guess::by_ahead;
 use root_guess::by_row;
 use root_guess::ready;
 use root_guess::row;
+use root_guess::two_factors;
 
 const NUMBERS: u64 = 20_000;
 
@@ -75,7 +76,8 @@ fn beside_way(x: f64) -> usize {
 // Of the guess in a chain of roots, likewise, made ready from a number that is off by a part in 8,192.
 fn ahead_way(x: f64) -> usize {
     if x > 0.0 {
-        let s = by_ahead(x, ready(x + x * 0.0001220703125));
+        let k = ready(x + x * 0.0001220703125);
+        let s = by_ahead(x, k, two_factors(x, k));
         if s > 0.0 {
             if certain(f64::to_bits(x), f64::to_bits(s)) {
                 return 1;

@@ -8,8 +8,8 @@ use Rattle.swing_read.specs.declared.Reading.{Reading}
 use Rattle.swing_read.specs.declared.Line.{Line}
 use Rattle.millimetres.specs.declared.Measured.{Measured}
 
--- The parts: 0 nothing or a whole number's figures, 1 a blank behind it, 2 the point, 3 to 5 one to three places behind it, 6 the blank
--- behind these, 7 and 8 the letters of `mm`; 9 a line without lengths.
+-- The parts: 0 nothing or a whole number's figures, 1 a blank behind it, 2 the point, 3 to 5 one to three places behind it, 6 the
+-- blank behind these, 7 and 8 the letters of `mm`; 9 a line without lengths.
 abbrev pub told : ℕ → Reading → Measured
 told part r = record { part = part; reading = r }
 

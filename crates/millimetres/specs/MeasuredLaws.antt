@@ -1,5 +1,5 @@
--- A length in millimetres is read as the micrometres that it is, one that is finer makes the line bad, and a line without a point and
--- without an m is read as before. Assumes nothing.
+-- A length in millimetres is read as the micrometres that it is, one that is finer makes the line bad, and a line without a
+-- point and without an m is read as before. Assumes nothing.
 use Prim.Native.Nat.{ℕ, zero, suc, _+_, _*_, _/_, _%_, _^_, _<_}
 use mathlib.Core.Path.{_≡_, refl, sym, ap, _∙_}
 use mathlib.Core.Bool.{Bool, true, false, not, _&&_, cond, true≢false}
@@ -194,7 +194,8 @@ module _ (k a b : ℕ) (K : k < 2) where
       ∙ ap (λ (n : Measured). bytesMeasured n rest) (whole-part v u) ∙ e
 
   -- THE LAW: `v mm`, and with one, two and three places, is read as so many micrometres
-  pub whole-length : (v : ℕ) → v * 1000 < 2 ^ 64 → bytesMeasured (told 0 (at k a b false 0)) (decimal 19 v ++ unit) ≡ done (v * 1000)
+  pub whole-length : (v : ℕ) → v * 1000 < 2 ^ 64
+      → bytesMeasured (told 0 (at k a b false 0)) (decimal 19 v ++ unit) ≡ done (v * 1000)
   whole-length v u = behind v unit (done (v * 1000)) (omega arith) (no-places v u)
 
   pub one-place : (v d : ℕ) → d < 10 → v * 1000 + d * 100 < 2 ^ 64
@@ -208,7 +209,8 @@ module _ (k a b : ℕ) (K : k < 2) where
       after v d u = after-one (v * 10 + d) (omega arith) ∙ ap done (omega arith)
 
   pub two-places : (v d e : ℕ) → d < 10 → e < 10 → v * 1000 + d * 100 + e * 10 < 2 ^ 64
-      → bytesMeasured (told 0 (at k a b false 0)) (decimal 19 v ++ (46 ∷ (48 + d) ∷ (48 + e) ∷ unit)) ≡ done (v * 1000 + d * 100 + e * 10)
+      → bytesMeasured (told 0 (at k a b false 0)) (decimal 19 v ++ (46 ∷ (48 + d) ∷ (48 + e) ∷ unit))
+      ≡ done (v * 1000 + d * 100 + e * 10)
   two-places v d e h i u = behind v (46 ∷ (48 + d) ∷ (48 + e) ∷ unit) (done (v * 1000 + d * 100 + e * 10)) (omega arith)
       (unfold bytesMeasured in
       rw (pointed v, figure 0 v d (omega arith) h (omega arith), figure 1 (v * 10 + d) e (omega arith) i (omega arith))
@@ -233,7 +235,8 @@ module _ (k a b : ℕ) (K : k < 2) where
       (after v d e f))
     where
       after : (v d e f : ℕ)
-          → bytesMeasured (told 5 (at k a b true (((v * 10 + d) * 10 + e) * 10 + f))) unit ≡ done (v * 1000 + d * 100 + e * 10 + f)
+          → bytesMeasured (told 5 (at k a b true (((v * 10 + d) * 10 + e) * 10 + f))) unit
+          ≡ done (v * 1000 + d * 100 + e * 10 + f)
       after v d e f = after-three (((v * 10 + d) * 10 + e) * 10 + f) ∙ ap done (omega arith)
 
 -- ---- what is finer

@@ -1,5 +1,5 @@
-// A line as it comes whose first two numbers may be lengths in millimetres, as `250.5 mm`: they are read as the whole micrometres that
-// they are. What is finer than a micrometre makes the line bad; nothing is rounded.
+// A line as it comes whose first two numbers may be lengths in millimetres, as `250.5 mm`: they are read as the whole micrometres
+// that they are. What is finer than a micrometre makes the line bad; nothing is rounded.
 use swing_read::Reading;
 use swing_read::spoilt;
 use swing_read::start;

@@ -1,5 +1,5 @@
-// A number in groups of seven bits, low group first, top bit set while more follow, shortest form only (document 02, 2026-03): read at
-// a place of a lent slice, and how long it is written.
+// A number in groups of seven bits, low group first, top bit set while more follow, shortest form only (document 02, 2026-03):
+// read at a place of a lent slice, and how long it is written.
 ghost use mathlib.Core.Path.{_≡_};
 ghost use Prim.Native.Nat.{_+_, _*_, _^_, _<_};
 ghost use lib.ListN.{length};

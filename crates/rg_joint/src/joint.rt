@@ -12,7 +12,9 @@ use root::together::numbers3;
 use root_guess::by_row;
 use root_guess::row;
 ghost use mathlib.Core.Path.{_≡_};
+ghost use mathlib.Core.Bool.{true};
 ghost use Rattle.root.specs.Root.{root};
+ghost use Rattle.root.specs.Together.{Numbers3, Rooted3};
 ghost use Rattle.carlson.specs.Common.{lambdaWith};
 ghost use Rattle.rg_joint.specs.Joint.{
   rfBegun,
@@ -216,9 +218,40 @@ fn moved(s: Joint, l: Lambda, x: f64, y: f64, arf: f64, ard: f64) -> Joint
     }
 }
 
+// Whether the guesses are the roots. They are tested in one of three orders, to the same end: `rf_last` and `rd_last` foretell
+// that RF or RD will be close after this pass, and the processor, which sees here which way is gone, has begun what follows by
+// then.
+fn told(a: u64, b: u64, c: u64, rx: f64, ry: f64, rz: f64, rf_last: bool, rd_last: bool) -> bool
+    requires { ⌜ Numbers3 rx ry rz ⌝ }
+    ensures { λ r. ⌜ (r ≡ true → Rooted3 a b c rx ry rz) ⌝ }
+{
+    if rf_last {
+        if certain(c, f64::to_bits(rz)) {
+            if certain(b, f64::to_bits(ry)) {
+                return certain(a, f64::to_bits(rx));
+            }
+        }
+        return false;
+    }
+    if rd_last {
+        if certain(b, f64::to_bits(ry)) {
+            if certain(a, f64::to_bits(rx)) {
+                return certain(c, f64::to_bits(rz));
+            }
+        }
+        return false;
+    }
+    if certain(a, f64::to_bits(rx)) {
+        if certain(b, f64::to_bits(ry)) {
+            return certain(c, f64::to_bits(rz));
+        }
+    }
+    false
+}
+
 // The guesses first and then the tests, so that the processor makes the guesses side by side. This stands in each entry, since
 // LLVM compiles a function of this size into a loop only where it is called once.
-fn lambda_at(x: f64, y: f64, z: f64) -> Lambda
+fn lambda_at(x: f64, y: f64, z: f64, rf_last: bool, rd_last: bool) -> Lambda
     ensures { λ r. ⌜ r ≡ lambdaWith (root x) (root y) (root z) ⌝ }
 {
     if numbers3(x, y, z) {
@@ -229,12 +262,8 @@ fn lambda_at(x: f64, y: f64, z: f64) -> Lambda
         let ry = by_row(b, row(b));
         let rz = by_row(c, row(c));
         if numbers3(rx, ry, rz) {
-            if certain(a, f64::to_bits(rx)) {
-                if certain(b, f64::to_bits(ry)) {
-                    if certain(c, f64::to_bits(rz)) {
-                        return lambda_with(rx, ry, rz);
-                    }
-                }
+            if told(a, b, c, rx, ry, rz, rf_last, rd_last) {
+                return lambda_with(rx, ry, rz);
             }
         }
     }
@@ -244,7 +273,10 @@ fn lambda_at(x: f64, y: f64, z: f64) -> Lambda
 fn step(s: Joint, x: f64, y: f64, arf: f64, ard: f64) -> Joint
     ensures { λ r. ⌜ r ≡ jointNext x y arf ard s ⌝ }
 {
-    moved(s, lambda_at(s.xn, s.yn, s.zn), x, y, arf, ard)
+    let p = s.rf;
+    let q = s.rd;
+    let l = lambda_at(s.xn, s.yn, s.zn, p.q * 0.25 < p.an, q.q * 0.25 < q.an);
+    moved(s, l, x, y, arf, ard)
 }
 
 fn all_done(s: Joint) -> bool

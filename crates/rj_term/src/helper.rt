@@ -5,11 +5,11 @@ use carlson::answer::Found;
 use carlson::answer::carried;
 use carlson::answer::closed;
 use elliprc::elliprc_unchecked;
+use elliprc::ln_1p_apart;
 use polynomial::polynomial;
 use root::sqrt;
 use series::atan;
 use series::ln;
-use series::ln_1p;
 ghost use mathlib.Core.Path.{_≡_};
 ghost use mathlib.Core.Bool.{_&&_};
 ghost use lib.Dec.{T};
@@ -30,7 +30,7 @@ fn by_logs(y: f64) -> f64
     ensures { λ r. ⌜ r ≡ byLogs1p y ⌝ }
 {
     let arg = sqrt(-y);
-    (ln_1p(arg) - ln_1p(-arg)) / (2.0 * sqrt(-y))
+    ln_1p_apart(arg) / (2.0 * sqrt(-y))
 }
 
 // The Cauchy principal value.

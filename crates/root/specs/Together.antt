@@ -1,4 +1,5 @@
 -- Several f64s of which none is NaN, by one test of their sum; and what the test of a guess says of the f64s. Assumes nothing.
+use Prim.Native.Nat.{ℕ}
 use mathlib.Core.Path.{_≡_, sym, ap, _∙_, subst}
 use mathlib.Core.Bool.{Bool, true, not, true≢false}
 use lib.Dec.{T}
@@ -64,6 +65,14 @@ numbers4-told x y z p h =
     let r = first (x ⊕ y ⊕ z) p s in
     let t = first (x ⊕ y) z r in
     record { one = first x y t; two = second x y t; three = second (x ⊕ y) z r; four = second (x ⊕ y ⊕ z) p s }
+
+-- what `certain` tells of a number's pattern and a root's
+abbrev pub Rooted : ℕ → ℕ → Type 0
+Rooted b s = ofBits binary64 s ≡ root (ofBits binary64 b)
+
+-- and of three numbers' patterns and three f64s
+abbrev pub Rooted3 : ℕ → ℕ → ℕ → Float → Float → Float → Type 0
+Rooted3 a b c x y z = Rooted a (toBits binary64 x) × (Rooted b (toBits binary64 y) × Rooted c (toBits binary64 z))
 
 -- of the patterns of two f64s it was told that one is the other's root: so it is of the f64s
 pub root-told : (x s : Float) → fits binary64 x ≡ true → fits binary64 s ≡ true

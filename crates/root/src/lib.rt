@@ -14,11 +14,13 @@ pub use crate::certificate::certain;
 use crate::certificate::certified;
 use crate::exact::search;
 use crate::parts::scaled;
+use crate::together::numbers3;
 pub use crate::way::Found;
 pub use crate::way::Way;
 use root_guess::Ahead;
 use root_guess::by_ahead;
 use root_guess::guess;
+use root_guess::two_factors;
 ghost use mathlib.Core.Path.{_≡_};
 ghost use Prim.Native.Nat.{_^_, _<_};
 ghost use lib.Ieee.{binary64, ofBits};
@@ -114,11 +116,13 @@ pub fn sqrt(x: f64) -> f64
 }
 
 // The same where all but the number was made ready ahead: in a chain of roots. It is small enough to be compiled into each loop.
+// The test for NaN stands in the middle of the guess (`two_factors`); `certain` tells the sign.
 pub fn sqrt_ahead(x: f64, k: Ahead) -> f64
     ensures { λ r. ⌜ r ≡ root x ⌝ }
 {
-    if x > 0.0 {
-        let s = by_ahead(x, k);
+    let factors = two_factors(x, k);
+    if numbers3(x, factors, factors) {
+        let s = by_ahead(x, k, factors);
         if s > 0.0 {
             if certain(f64::to_bits(x), f64::to_bits(s)) {
                 return s;

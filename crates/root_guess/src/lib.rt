@@ -7,16 +7,18 @@
 // written as a product of three factors, which a processor works out side by side. So that no number stands before them, the
 // quotients are 1.456 times as large: 1.456 / (2 * r), and its square for w. The factors take u = m * 1.456² / (4 * r * r), which
 // is w * 1.456² and 1.456² / 4 more, so that they need not wait for d. The sum with r comes last, so that the only rounding that
-// counts is its own. (One factor has its sign turned, so that LLVM does not work out two of them as a pair, for which it moves
-// u and the results about: in a chain of roots that took 1.5 ns more.)
+// counts is its own. (The factors are written in three different ways, so that LLVM works out no two of them as a pair, for which
+// it moves u and the results about: in a chain of roots that took 1.5 ns more.)
 mod ahead;
 mod rows;
 mod start;
 
 pub use crate::ahead::Ahead;
 pub use crate::ahead::by_ahead;
-pub use crate::ahead::nearly;
+pub use crate::ahead::nearly_twice;
 pub use crate::ahead::ready;
+pub use crate::ahead::two_factors;
+pub use crate::ahead::unready;
 pub use crate::rows::Row;
 use crate::rows::row_of;
 use crate::start::slope;
@@ -43,9 +45,11 @@ pub fn guess(b: u64) -> f64 {
     let u = m * by.1;
     let e = u + 0.13092316879844296;
     let f = u - 0.6632040417534174;
+    let a = d * (by.0 * scale);
+    let left = a * (e * e) + a * 0.36426702543150663;
     let g = 1.3946590464812034 - u;
-    let left = d * (by.0 * scale) * (e * e + 0.36426702543150663);
-    let right = (f * f + 0.8884544985790055) * (g * g + 0.19848527717193246);
+    let h = u - 1.3946590464812034;
+    let right = (f * f + 0.8884544985790055) * (0.19848527717193246 - g * h);
     near.0 * scale + left * right
 }
 

@@ -11,7 +11,8 @@ use Rattle.millimetres.specs.Measured.{byteMeasured, bytesMeasured, atEnd, meas
 use Rattle.millimetres.specs.MeasuredLaws.{measured-last}
 use Rattle.millimetres.specs.Begun.{line-measured, lengths-unread, plain-unread}
 use Rattle.millimetres.specs.declared.Measured.{Measured}
-use Rattle.swing_stream.specs.Lines.{lineStart, fresh, takes, taken, noted, swingSaid, stepsAfter, stepsSaid, afterLine, saidTo}
+use Rattle.swing_stream.specs.Lines.{lineStart, fresh, takes, taken, noted, swingSaid, stepsAfter, stepsSaid, afterLine}
+use Rattle.swing_stream.specs.Lines.{saidTo}
 use Rattle.swing_stream.specs.Stream.{heard, said, lineEnd, swingByte, swingFrom, saidAtEnd, saidLast, repliesFrom}
 use Rattle.swing_read.specs.declared.Line.{Line}
 use Rattle.swing_read.specs.declared.Line.the-variants.{One, Three, Bad}
@@ -53,7 +54,8 @@ start-unread true = plain-unread
 start-unread false = lengths-unread
 
 -- ---- the whole input
-at-end : (begun : List ℕ) (s : State) → s .reading ≡ bytesMeasured (lineStart (s .counting)) begun → saidLast s ≡ repliesFrom s (lastLine begun)
+at-end : (begun : List ℕ) (s : State) → s .reading ≡ bytesMeasured (lineStart (s .counting)) begun
+    → saidLast s ≡ repliesFrom s (lastLine begun)
 unfolding saidLast lastLine repliesFrom said heard measuredLine
 at-end [] s e = subst (λ (b : Bool). cond b (saidAtEnd s) (said s ++ saidAtEnd (heard s)) ≡ saidAtEnd s)
     (sym (ap unread e ∙ start-unread (s .counting))) refl
@@ -84,13 +86,15 @@ from-begun (b ∷ bs) begun s e = go (eqb b 10) (from-begun bs)
     fresh-line = unfold heard bytesMeasured in after-line s (lineOf (atEnd (s .reading)))
 
     go : (t : Bool)
-        → ((l : List ℕ) (u : State) → u .reading ≡ bytesMeasured (lineStart (u .counting)) l → saidAll u bs ≡ repliesFrom u (linesFrom l bs))
+        → ((l : List ℕ) (u : State) → u .reading ≡ bytesMeasured (lineStart (u .counting)) l
+        → saidAll u bs ≡ repliesFrom u (linesFrom l bs))
         → (let p : Ran State = cond t (lineEnd s) (quiet on) in
         (p .said ++ swingFrom (p .left) bs .said) ++ saidLast (swingFrom (p .left) bs .left)
         ≡ repliesFrom s (cond t (begun ∷ linesFrom [] bs) (linesFrom (begun ++ b ∷ []) bs)))
     go true rest = rw (append-assoc, rest [] (heard s) fresh-line) ends
     go false rest =
-        rest (begun ++ b ∷ []) on (ap (λ (r : Measured). byteMeasured r b) e ∙ sym (measured-last begun (lineStart (s .counting)) b))
+        rest (begun ++ b ∷ []) on
+        (ap (λ (r : Measured). byteMeasured r b) e ∙ sym (measured-last begun (lineStart (s .counting)) b))
         ∙ same-replies (linesFrom (begun ++ b ∷ []) bs) s (byteMeasured (s .reading) b)
 
 -- THE LAW: fed whole, an input gives a reply to each of its lines in order, and what is said at its end

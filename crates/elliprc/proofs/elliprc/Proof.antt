@@ -1,45 +1,38 @@
--- `elliprc` meets its contract: within the door no test of the definition says yes; else its tests are those of the definition,
--- in its order. Assumes nothing.
-use mathlib.Core.Path.{_≡_, sym, ap, _∙_}
-use mathlib.Core.Bool.{true}
-use lib.Ieee.{Float}
-use Rattle.carlson.specs.Constants.{rc-no-result}
-use Rattle.carlson.specs.Answer.{settled, settledLate}
-use Rattle.carlson.specs.declared.answer.Found.{Found}
-use Rattle.carlson.specs.Door.{moderate2, inside2, not-below, not-zero, no-nan2, none-infinite2, unscaled2}
-use Rattle.elliprc.specs.Rc.{rcFound, overRoot, rcUnchecked, rc}
+-- `elliprc` meets its contract: two moderate arguments take the closed forms, and no check comes before; all others are checked.
+-- Assumes nothing.
+use mathlib.Core.Path.{_≡_, sym, ap, ap₂, _∙_}
+use mathlib.Core.Bool.{true, _&&_}
+use Rattle.carlson.specs.Door.{moderate}
+use Rattle.carlson.specs.declared.answer.Answer.the-variants.{Value}
+use Rattle.elliprc.proofs.Within.{above}
 use Rattle.elliprc.proofs.elliprc.Statement.{statement}
 use Rattle.elliprc.proofs.elliprc.Tie as tie
 
-within : (x y : Float) → moderate2 x y ≡ true → settled (rcFound x y) rc-no-result ≡ rc x y
-unfolding rc rcUnchecked settled settledLate
-within x y h =
-    let i = inside2 x y h in
-    rw (not-below i, not-zero i, no-nan2 i, none-infinite2 i, unscaled2 i overRoot rcFound)
+-- what the door told
+door : (c : tie.Then1) → (let a = c .before .before .before .before .args in moderate (a .x) && moderate (a .y) ≡ true)
+door c =
+    let b = c .before in
+    ap₂ _&&_ (sym (b .before .before .moderate .ensures)) (sym (b .before .moderate2 .ensures))
+    ∙ sym (b .both .ensures) ∙ c .if1 .taken
+
+returns : tie.Need-returns
+returns c =
+    let f = c .before .before in
+    ap Value (c .closed .ensures)
+    ∙ above _ _ _ (door (f .before .before)) (f .before .cases .ensures) (sym (f .is-finite .ensures) ∙ c .before .if2 .taken)
 
 pub elliprc-spec : {M : Type 1} → statement M
-unfolding rc
 elliprc-spec =
     tie.close
     (tie.spec
     (λ c κs. tt)
     (λ c κs. tt)
     (λ c κs. tt)
-    (λ c.
-    let d = c .before .before in
-    let a = d .before .before .args in
-    c .settle .ensures ∙ ap (λ (f : Found). settled f rc-no-result) (c .before .found .ensures)
-    ∙ within (a .x) (a .y) (sym (d .before .moderate2 .ensures) ∙ d .if1 .taken))
-    (λ c. rw (c .if2 .taken))
-    (λ c. rw (c .before .if2 .left, c .if3 .taken))
     (λ c κs. tt)
     (λ c κs. tt)
     (λ c κs. tt)
+    returns
     (λ c κs. tt)
-    (λ c. rw (
-      c .before .before .before .before .before .if2 .left,
-      c .before .before .before .before .if3 .left,
-      sym (c .before .before .before .elliprc-unchecked .ensures),
-      sym (c .before .before .any-nan2 .ensures),
-      sym (c .before .any-infinite2 .ensures),
-    ) (c .settle-late .ensures)))
+    (λ c. c .checked .ensures)
+    (λ c κs. tt)
+    (λ c. c .checked2 .ensures))

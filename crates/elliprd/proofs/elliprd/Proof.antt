@@ -1,66 +1,60 @@
--- `elliprd` meets its contract: within the door no test of the definition says yes; else its tests are those of the definition,
--- in its order. Assumes nothing.
-use mathlib.Core.Path.{_≡_, sym, ap, _∙_}
-use mathlib.Core.Bool.{true, false}
-use lib.Ieee.{Float}
-use Rattle.carlson.specs.declared.answer.Answer.{Answer}
-use Rattle.carlson.specs.Door.{moderate3, inside3, not-le-zero, none-below2, no-zeros2, no-nan3, none-infinite3, unscaled3}
-use Rattle.elliprd.specs.Rd.{rdSteps, overScale, rdUnchecked, rdSettled, rd}
+-- `elliprd` meets its contract: moderate arguments that are apart are duplicated, and no check comes before; all others are
+-- checked. Assumes nothing.
+use mathlib.Core.Path.{_≡_, refl, sym, ap, ap₂, _∙_}
+use mathlib.Core.Bool.{_&&_}
+use Rattle.carlson.specs.Answer.{handedAt}
+use Rattle.carlson.specs.declared.answer.Answer.the-variants.{Value}
+use Rattle.carlson.specs.declared.answer.Found.{Found}
+use Rattle.elliprd.proofs.Within.{Apart, apart-told, stands}
 use Rattle.elliprd.proofs.elliprd.Statement.{statement}
 use Rattle.elliprd.proofs.elliprd.Tie as tie
 
-within : (x y z : Float) → moderate3 x y z ≡ true → rdSettled (rdSteps x y z) false false ≡ rd x y z
-unfolding rd rdUnchecked
-within x y z h =
-    let i = inside3 x y z h in
-    rw (
-      none-below2 i,
-      no-zeros2 i,
-      not-le-zero (i .three),
-      no-nan3 i,
-      none-infinite3 i,
-      unscaled3 i overScale rdSteps,
-    )
+apart : (c : tie.Then1) → (let a = c .before .before .before .before .before .before .before .before .args in
+    Apart (a .x) (a .y) (a .z))
+apart c =
+    let d = c .before in
+    let m = d .before in
+    let b = m .before in
+    let t = b .before in
+    let s = t .before in
+    let o = s .before in
+    let a = o .before .before .args in
+    apart-told (a .x) (a .y) (a .z)
+    (ap₂ _&&_
+    (ap₂ _&&_
+    (ap₂ _&&_ (sym (o .before .moderate .ensures)) refl ∙ sym (o .both .ensures))
+    (ap₂ _&&_ (sym (s .moderate2 .ensures)) refl ∙ sym (t .both2 .ensures))
+    ∙ sym (b .both3 .ensures))
+    (sym (m .moderate3 .ensures))
+    ∙ sym (d .both4 .ensures) ∙ c .if1 .taken)
+
+whole : (f : Found) {g : Found} → g ≡ handedAt f (f .value) → g ≡ f
+unfolding handedAt
+whole f e = e
+
+returns : tie.Need-returns
+returns c =
+    let f = c .before .before in
+    let d = f .before in
+    ap Value (whole (d .duplicated .result) (c .handed .ensures))
+    ∙ stands _ _ _ _ (apart (d .before)) (d .duplicated .ensures) (sym (f .is-finite .ensures) ∙ c .before .if2 .taken)
 
 pub elliprd-spec : {M : Type 1} → statement M
-unfolding rd
 elliprd-spec =
     tie.close
     (tie.spec
     (λ c κs. tt)
     (λ c κs. tt)
     (λ c κs. tt)
-    (λ c.
-    let d = c .before .before in
-    let a = d .before .before .args in
-    c .settled .ensures ∙ ap (λ (f : Answer). rdSettled f false false) (c .before .steps .ensures)
-    ∙ within (a .x) (a .y) (a .z) (sym (d .before .moderate3 .ensures) ∙ d .if1 .taken))
-    (λ c κs. tt)
-    (λ c. rw (sym (c .before .min .ensures), c .if2 .taken))
-    (λ c κs. tt)
-    (λ c. rw (
-      sym (c .before .before .before .min .ensures),
-      c .before .before .if2 .left,
-      sym (c .before .both .ensures)
-          ∙ c .if3 .taken,
-    ))
-    (λ c. rw (
-      sym (c .before .before .before .before .min .ensures),
-      c .before .before .before .if2 .left,
-      sym (c .before .before .both .ensures) ∙ c .before .if3 .left,
-      c .if4 .taken,
-    ))
     (λ c κs. tt)
     (λ c κs. tt)
     (λ c κs. tt)
     (λ c κs. tt)
-    (λ c. rw (
-      sym (c .before .before .before .before .before .before .before .before .min .ensures),
-      c .before .before .before .before .before .before .before .if2 .left,
-      sym (c .before .before .before .before .before .before .both .ensures)
-          ∙ c .before .before .before .before .before .if3 .left,
-      c .before .before .before .before .if4 .left,
-      sym (c .before .before .before .elliprd-unchecked .ensures),
-      sym (c .before .before .any-nan3 .ensures),
-      sym (c .before .any-infinite3 .ensures),
-    ) (c .settled2 .ensures)))
+    (λ c κs. tt)
+    (λ c κs. tt)
+    (λ c κs. tt)
+    returns
+    (λ c κs. tt)
+    (λ c. c .checked .ensures)
+    (λ c κs. tt)
+    (λ c. c .checked2 .ensures))

@@ -9,7 +9,8 @@ ahead-way-spec =
     (tie.spec
     (λ c κs. tt)
     (λ c κs. tt)
-    (λ c. above-no-nan _ (c .before .before .before .if1 .taken))
+    (λ c κs. tt)
+    (λ c. above-no-nan _ (c .before .before .before .before .if1 .taken))
     (λ c. above-no-nan _ (c .if2 .taken))
     (λ c κs. tt)
     (λ c. tt)

@@ -18,7 +18,8 @@ measure-spec =
     (λ c κs. tt)
     (λ c.
     let t = c .before .before .before in
-    rw (ne-eqb _ _ (t .before .before .if1 .left), ne-eqb _ _ (t .if2 .left), eq-eqb _ _ (c .before .if3 .taken)) (c .held .ensures))
+    rw (ne-eqb _ _ (t .before .before .if1 .left), ne-eqb _ _ (t .if2 .left), eq-eqb _ _ (c .before .if3 .taken))
+    (c .held .ensures))
     (λ c κs. search needs)
     (λ c.
     let h = c .before .before .before in

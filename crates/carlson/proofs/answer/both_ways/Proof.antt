@@ -5,4 +5,5 @@ use Rattle.carlson.proofs.answer.both_ways.Tie as tie
 
 pub both-ways-spec : {M : Type 1} → statement M
 unfolding wrappedWays
-both-ways-spec = tie.close (tie.spec (λ c κs. tt) (λ c κs. tt) (λ c. rw (c .before .wrapping-add-u32 .ensures, c .wrapping-add-u322 .ensures)))
+both-ways-spec = tie.close (tie.spec (λ c κs. tt) (λ c κs. tt)
+    (λ c. rw (c .before .wrapping-add-u32 .ensures, c .wrapping-add-u322 .ensures)))

@@ -5,4 +5,5 @@ use Rattle.rj_term.proofs.helper.by_logs.Tie as tie
 
 pub by-logs-spec : {M : Type 1} → statement M
 unfolding byLogs1p
-by-logs-spec = tie.close (tie.spec (λ c κs. tt) (λ c κs. tt) (λ c κs. tt) (λ c κs. tt) (λ c. cc))
+by-logs-spec = tie.close (tie.spec (λ c κs. tt) (λ c κs. tt) (λ c κs. tt)
+    (λ c. rw (c .before .ln-1p-apart .ensures, c .sqrt2 .ensures, c .before .before .sqrt .ensures)))

@@ -4,4 +4,6 @@ use Rattle.root_guess.proofs.ahead.ready.Statement.{statement}
 use Rattle.root_guess.proofs.ahead.ready.Tie as tie
 
 pub ready-spec : {M : Type 1} → statement M
-ready-spec = tie.close (tie.spec (λ c. above-no-nan (c .before .args .h) (c .if1 .taken)) (λ c κs. tt) (λ c. tt) (λ c. tt))
+ready-spec =
+    tie.close
+    (tie.spec (λ c. above-no-nan (c .before .args .h) (c .if1 .taken)) (λ c κs. tt) (λ c. tt) (λ c κs. tt) (λ c. tt))

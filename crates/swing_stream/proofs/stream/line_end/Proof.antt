@@ -30,7 +30,10 @@ returns : tie.Need-returns
 returns c =
     let k = c .before .before in
     let a = k .before .before in
-    told _ _ _ (a .before .close .ensures ∙ ap lineOf (a .before .before .at-end .ensures)) (a .after-line .ensures) (k .put-line .ensures)
+    told _ _ _ (a .before .close .ensures ∙ ap lineOf (a .before .before .at-end .ensures)) (a .after-line .ensures)
+    (k .put-line .ensures)
 
 pub line-end-spec : {M : Type 1} → statement M
-line-end-spec = tie.close (tie.spec (λ c κs. tt) (λ c κs. tt) (λ c κs. tt) (λ c κs. search needs) (λ c. put-length (returns c .said)) returns)
+line-end-spec =
+    tie.close
+    (tie.spec (λ c κs. tt) (λ c κs. tt) (λ c κs. tt) (λ c κs. search needs) (λ c. put-length (returns c .said)) returns)
