@@ -9,6 +9,8 @@ quotient-spec =
     (tie.spec
     (λ c κs. search needs)
     (λ c κs. search needs)
+    (λ c κs. search needs)
+    (λ c κs. search needs)
     (λ c. c .before .certified .ensures (c .if1 .taken))
     (λ c κs. search needs)
     (λ c. search needs))
