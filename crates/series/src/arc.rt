@@ -19,6 +19,8 @@ const TINY: u64 = 0x3e40_0000_0000_0000; // the patterns of 2 ^ -27,
 
 const ONE: u64 = 0x3ff0_0000_0000_0000; // of 1,
 
+const PAST_ONE: u64 = 0x3ff0_0000_0000_0001; // of the next one,
+
 const FAR: u64 = 0x43e0_0000_0000_0000; // of 2 ^ 63,
 
 const INFINITY: u64 = 0x7ff0_0000_0000_0000; // of the infinity,
@@ -92,15 +94,11 @@ pub fn atan_ahead(x: f64, unit: f64) -> f64
 {
     if x > 0.0 {
         let a = f64::to_bits(x);
-        if TINY <= a {
-            if a < ONE {
-                return below_one(0, a, unit);
-            }
-            if ONE < a {
-                if a < FAR {
-                    return above_one(0, a, unit);
-                }
-            }
+        if std::num::wrapping_sub_u64(a, PAST_ONE) < FAR - PAST_ONE {
+            return above_one(0, a, unit);
+        }
+        if std::num::wrapping_sub_u64(a, TINY) < ONE - TINY {
+            return below_one(0, a, unit);
         }
     }
     atan(x)

@@ -109,10 +109,8 @@ pub fn ln_large(x: f64) -> f64
 {
     if x > 0.0 {
         let b = f64::to_bits(x);
-        if TWO <= b {
-            if b < INFINITY {
-                return from_two(b / FIELD - 1023, b % FIELD + FIELD);
-            }
+        if std::num::wrapping_sub_u64(b, TWO) < INFINITY - TWO {
+            return from_two(b / FIELD - 1023, b % FIELD + FIELD);
         }
     }
     ln(x)
