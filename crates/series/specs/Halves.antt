@@ -1,9 +1,9 @@
 -- A word by its halves, each as the last digits of an f64: the difference of the greater one and what both hold above the halves
 -- is exact, and its sum with the other is the word, rounded once. Assumes nothing.
 use Prim.Native.Nat.{ℕ, zero, suc, _+_, _-_, _*_, _/_, _%_, _^_, _≤_, _<_}
-use mathlib.Core.Path.{_≡_, refl, sym, ap, ap₂, _∙_, subst}
+use mathlib.Core.Path.{_≡_, refl, sym, ap, _∙_, subst}
 use mathlib.Core.Bool.{Bool, true, false, not, Bool·beq}
-use mathlib.Core.List.{[], _∷_}
+use mathlib.Core.List.{[]}
 use native.Mathlib.Nat.{mul-pos, mul-lt-mul-of-pos-right, lt-of-lt-of-le, add-sub-cancel-left}
 use native.Mathlib.Omega.{arith}
 use lib.Dec.{eqb}
@@ -11,7 +11,7 @@ use lib.Pow.{pow-pos, pow-add, pow-mono, shl-lt}
 use lib.Ieee.{Float, binary64, round, sub, ofBits}
 use lib.Ieee.Exact.{HasValue, round-exact}
 use lib.Ieee.Scale.{round-same}
-use Rattle.algebra.specs.Ring.{_:+_, _:*_, _≈_, _⊩_, _times_≼_, ring}
+use Rattle.algebra.specs.Ring.{_:+_, _:*_, _≈_, _⊩_, ring}
 use Rattle.rounding.specs.Cut.{value, infinity}
 use Rattle.rounding.specs.Value.{value-at, value-is}
 use Rattle.rounding.specs.Sign.{bits-neg}
