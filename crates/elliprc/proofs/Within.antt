@@ -15,7 +15,8 @@ within x y h =
     rw (not-below i, not-zero i, no-nan2 i, none-infinite2 i, unscaled2 i overRoot rcFound)
 
 -- both arguments moderate, and so above zero
-pub above : (x y v : Float) → moderate x ≡ true → moderate y ≡ true → v ≡ rcCases one x y → settled (closedAt v) rc-no-result ≡ rc x y
+pub above : (x y v : Float) → moderate x ≡ true → moderate y ≡ true → v ≡ rcCases one x y
+    → settled (closedAt v) rc-no-result ≡ rc x y
 above x y v p q e =
     let m = moderate-told y q in
     ap (λ (w : Float). settled (closedAt w) rc-no-result) (e ∙ steps m) ∙ found ∙ within x y (door m)

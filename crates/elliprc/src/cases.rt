@@ -41,8 +41,8 @@ pub fn ln_1p_apart(a: f64) -> f64
     ln_1p(a) - ln_1p(-a)
 }
 
-// y < x, with y near x: a difference of two logarithms near 1 keeps its digits. Its roots are taken one by one, so that `both_roots`
-// has one caller, into which LLVM compiles it.
+// y < x, with y near x: a difference of two logarithms near 1 keeps its digits. Its roots are taken one by one, so that
+// `both_roots` has one caller, into which LLVM compiles it.
 fn by_ln_1p(prefix: f64, x: f64, y: f64) -> f64
     ensures { λ r. ⌜ r ≡ rcByLn1p prefix x y ⌝ }
 {

@@ -23,7 +23,9 @@ sub-from-two : tie.Need-sub-from-two
 sub-from-two c = let r = within _ _ (c .before .wrapping-sub-u64 .ensures) (c .if2 .taken) in omega (arith, r .0)
 
 add-from-two : tie.Need-add-from-two
-add-from-two c = let r = within _ _ (c .before .wrapping-sub-u64 .ensures) (c .if2 .taken) in record { fits = omega (arith, r .1) }
+add-from-two c =
+    let r = within _ _ (c .before .wrapping-sub-u64 .ensures) (c .if2 .taken) in
+    record { fits = omega (arith, r .1) }
 
 returns : tie.Need-returns
 returns c =
