@@ -80,7 +80,8 @@ difference x y s b g j some small few hx hy =
         let D = 2 ^ 1074 in
         add-values x _ s (not s) ((b + g) * P) (b * P) D D (pow-pos 1074) (pow-pos 1074) hx (opposite-value y s (b * P) D hy)
         ∙ sum-more s (not s) ((b + g) * P * D) (b * P * D) (D * D) (beq-not s) (less b g P D some (pow-pos j) (pow-pos 1074))
-        ∙ round-same binary64 s ((b + g) * P * D - b * P * D) (D * D) (g * P) D (mul-pos (pow-pos 1074) (pow-pos 1074)) (pow-pos 1074)
+        ∙ round-same binary64 s ((b + g) * P * D - b * P * D) (D * D) (g * P) D
+        (mul-pos (pow-pos 1074) (pow-pos 1074)) (pow-pos 1074)
         (ap (λ (n : ℕ). n * D) (off b g P D) ∙ joined (g * P) D)
 
 together : (x y : Float) (s : Bool) (u v : ℕ) → HasValue x s u (2 ^ 1074) → HasValue y s v (2 ^ 1074)
@@ -92,7 +93,8 @@ together x y s u v hx hy =
     ∙ round-same binary64 s (u * D + v * D) (D * D) (u + v) D (mul-pos (pow-pos 1074) (pow-pos 1074)) (pow-pos 1074)
     (both-joined u v D)
 
--- ---- THE LAW. hi and lo are the halves of n; the greater f64 is 2 ^ 84 and hi * 2 ^ 32, the other 2 ^ 52 and lo, all over 2 ^ k.
+-- ---- THE LAW. hi and lo are the halves of n; the greater f64 is 2 ^ 84 and hi * 2 ^ 32, the other 2 ^ 52 and lo, all over
+-- 2 ^ k.
 fraction : (g l Q K P D : ℕ) → P ≡ 2 ^ 32 * Q → Q * K ≡ D → (g * P + (2 ^ 52 + l) * Q) * K ≡ (g * 2 ^ 32 + (2 ^ 52 + l)) * D
 fraction g l Q K P D e f = rw (e, sym f) (spread g (2 ^ 52 + l) Q K (2 ^ 32))
   where

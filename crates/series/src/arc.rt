@@ -87,8 +87,8 @@ pub fn atan(x: f64) -> f64
     0.0 / 0.0
 }
 
-// The same where unit, near 1 / (1 + x * x), is at hand before x: what is asked most, a number above zero, waits for less. The answer
-// is the same whatever unit is.
+// The same where unit, near 1 / (1 + x * x), is at hand before x: what is asked most, a number above zero, waits for less. The
+// answer is the same whatever unit is.
 pub fn atan_ahead(x: f64, unit: f64) -> f64
     ensures { λ r. ⌜ r ≡ atan x ⌝ }
 {

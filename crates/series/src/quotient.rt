@@ -67,10 +67,10 @@ fn certified(p: u64, d: u64, q: u64) -> bool
     false
 }
 
-// A guess at the quotient, from 44 digits of it, the lower word of p * 2 ^ 44 and the digits of 2 ^ 124 / d: the first digits less 1,
-// so that they are not too high, and with the rest that these leave, which fits a word, the other 18. Nothing is proved of it. In
-// tests it was the quotient but for an atan below 2 ^ -23 or above 10 ^ 6, where p is so small that the quotient lies just below a
-// whole number.
+// A guess at the quotient, from 44 digits of it, the lower word of p * 2 ^ 44 and the digits of 2 ^ 124 / d: the first digits
+// less 1, so that they are not too high, and with the rest that these leave, which fits a word, the other 18. Nothing is proved
+// of it. In tests it was the quotient but for an atan below 2 ^ -23 or above 10 ^ 6, where p is so small that the quotient lies
+// just below a whole number.
 fn guess(first: u64, p: u64, d: u64, digits: u64) -> u64 {
     let upper = std::num::wrapping_sub_u64(first, 1);
     let rest = std::num::wrapping_sub_u64(p, product(upper, d).lo);

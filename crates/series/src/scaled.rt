@@ -1,6 +1,6 @@
-// A word in parts of a power of two, as an f64, rounded once. Its halves stand as the last digits of two f64s. What these hold above
-// the halves is taken off the greater one, which is exact; so only the sum of both rounds. With words alone, the result waits for
-// its exponent, and for the way from one kind of register to the other and back.
+// A word in parts of a power of two, as an f64, rounded once. Its halves stand as the last digits of two f64s. What these hold
+// above the halves is taken off the greater one, which is exact; so only the sum of both rounds. With words alone, the result
+// waits for its exponent, and for the way from one kind of register to the other and back.
 ghost use mathlib.Core.Path.{_≡_};
 ghost use Prim.Native.Nat.{_^_, _≤_};
 ghost use lib.Dec.{eqb};
