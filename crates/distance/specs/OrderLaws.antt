@@ -150,7 +150,7 @@ eq-value (fin r m e) (fin r′ n d) s t u w p q =
     (alike-level (crossed (m * up e) (n * up d) (down e) (down d) u w (down-pos e) (down-pos d) (p .1) (q .1)) s t)
 
 -- the sign and the value of a finite pattern
-opposite-value : (x : Float) (s : Bool) (u k : ℕ) → HasValue x s u k → HasValue (neg x) (not s) u k
+pub opposite-value : (x : Float) (s : Bool) (u k : ℕ) → HasValue x s u k → HasValue (neg x) (not s) u k
 unfolding neg
 opposite-value nan s u k p = p
 opposite-value (inf t) s u k p = p

@@ -3,9 +3,9 @@ use crate::roots::all_roots;
 use crate::roots::both_roots;
 use carlson::constants::PI_2;
 use root::sqrt;
-use series::atan;
-use series::ln;
+use series::atan_ahead;
 use series::ln_1p;
+use series::ln_large;
 ghost use mathlib.Core.Path.{_≡_};
 ghost use lib.Ieee.{neg};
 ghost use Rattle.binary64.specs.Operators.{_⊖_};
@@ -26,12 +26,12 @@ fn at_equal(prefix: f64, x: f64) -> f64
     prefix / sqrt(x)
 }
 
-// x < y
+// x < y. One and the square of the root is y / x, so that what `atan` wants for its quotient is there before the root is.
 fn by_atan(prefix: f64, x: f64, y: f64) -> f64
     ensures { λ r. ⌜ r ≡ rcByAtan prefix x y ⌝ }
 {
     let r = both_roots((y - x) / x, y - x);
-    prefix * atan(r.x) / r.y
+    prefix * atan_ahead(r.x, x / y) / r.y
 }
 
 // Of both logarithms LLVM makes much code, so it stands apart: RJ's helper calls it too, and no caller holds it.
@@ -41,12 +41,12 @@ pub fn ln_1p_apart(a: f64) -> f64
     ln_1p(a) - ln_1p(-a)
 }
 
-// y < x, with y near x: a difference of two logarithms near 1 keeps its digits.
+// y < x, with y near x: a difference of two logarithms near 1 keeps its digits. Its roots are taken one by one, so that
+// `both_roots` has one caller, into which LLVM compiles it.
 fn by_ln_1p(prefix: f64, x: f64, y: f64) -> f64
     ensures { λ r. ⌜ r ≡ rcByLn1p prefix x y ⌝ }
 {
-    let r = both_roots((x - y) / x, x - y);
-    prefix * ln_1p_apart(r.x) / (2.0 * r.y)
+    prefix * ln_1p_apart(sqrt((x - y) / x)) / (2.0 * sqrt(x - y))
 }
 
 // y < x, with y at most x / 2
@@ -54,7 +54,7 @@ fn by_ln(prefix: f64, x: f64, y: f64) -> f64
     ensures { λ r. ⌜ r ≡ rcByLn prefix x y ⌝ }
 {
     let r = all_roots(x, x - y, y);
-    prefix * ln((r.x + r.y) / r.z) / r.y
+    prefix * ln_large((r.x + r.y) / r.z) / r.y
 }
 
 pub fn cases(prefix: f64, x: f64, y: f64) -> f64

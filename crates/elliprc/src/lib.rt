@@ -6,7 +6,6 @@ mod roots;
 use crate::cases::cases;
 pub use crate::cases::ln_1p_apart;
 use crate::cases::steps;
-use binary64::is_finite;
 use carlson::answer::Answer;
 use carlson::answer::Found;
 use carlson::answer::closed;
@@ -15,7 +14,6 @@ use carlson::answer::settle;
 use carlson::answer::settle_late;
 use carlson::checks::any_infinite2;
 use carlson::checks::any_nan2;
-use carlson::checks::both;
 use carlson::constants::BELOW_ZERO;
 use carlson::constants::RC_NO_RESULT;
 use carlson::constants::ZERO_GIVEN;
@@ -77,10 +75,9 @@ fn checked(x: f64, y: f64) -> Answer
 pub fn elliprc(x: f64, y: f64) -> Answer
     ensures { λ r. ⌜ r ≡ rc x y ⌝ }
 {
-    if both(moderate(x), moderate(y)) {
-        let value = cases(1.0, x, y);
-        if is_finite(value) {
-            return Answer::Value(closed(value));
+    if moderate(x) {
+        if moderate(y) {
+            return settle(closed(cases(1.0, x, y)), RC_NO_RESULT);
         }
         return checked(x, y);
     }

@@ -22,19 +22,15 @@ pub struct All {
 pub fn both_roots(x: f64, y: f64) -> Both
     ensures { λ r. ⌜ (r .x ≡ root x) × (r .y ≡ root y) ⌝ }
 {
-    if x > 0.0 {
-        if y > 0.0 {
-            let a = f64::to_bits(x);
-            let b = f64::to_bits(y);
-            let rx = by_row(a, row(a));
-            let ry = by_row(b, row(b));
-            if rx > 0.0 {
-                if ry > 0.0 {
-                    if certain(a, f64::to_bits(rx)) {
-                        if certain(b, f64::to_bits(ry)) {
-                            return Both { x: rx, y: ry };
-                        }
-                    }
+    if numbers3(x, y, y) {
+        let a = f64::to_bits(x);
+        let b = f64::to_bits(y);
+        let rx = by_row(a, row(a));
+        let ry = by_row(b, row(b));
+        if numbers3(rx, ry, ry) {
+            if certain(a, f64::to_bits(rx)) {
+                if certain(b, f64::to_bits(ry)) {
+                    return Both { x: rx, y: ry };
                 }
             }
         }

@@ -1,5 +1,5 @@
 -- Which case of a definition a pattern falls under, b being x's. Assumes nothing.
-use Prim.Native.Nat.{ℕ, zero, suc, _+_, _-_, _*_, _^_, _≤_, _<_}
+use Prim.Native.Nat.{ℕ, zero, suc, _+_, _-_, _*_, _/_, _%_, _^_, _≤_, _<_}
 use mathlib.Core.Path.{_≡_, sym, ap, _∙_}
 use mathlib.Core.Bool.{true, false}
 use mathlib.Core.Logic.{inl, inr}
@@ -89,6 +89,24 @@ module _ (x : Float) (b : ℕ) (is : b ≡ toBits binary64 x) where
   atan-above-one l d k =
       let h : arc.tiny ≤ a = omega arith in
       rw (← is, le-ltb a arc.tiny h, le-ltb a arc.one l, ne-eqb a arc.one d, lt-ltb a arc.far k)
+
+  -- the same where no sign is set
+  pub atan-plain-below : arc.tiny ≤ b → b < arc.one → arc.below-one false b ≡ arc.atan x
+  unfolding arc.atan
+  atan-plain-below h l =
+      let e : b % 2 ^ 63 ≡ b = omega arith in
+      let f : b / 2 ^ 63 ≡ 0 = omega arith in
+      rw (← is, f, e, le-ltb b arc.tiny h, lt-ltb b arc.one l)
+
+  pub atan-plain-above : arc.one < b → b < arc.far → arc.above-one false b ≡ arc.atan x
+  unfolding arc.atan
+  atan-plain-above l k =
+      let e : b % 2 ^ 63 ≡ b = omega arith in
+      let f : b / 2 ^ 63 ≡ 0 = omega arith in
+      let h : arc.tiny ≤ b = omega arith in
+      let m : arc.one ≤ b = omega arith in
+      let d : b ≡ arc.one → ⊥ = λ i. omega arith in
+      rw (← is, f, e, le-ltb b arc.tiny h, le-ltb b arc.one m, ne-eqb b arc.one d, lt-ltb b arc.far k)
 
   pub atan-far : arc.far ≤ a → a ≤ infinity → arc.at-infinity (negative b) ≡ arc.atan x
   unfolding arc.atan

@@ -11,6 +11,7 @@ pub mod Ranges
 pub mod Exponents
 pub mod Cases
 pub mod Scaled
+pub mod Halves
 pub mod Inverse
 pub mod Rounded
 pub mod Arguments

@@ -1,7 +1,7 @@
 -- A word Y in parts of 2 ^ -k, rounded once: the pattern of Y rounded, with k taken from its exponent's field. Assumes nothing.
 use Prim.Native.Nat.{ℕ, zero, suc, _+_, _-_, _*_, _/_, _%_, _^_, _≤_, _<_, compare, Ordering}
 use mathlib.Core.Path.{_≡_, sym, ap, _∙_, subst}
-use mathlib.Core.Bool.{Bool, false, not}
+use mathlib.Core.Bool.{false}
 use mathlib.Core.Logic.{inl, inr}
 use native.Mathlib.Nat.{
   le-trans,
@@ -15,20 +15,16 @@ use native.Mathlib.Nat.{
   div-add-mod',
 }
 use native.Mathlib.Omega.{arith}
-use lib.IntN.{pos}
-use lib.Dec.{T, eqb}
+use lib.Dec.{eqb}
 use lib.Pow.{pow-pos, pow-add}
-use lib.Ieee.{Float, binary64, size, nearest, round, ofInt, neg, isNan, ofBits, toBits}
+use lib.Ieee.{binary64, size, nearest, round, neg, ofBits}
 use lib.Ieee.Digits.{size-lt, size-reaches, size-le}
 use lib.Ieee.Fits.{nearest-le}
 use lib.Ieee.Nearest.{nearest-ge}
-use lib.Ieee.Bits.{nanBits-is}
 use Rattle.algebra.specs.Order.{lt-or-le, Compared, compared}
 use Rattle.rounding.specs.Cut.{infinity}
 use Rattle.rounding.specs.Fraction.{pick, rounded-fraction}
 use Rattle.rounding.specs.Sign.{round-neg, bits-neg}
-use Rattle.binary64.specs.Tests.{bits-number}
-use Rattle.binary64.specs.Meaning.{bits-back}
 
 -- the sign's bit is the sign
 pub with-sign : (n a c s : ℕ) → n < 2 ^ 63 → ofBits binary64 n ≡ round binary64 false a c → s ≤ 1
@@ -115,40 +111,13 @@ module _ (Y : ℕ) (range : (0 < Y) × (Y < 2 ^ 64)) where
   abbrev pub pattern : ℕ
   pattern = field * 2 ^ 52 + digits
 
-  pub pattern-low : 1023 * 2 ^ 52 ≤ pattern
-  pattern-low = sum-low (size Y) digits size-some digits-low
-    where
-      sum-low : (z n : ℕ) → 1 ≤ z → 2 ^ 52 ≤ n → 1023 * 2 ^ 52 ≤ (z + 1021) * 2 ^ 52 + n
-      sum-low z n h l = omega arith
-
   pub pattern-high : pattern ≤ 1087 * 2 ^ 52
   pattern-high = sum-high (size Y) digits size-most digits-high
     where
       sum-high : (z n : ℕ) → z ≤ 64 → n ≤ 2 ^ 53 → (z + 1021) * 2 ^ 52 + n ≤ 1087 * 2 ^ 52
       sum-high z n h l = omega arith
 
-  whole-is : ofInt binary64 (pos Y) ≡ ofBits binary64 pattern
-  unfolding ofInt
-  whole-is = at 0 field (plus-none field)
-    where
-      plus-none : (n : ℕ) → n + 0 ≡ n
-      plus-none n = omega arith
-
-  pub whole-bits : toBits binary64 (ofInt binary64 (pos Y)) ≡ pattern
-  whole-bits = ap (λ (x : Float). toBits binary64 x) whole-is ∙ back pattern pattern-high
-    where
-      back : (n : ℕ) → n ≤ 1087 * 2 ^ 52 → toBits binary64 (ofBits binary64 n) ≡ n
-      back n h = bits-back n (omega arith) (omega arith)
-
-  pub whole-number : T (not (isNan (ofInt binary64 (pos Y))))
-  whole-number =
-      subst (λ (x : Float). T (not (isNan x))) (sym whole-is)
-      (subst (λ (t : Bool). T (not t)) (nanBits-is binary64 pattern) (bits-number pattern (small pattern pattern-high)))
-    where
-      small : (n : ℕ) → n ≤ 1087 * 2 ^ 52 → n % 2 ^ 63 ≤ infinity
-      small n h = omega arith
-
-  pub lower : (k : ℕ) → k ≤ 1000 → ofBits binary64 (pattern - k * 2 ^ 52) ≡ round binary64 false Y (2 ^ k)
+  lower : (k : ℕ) → k ≤ 1000 → ofBits binary64 (pattern - k * 2 ^ 52) ≡ round binary64 false Y (2 ^ k)
   lower k h =
       let d = field - k in
       let s : 1 ≤ size Y = size-some in

@@ -102,3 +102,16 @@ pub fn ln(x: f64) -> f64
     }
     0.0 / 0.0
 }
+
+// The same, with the usual case of whoever knows that x is 2 at least in front.
+pub fn ln_large(x: f64) -> f64
+    ensures { λ r. ⌜ r ≡ ln x ⌝ }
+{
+    if x > 0.0 {
+        let b = f64::to_bits(x);
+        if std::num::wrapping_sub_u64(b, TWO) < INFINITY - TWO {
+            return from_two(b / FIELD - 1023, b % FIELD + FIELD);
+        }
+    }
+    ln(x)
+}

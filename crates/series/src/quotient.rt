@@ -10,6 +10,8 @@ ghost use Rattle.series.specs.Quotient.{Divided, Nearer};
 
 const BASE: u64 = 0x8000_0000; // 2 ^ 31
 
+const HALF: u64 = 0x2000_0000_0000_0000; // 2 ^ 61: a half in parts of 2 ^ -62
+
 // A quotient and a rest.
 pub struct WithRest {
     pub q: u64,
@@ -65,29 +67,45 @@ fn certified(p: u64, d: u64, q: u64) -> bool
     false
 }
 
-// A guess at the quotient. unit is near 2 ^ 61 / d, so that the digits of 2 + unit, 12 places further to the left, are those of
-// 2 ^ 124 / d. They give 44 digits of the quotient, less 1 so that they are not too high, and with the rest that these leave,
-// which fits a word, the other 18. Nothing is proved of it. In tests it was the quotient but for an atan below 2 ^ -23 or above
-// 10 ^ 6, where p is so small that the quotient lies just below a whole number.
-fn guess(p: u64, d: u64, unit: f64) -> u64 {
-    let more = 2.0 + unit;
-    if more > 0.0 {
-        let inverse = f64::to_bits(more) << 12;
-        let upper = std::num::wrapping_sub_u64(high(p, inverse) >> 16, 1);
-        let rest = std::num::wrapping_sub_u64(p << 44, product(upper, d).lo);
-        return std::num::wrapping_add_u64(upper << 18, high(rest, inverse) >> 42);
-    }
-    0
+// A guess at the quotient, from 44 digits of it, the lower word of p * 2 ^ 44 and the digits of 2 ^ 124 / d: the first digits
+// less 1, so that they are not too high, and with the rest that these leave, which fits a word, the other 18. Nothing is proved
+// of it. In tests it was the quotient but for an atan below 2 ^ -23 or above 10 ^ 6, where p is so small that the quotient lies
+// just below a whole number.
+fn guess(first: u64, p: u64, d: u64, digits: u64) -> u64 {
+    let upper = std::num::wrapping_sub_u64(first, 1);
+    let rest = std::num::wrapping_sub_u64(p, product(upper, d).lo);
+    std::num::wrapping_add_u64(upper << 18, high(rest, digits) >> 42)
 }
 
-// unit should be near 2 ^ 61 / d: the quotient is the same whatever it is, but comes later.
+// unit should be near 2 ^ 61 / d: the quotient is the same whatever it is, but comes later. So the digits of 2 + unit, 12 places
+// further to the left, are those of 2 ^ 124 / d.
 pub fn quotient(p: u64, d: u64, unit: f64) -> u64
     requires { ⌜ (p ≤ d) × (2 ^ 61 ≤ d) × (d < 2 ^ 63) ⌝ }
     ensures { λ q. ⌜ q ≡ p * 2 ^ 62 / d ⌝ }
 {
-    let q = guess(p, d, unit);
-    if certified(p, d, q) {
-        return q;
+    let more = 2.0 + unit;
+    if more > 0.0 {
+        let digits = f64::to_bits(more) << 12;
+        let q = guess(high(p, digits) >> 16, p << 44, d, digits);
+        if certified(p, d, q) {
+            return q;
+        }
     }
     exactly(p, d)
+}
+
+// The same for p = 2 ^ 61, whose first digits are those of 2 ^ 124 / d.
+pub fn inverse(d: u64, unit: f64) -> u64
+    requires { ⌜ (2 ^ 61 ≤ d) × (d < 2 ^ 63) ⌝ }
+    ensures { λ q. ⌜ q ≡ 2 ^ 61 * 2 ^ 62 / d ⌝ }
+{
+    let more = 2.0 + unit;
+    if more > 0.0 {
+        let digits = f64::to_bits(more) << 12;
+        let q = guess(digits >> 19, 0, d, digits);
+        if certified(HALF, d, q) {
+            return q;
+        }
+    }
+    exactly(HALF, d)
 }

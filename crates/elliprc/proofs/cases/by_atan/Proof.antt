@@ -9,4 +9,4 @@ unfolding rcByAtan
 by-atan-spec = tie.close (tie.spec (λ c κs. tt) (λ c κs. tt)
     (λ c.
     let r = c .before .before .both-roots .ensures in
-    rw (sym (r .0), sym (c .before .atan .ensures), sym (r .1))))
+    rw (sym (r .0), sym (c .before .atan-ahead .ensures), sym (r .1))))

@@ -9,4 +9,4 @@ unfolding rcByLn
 by-ln-spec = tie.close (tie.spec (λ c κs. tt) (λ c κs. tt)
     (λ c.
     let r = c .before .before .before .before .all-roots .ensures in
-    rw (sym (r .0), sym (r .1 .0), sym (r .1 .1), sym (c .before .ln .ensures))))
+    rw (sym (r .0), sym (r .1 .0), sym (r .1 .1), sym (c .before .ln-large .ensures))))

@@ -6,5 +6,5 @@ use Rattle.elliprc.proofs.cases.by_ln_1p.Tie as tie
 
 pub by-ln-1p-spec : {M : Type 1} → statement M
 unfolding rcByLn1p
-by-ln-1p-spec = tie.close (tie.spec (λ c κs. tt) (λ c κs. tt)
-    (λ c. let r = c .before .before .both-roots .ensures in rw (sym (r .0), sym (c .before .ln-1p-apart .ensures), sym (r .1))))
+by-ln-1p-spec = tie.close (tie.spec (λ c κs. tt) (λ c κs. tt) (λ c κs. tt)
+    (λ c. rw (sym (c .before .before .sqrt .ensures), sym (c .before .ln-1p-apart .ensures), sym (c .sqrt2 .ensures))))

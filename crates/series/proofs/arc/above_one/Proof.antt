@@ -19,10 +19,10 @@ tau a = 2 ^ 114 / digits a / 2 ^ (field a - 1023)
 above : (a : ℕ) → one < a → 2 ^ 52 < digits a * 2 ^ (field a - 1023)
 above a h = past-one (digits a) (field a - 1023) (omega arith) (λ e. omega arith)
 
-the-inverse : (c : tie.After-quotient) → c .quotient .result / 2 ^ (field (c .before .args .a) - 1023) ≡ tau (c .before .args .a)
+the-inverse : (c : tie.After-inverse) → c .inverse .result / 2 ^ (field (c .before .args .a) - 1023) ≡ tau (c .before .args .a)
 the-inverse c =
     let a = c .before .args .a in
-    ap (λ (n : ℕ). n / 2 ^ (field a - 1023)) (c .quotient .ensures ∙ inverse-is (digits a) (field a - 1023) (omega arith))
+    ap (λ (n : ℕ). n / 2 ^ (field a - 1023)) (c .inverse .ensures ∙ inverse-is (digits a) (field a - 1023) (omega arith))
 
 arc-requires : tie.Need-arc-requires
 arc-requires c κs =

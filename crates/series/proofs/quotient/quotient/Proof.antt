@@ -1,5 +1,6 @@
 -- `series::quotient::quotient` meets its contract: certified or exact. Assumes nothing.
 use borrow.Author.Needs.{needs}
+use Rattle.binary64.specs.Tests.{above-no-nan}
 use Rattle.series.proofs.quotient.quotient.Statement.{statement}
 use Rattle.series.proofs.quotient.quotient.Tie as tie
 
@@ -7,8 +8,10 @@ pub quotient-spec : {M : Type 1} → statement M
 quotient-spec =
     tie.close
     (tie.spec
+    (λ c. above-no-nan _ (c .if1 .taken))
     (λ c κs. search needs)
     (λ c κs. search needs)
-    (λ c. c .before .certified .ensures (c .if1 .taken))
+    (λ c κs. search needs)
+    (λ c. c .before .certified .ensures (c .if2 .taken))
     (λ c κs. search needs)
     (λ c. search needs))
