@@ -1,11 +1,11 @@
 -- Within the door no test of RC's definition says yes. Assumes nothing.
-use mathlib.Core.Path.{_≡_, refl, sym, ap, _∙_}
-use mathlib.Core.Bool.{Bool, true, false, _&&_, true≢false}
+use mathlib.Core.Path.{_≡_, refl, ap, _∙_}
+use mathlib.Core.Bool.{true, _&&_}
 use lib.Ieee.{Float}
 use lib.Ieee.Scale.{finite}
 use Rattle.carlson.specs.Constants.{one, rc-no-result}
 use Rattle.carlson.specs.Answer.{closedAt, settled, settledLate}
-use Rattle.carlson.specs.Door.{moderate, moderate2, Moderate, moderate-told, inside2}
+use Rattle.carlson.specs.Door.{moderate, moderate2, Moderate, moderate-told, both-true, inside2}
 use Rattle.carlson.specs.Door.{not-below, not-zero, no-nan2, none-infinite2, unscaled2}
 use Rattle.carlson.specs.declared.answer.Answer.the-variants.{Value}
 use Rattle.elliprc.specs.Rc.{rcCases, rcSteps, rcFound, overRoot, rcUnchecked, rc}
@@ -17,15 +17,10 @@ within x y h =
     rw (not-below i, not-zero i, no-nan2 i, none-infinite2 i, unscaled2 i overRoot rcFound)
 
 -- both arguments moderate, and so above zero
-both-told : (a b : Bool) → a && b ≡ true → (a ≡ true) × (b ≡ true)
-both-told true true h = (h, h)
-both-told true false h = absurd (true≢false (sym h))
-both-told false b h = absurd (true≢false (sym h))
-
 pub above : (x y v : Float) → moderate x && moderate y ≡ true → v ≡ rcCases one x y → finite v ≡ true
     → Value (closedAt v) ≡ rc x y
 above x y v h e f =
-    let b = both-told (moderate x) (moderate y) h in
+    let b = both-true (moderate x) (moderate y) h in
     let m = moderate-told y (b .1) in
     stands ∙ ap (λ (w : Float). settled (closedAt w) rc-no-result) (e ∙ steps m) ∙ found ∙ within x y (door (b .0) (b .1) m)
   where
