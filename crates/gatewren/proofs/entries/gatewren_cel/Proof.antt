@@ -1,5 +1,5 @@
--- `gatewren_cel` meets its contract: it hands out what the entry answers. Each clause is joined to the entry's own and not rewritten by
--- it, so that arguments exchanged are refused with both calls named. Assumes nothing.
+-- `gatewren_cel` meets its contract: it hands out what the entry answers. Each clause is joined to the entry's own and not
+-- rewritten by it, so that arguments exchanged are refused with both calls named. Assumes nothing.
 use mathlib.Core.Path.{refl, ap, ap₂, _∙_}
 use Rattle.c_answer.specs.Told.{numberOf, valueAfter, roundsAfter, roadAfter, rescalingsAfter}
 use Rattle.gatewren.proofs.entries.gatewren_cel.Statement.{statement}
