@@ -132,6 +132,7 @@ data Beside (s : Reading) (ended : ℕ) (swing times : Reading) : Type 0 where
   live : swing ≡ s → ended ≡ s .ended + 1 → s .ended < 3 → times ≡ startOf → Beside s ended swing times
   lost : s ≡ spoiltOf → Lost ended swing → Beside s ended swing times
 
+-- now and then, in the name, in the swing and behind it; of a swing that is lost the bytes may have gone to the times then
 data Knees (r : Row) (o : Was) : Type 0 where
   in-name : (stage : ℕ) → r ≡ row stage 0 lengthsFrom plainFrom → o ≡ was stage 0 startOf startOf → Knees r o
   in-swing : (stage : ℕ) (m : Measured) (s : Reading) (ended : ℕ) (swing times : Reading) → Whole m s
@@ -146,7 +147,7 @@ name-byte stage b =
     (λ stage _. in-swing 1 lengthsFrom startOf 1 startOf startOf start-whole (live refl refl (omega arith) refl) refl refl)
     (λ stage _. in-name 1 refl refl) stage
 
--- a blank then: the fourth, one within the swing, and one behind it
+-- then: the fourth blank, one within the swing, and another byte there
 was-fourth : (ended : ℕ) (swing times : Reading) → ended ≡ 3 → wasBlank ended swing times ≡ was 1 4 swing times
 unfolding wasBlank
 was-fourth ended swing times e = rw e refl
