@@ -114,7 +114,7 @@ over m d e =
     let p : 0 < suc m * up d * down e = mul-pos (mul-pos (zero-lt-suc m) (up-pos d)) (down-pos e) in
     lt-ltb (0 * up e * down d) (suc m * up d * down e) (omega arith)
 
-both-true : (a b : Bool) → a && b ≡ true → (a ≡ true) × (b ≡ true)
+pub both-true : (a b : Bool) → a && b ≡ true → (a ≡ true) × (b ≡ true)
 both-true true b h = (refl, h)
 both-true false b h = absurd (true≢false (sym h))
 

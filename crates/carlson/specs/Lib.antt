@@ -1,5 +1,6 @@
 pub mod Constants
 pub mod Answer
+pub mod AnswerLaws
 pub mod Checks
 pub mod Rescaling
 pub mod Only

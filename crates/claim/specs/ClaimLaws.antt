@@ -1,13 +1,14 @@
 -- What it is to meet our answer. Assumes nothing.
 use Prim.Native.Nat.{ℕ, _≤_}
 use mathlib.Core.Path.{_≡_, refl}
-use mathlib.Core.Bool.{Bool, true, false, _&&_}
+use mathlib.Core.Bool.{true, _&&_}
 use native.Mathlib.Omega.{arith}
 use borrow.Author.Tests.{eq-eqb, eqb-true, le-leb, leb-true}
 use lib.Dec.{eqb, leb}
 use lib.Ieee.{binary64, toBits}
 use Rattle.distance.specs.Steps.{apartOf, finitePattern}
 use Rattle.distance.specs.StepLaws.{apart-self}
+use Rattle.carlson.specs.Door.{both-true}
 use Rattle.carlson.specs.declared.answer.Answer.{Answer}
 use Rattle.carlson.specs.declared.answer.Answer.the-variants.{Value, Refused as Refusal}
 use Rattle.claim.specs.Claims.{valueMeets, refusalMeets, meetsOf, ownClaim}
@@ -18,21 +19,16 @@ abbrev pub Meets : ℕ → Answer → Claim → Type 0
 Meets t (Value f) c = (c .kind ≡ 0) × (finitePattern (c .word) ≡ true) × (apartOf (toBits binary64 (f .value)) (c .word) ≤ t)
 Meets t (Refusal n) c = (c .kind ≡ 1) × (c .word ≡ n)
 
-both : (a b : Bool) → (a && b) ≡ true → (a ≡ true) × (b ≡ true)
-both true true e = (refl, refl)
-both true false e = let z : _≡_ {A = ℕ} 0 1 = cc in absurd (omega arith)
-both false b e = let z : _≡_ {A = ℕ} 0 1 = cc in absurd (omega arith)
-
 -- exactly that is tested
 pub meets-is : (t : ℕ) (a : Answer) (c : Claim) → meetsOf t a c ≡ true → Meets t a c
 unfolding meetsOf valueMeets refusalMeets
 meets-is t (Value f) c e =
     let n = apartOf (toBits binary64 (f .value)) (c .word) in
-    let p = both (eqb (c .kind) 0) (finitePattern (c .word) && leb n t) e in
-    let q = both (finitePattern (c .word)) (leb n t) (p .1) in
+    let p = both-true (eqb (c .kind) 0) (finitePattern (c .word) && leb n t) e in
+    let q = both-true (finitePattern (c .word)) (leb n t) (p .1) in
     (eqb-true (c .kind) 0 (p .0), q .0, leb-true n t (q .1))
 meets-is t (Refusal n) c e =
-    let p = both (eqb (c .kind) 1) (eqb (c .word) n) e in (eqb-true (c .kind) 1 (p .0), eqb-true (c .word) n (p .1))
+    let p = both-true (eqb (c .kind) 1) (eqb (c .word) n) e in (eqb-true (c .kind) 1 (p .0), eqb-true (c .word) n (p .1))
 
 pub is-meets : (t : ℕ) (a : Answer) (c : Claim) → Meets t a c → meetsOf t a c ≡ true
 unfolding meetsOf valueMeets refusalMeets

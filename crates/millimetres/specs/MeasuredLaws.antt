@@ -15,7 +15,7 @@ use Rattle.swing_read.specs.declared.Reading.{Reading}
 use Rattle.swing_read.specs.declared.Line.the-variants.{Bad}
 use Rattle.millimetres.specs.Measured.{told, lengthsFrom, plainFrom, badOf, anewOf, placeAfter, thousandOf, paddedOf}
 use Rattle.millimetres.specs.Measured.{mayBeLength, lengthAfter, wholeAfter, heldAfter, placesEnd, placesAfter, letterAfter}
-use Rattle.millimetres.specs.Measured.{unitAfter, byteMeasured, bytesMeasured, atEnd, measuredLine}
+use Rattle.millimetres.specs.Measured.{unitAfter, byteMeasured, bytesMeasured, atEnd, lastBegun, measuredLine}
 use Rattle.millimetres.specs.declared.Measured.{Measured}
 
 measured-more : (xs : List ℕ) (m : Measured) (ys : List ℕ) → bytesMeasured m (xs ++ ys) ≡ bytesMeasured (bytesMeasured m xs) ys
@@ -42,12 +42,22 @@ unfoldable pub wholeText : List ℕ → Bool
 wholeText [] = true
 wholeText (b ∷ bs) = not (eqb b 46) && (not (eqb b 109) && wholeText bs)
 
+pub whole-head : (b : ℕ) (l : List ℕ) → wholeText (b ∷ l) ≡ true
+    → (eqb b 46 ≡ false) × ((eqb b 109 ≡ false) × (wholeText l ≡ true))
+unfolding wholeText
+whole-head b l e = go (eqb b 46) (eqb b 109) e
+  where
+    go : (t u : Bool) → (not t && (not u && wholeText l)) ≡ true → (t ≡ false) × ((u ≡ false) × (wholeText l ≡ true))
+    go false false e = (refl, (refl, e))
+    go false true e = absurd (true≢false (sym e))
+    go true u e = absurd (true≢false (sym e))
+
 -- what is measured, beside what was read before: the same, or a blank is held back
-data Whole (m : Measured) (r : Reading) : Type 0 where
+pub data Whole (m : Measured) (r : Reading) : Type 0 where
   same : m ≡ told 0 r → Whole m r
   held : (s : Reading) → mayBeLength s ≡ true → m ≡ told 1 s → r ≡ byteAfter s 32 → Whole m r
 
-whole-byte : (m : Measured) (r : Reading) (b : ℕ) → eqb b 46 ≡ false → eqb b 109 ≡ false → Whole m r
+pub whole-byte : (m : Measured) (r : Reading) (b : ℕ) → eqb b 46 ≡ false → eqb b 109 ≡ false → Whole m r
     → Whole (byteMeasured m b) (byteAfter r b)
 unfolding byteMeasured
 whole-byte m r b p q (same e) = rw e (go (mayBeLength r) refl (eqb b 32) refl)
@@ -58,45 +68,61 @@ whole-byte m r b p q (same e) = rw e (go (mayBeLength r) refl (eqb b 32) refl)
     go false l t u = unfold wholeAfter in rw l (same refl)
 whole-byte m r b p q (held s l e f) = rw (e, f) (unfold heldAfter in rw q (same refl))
 
-whole-bytes : (l : List ℕ) (m : Measured) (r : Reading) → wholeText l ≡ true → Whole m r
+pub whole-bytes : (l : List ℕ) (m : Measured) (r : Reading) → wholeText l ≡ true → Whole m r
     → Whole (bytesMeasured m l) (bytesAfter r l)
-unfolding bytesMeasured bytesAfter wholeText
+unfolding bytesMeasured bytesAfter
 whole-bytes [] m r e h = h
-whole-bytes (b ∷ l) m r e h = go (whole-bytes l (byteMeasured m b) (byteAfter r b)) (eqb b 46) refl (eqb b 109) refl e
-  where
-    go : (wholeText l ≡ true → Whole (byteMeasured m b) (byteAfter r b)
-        → Whole (bytesMeasured (byteMeasured m b) l) (bytesAfter (byteAfter r b) l))
-        → (t : Bool) → eqb b 46 ≡ t → (u : Bool) → eqb b 109 ≡ u → (not t && (not u && wholeText l)) ≡ true
-        → Whole (bytesMeasured (byteMeasured m b) l) (bytesAfter (byteAfter r b) l)
-    go rest false p false q e = rest e (whole-byte m r b p q h)
-    go rest false p true q e = absurd (true≢false (sym e))
-    go rest true p u q e = absurd (true≢false (sym e))
+whole-bytes (b ∷ l) m r e h =
+    let k = whole-head b l e in
+    whole-bytes l (byteMeasured m b) (byteAfter r b) (k .1 .1) (whole-byte m r b (k .0) (k .1 .0) h)
 
--- a blank that nothing follows makes the line bad, now as then
-blank-last : (s : Reading) → mayBeLength s ≡ true → Bad ≡ lineOf (byteAfter s 32)
-unfolding mayBeLength byteAfter blankAfter lineOf spoiltOf
-blank-last s l = go (s .begun) refl l (eqb (s .ended) 3) refl (eqb (s .ended) 0) (eqb (s .ended) 1)
+-- behind a blank no number has begun
+blank-last : (s : Reading) → mayBeLength s ≡ true → byteAfter s 32 .begun ≡ false
+unfolding mayBeLength byteAfter blankAfter spoiltOf
+blank-last s l = go (s .begun) l (eqb (s .ended) 3) refl (eqb (s .ended) 0) (eqb (s .ended) 1)
   where
-    go : (t : Bool) → s .begun ≡ t → (t && ltb (s .ended) 2) ≡ true → (u : Bool) → eqb (s .ended) 3 ≡ u → (v w : Bool)
-        → Bad ≡ lineOf (cond u s (cond t
+    go : (t : Bool) → (t && ltb (s .ended) 2) ≡ true → (u : Bool) → eqb (s .ended) 3 ≡ u → (v w : Bool)
+        → cond u s (cond t
         (cond v (record { ended = 1; first = s .value; second = 0; begun = false; value = 0 })
-        (cond w (record { ended = 2; first = s .first; second = s .value; begun = false; value = 0 }) spoiltOf)) spoiltOf))
-    go true b k true u v w =
+        (cond w (record { ended = 2; first = s .first; second = s .value; begun = false; value = 0 }) spoiltOf)) spoiltOf) .begun
+        ≡ false
+    go true k true u v w =
         let three : s .ended ≡ 3 = eqb-true (s .ended) 3 u in
         let two : s .ended < 2 = ltb-true (s .ended) 2 k in
         absurd (omega arith)
-    go true b k false u true w = refl
-    go true b k false u false true = refl
-    go true b k false u false false = refl
-    go false b k u e v w = absurd (true≢false (sym k))
+    go true k false u true w = refl
+    go true k false u false true = refl
+    go true k false u false false = refl
+    go false k u e v w = absurd (true≢false (sym k))
+
+-- THE LAW: where the line ends, whatever asks for a number that has begun is told the same, now as then
+pub whole-end : {X : Type 0} {m : Measured} {r : Reading} (f : Reading → X) (x : X)
+    → ((s : Reading) → s .begun ≡ false → f s ≡ x) → Whole m r → f (atEnd m) ≡ f r
+unfolding atEnd spoiltOf
+whole-end f x none (same e) = rw e refl
+whole-end f x none (held s l e g) = rw (e, g) (none spoiltOf refl ∙ sym (none (byteAfter s 32) (blank-last s l)))
+
+-- and the third number has a figure now as then
+pub whole-last : {m : Measured} {r : Reading} → Whole m r → lastBegun m ≡ (r .begun && eqb (r .ended) 2)
+unfolding lastBegun
+whole-last (same e) = rw e refl
+whole-last (held s l e g) = rw (e, g, blank-last s l) (unfold mayBeLength in go (s .begun) l)
+  where
+    go : (t : Bool) → (t && ltb (s .ended) 2) ≡ true → (t && eqb (s .ended) 2) ≡ false
+    go true k = ne-eqb (s .ended) 2 (λ e. let two : s .ended < 2 = ltb-true (s .ended) 2 k in omega arith)
+    go false k = refl
+
+pub start-whole : Whole lengthsFrom startOf
+unfolding lengthsFrom
+start-whole = same refl
+
+pub no-line : (s : Reading) → s .begun ≡ false → lineOf s ≡ Bad
+unfolding lineOf
+no-line s e = rw e refl
 
 pub whole-line : (l : List ℕ) → wholeText l ≡ true → measuredLine lengthsFrom l ≡ readLine l
-unfolding measuredLine lengthsFrom readLine
-whole-line l e = go (whole-bytes l (told 0 startOf) startOf e (same refl))
-  where
-    go : {m : Measured} {r : Reading} → Whole m r → lineOf (atEnd m) ≡ lineOf r
-    go (same f) = unfold atEnd in rw f
-    go (held s k f g) = unfold atEnd spoiltOf lineOf in rw (f, g) (blank-last s k)
+unfolding measuredLine readLine
+whole-line l e = whole-end lineOf Bad no-line (whole-bytes l lengthsFrom startOf e start-whole)
 
 -- ---- a length, the (k + 1)-th number of its line
 module _ (k a b : ℕ) (K : k < 2) where

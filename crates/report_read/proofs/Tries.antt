@@ -10,6 +10,7 @@ use borrow.Rule.Slice.PartMut.{midOf, putMid, mid-len}
 use lib.Dec.{eqb, leb}
 use lib.ListN.{length, take, drop, set, replicate}
 use lib.Seq.{sets-eq, take-at}
+use Rattle.limbs.specs.Copied.{copiedOver, copied-is}
 use Rattle.limbs.specs.Value.{valueOf, limbsOf, length-limbs}
 use Rattle.exact.specs.Exact.{heldBy}
 use Rattle.listing_read.specs.Lines.{same}
@@ -82,14 +83,17 @@ module _ (ws : List ℕ) (q : ℕ) (line : List ℕ) (l : length ws ≡ 384) (k 
     fits-said p =
         p ∙ ap (λ (v : ℕ). same (exactLine (q / 32 + 1) v) line) held-said ∙ sym (exact-fits ws q line l k h)
 
-    pub exact-hit : {s : Bool} (ys : List ℕ) → s ≡ same (exactLine (q / 32 + 1) (heldBy said)) line → s ≡ true → ys ≡ said
+    pub exact-hit : {s : Bool} (ys : List ℕ) → s ≡ same (exactLine (q / 32 + 1) (heldBy said)) line → s ≡ true
+        → ys ≡ copiedOver (midOf (q / 32 * 64 + 30) (q / 32 * 64 + 30 + 34 - (q / 32 * 64 + 30)) ws) said
         → Tries ws q line true (putMid (q / 32 * 64 + 30) (q / 32 * 64 + 30 + 34 - (q / 32 * 64 + 30)) ws ys)
     unfolding withSum
     exact-hit ys p r y =
         let a = q / 32 * 64 + 30 in
         let past : a + 34 - a ≡ 34 = omega arith in
+        let many : length (midOf a (a + 34 - a) ws) ≡ length said =
+        mid-len a (a + 34) ws (omega arith) ∙ past ∙ sym (ap length e ∙ length-limbs 34 (saidSum line)) in
         hit ws q line (putMid a (a + 34 - a) ws ys) (sym (fits-said p) ∙ r)
-        (rw (past, y ∙ e) (sym (exact-placed ws q line h)))
+        (rw (past, y ∙ copied-is (midOf a (a + 34 - a) ws) said many ∙ e) (sym (exact-placed ws q line h)))
 
     pub exact-missed : {s : Bool} → s ≡ same (exactLine (q / 32 + 1) (heldBy said)) line → s ≡ false → Tries ws q line false ws
     exact-missed p r = missed ws q line (sym (fits-said p) ∙ r)

@@ -1,6 +1,7 @@
 // A try at one line: what the line says is written, and if that is the line, it goes into the words.
 use crate::number::last_decimal;
 use crate::sum::last_sum;
+use limbs::copy;
 use listing_read::is_name;
 use report_text::put_exact;
 use report_text::put_slot;
@@ -90,17 +91,6 @@ fn try_slot(words: &mut [u64], q: usize, line: &[u8]) -> bool
         return true;
     }
     false
-}
-
-fn copy(out: &mut [u64], a: &[u64])
-    requires { ⌜ length (now out) ≡ length (now a) ⌝ }
-    ensures { λ _. ⌜ now (out .exit) ≡ now (a .entry) ⌝ }
-{
-    let mut i: usize = 0;
-    while i < out.len() {
-        out[i] = a[i];
-        i += 1;
-    }
 }
 
 fn try_exact(words: &mut [u64], q: usize, line: &[u8]) -> bool

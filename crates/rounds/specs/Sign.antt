@@ -1,7 +1,7 @@
 -- RJ with p above zero stays so when it is rescaled. Assumes nothing.
 use Prim.Native.Nat.{ℕ, zero, suc, _+_, _-_, _*_, _/_, _%_, _^_, compare}
 use mathlib.Core.Path.{_≡_, refl, sym, _∙_}
-use mathlib.Core.Bool.{Bool, true, false, _&&_, _||_, not, true≢false}
+use mathlib.Core.Bool.{Bool, true, false, _||_, not, true≢false}
 use native.Mathlib.Omega.{arith}
 use borrow.Author.Tests.{le-ltb}
 use lib.Dec.{ltb, eqb}
@@ -11,6 +11,7 @@ use lib.Ieee.{lt, le, eq, ne}
 use lib.Ieee.Scale.{finite}
 use Rattle.binary64.specs.Operators.{_⊘_}
 use Rattle.carlson.specs.Constants.{zero as +0}
+use Rattle.carlson.specs.Door.{both-true}
 use Rattle.carlson.specs.Only.{chosen}
 use Rattle.carlson.specs.Rescaling.{beyondLimits, survive3, rescales4}
 use Rattle.sorting.specs.Order.{not-below-le}
@@ -71,10 +72,6 @@ plus-quotient (fin false m e) (fin false n d) h g =
     chosen Plus (eqb n 0) (chosen Plus (eqb m 0) refl refl) (plus-round (m * up e * down d) (n * up d * down e))
 
 -- ---- the tests
-and-true : (a b : Bool) → (a && b) ≡ true → (a ≡ true) × (b ≡ true)
-and-true true b e = (refl, e)
-and-true false b e = absurd (true≢false (sym e))
-
 or-false : (a b : Bool) → (a || b) ≡ false → (a ≡ false) × (b ≡ false)
 or-false true b e = absurd (true≢false e)
 or-false false b e = (refl, e)
@@ -92,6 +89,6 @@ apart p s h g k =
 
 pub still-above : (x y z p s : Float) → le p +0 ≡ false → rescales4 x y z p s ≡ true → le (p ⊘ s) +0 ≡ false
 still-above x y z p s h r =
-    let both = and-true (beyondLimits s) _ r in
-    let above = and-true (finite s) _ (both .0) .1 in
-    apart p s h (and-true (lt +0 s) _ above .0) (and-true (survive3 x y z s) _ (both .1) .1)
+    let both = both-true (beyondLimits s) _ r in
+    let above = both-true (finite s) _ (both .0) .1 in
+    apart p s h (both-true (lt +0 s) _ above .0) (both-true (survive3 x y z s) _ (both .1) .1)

@@ -2,9 +2,8 @@
 -- checked. Assumes nothing.
 use mathlib.Core.Path.{_≡_, refl, sym, ap, ap₂, _∙_}
 use mathlib.Core.Bool.{_&&_}
-use Rattle.carlson.specs.Answer.{handedAt}
+use Rattle.carlson.specs.AnswerLaws.{handed-itself}
 use Rattle.carlson.specs.declared.answer.Answer.the-variants.{Value}
-use Rattle.carlson.specs.declared.answer.Found.{Found}
 use Rattle.elliprd.proofs.Within.{Apart, apart-told, stands}
 use Rattle.elliprd.proofs.elliprd.Statement.{statement}
 use Rattle.elliprd.proofs.elliprd.Tie as tie
@@ -28,15 +27,11 @@ apart c =
     (sym (m .moderate3 .ensures))
     ∙ sym (d .both4 .ensures) ∙ c .if1 .taken)
 
-whole : (f : Found) {g : Found} → g ≡ handedAt f (f .value) → g ≡ f
-unfolding handedAt
-whole f e = e
-
 returns : tie.Need-returns
 returns c =
     let f = c .before .before in
     let d = f .before in
-    ap Value (whole (d .duplicated .result) (c .handed .ensures))
+    ap Value (c .handed .ensures ∙ handed-itself _)
     ∙ stands _ _ _ _ (apart (d .before)) (d .duplicated .ensures) (sym (f .is-finite .ensures) ∙ c .before .if2 .taken)
 
 pub elliprd-spec : {M : Type 1} → statement M

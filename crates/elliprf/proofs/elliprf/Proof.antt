@@ -4,7 +4,8 @@ use mathlib.Core.Path.{_≡_, refl, sym, ap, _∙_}
 use mathlib.Core.Bool.{true}
 use lib.Ieee.{Float}
 use Rattle.carlson.specs.Constants.{no-result}
-use Rattle.carlson.specs.Answer.{handedAt, settled}
+use Rattle.carlson.specs.Answer.{settled}
+use Rattle.carlson.specs.AnswerLaws.{handed-itself}
 use Rattle.carlson.specs.declared.answer.Found.{Found}
 use Rattle.carlson.specs.Door.{moderate3, inside3, no-nan3, none-below3, no-zeros3, none-infinite3, unscaled3}
 use Rattle.elliprc.specs.Rc.{overRoot}
@@ -17,11 +18,6 @@ unfolding rf rfUnchecked
 within x y z h =
     let i = inside3 x y z h in
     rw (no-nan3 i, none-below3 i, no-zeros3 i, none-infinite3 i, unscaled3 i overRoot rfSteps)
-
--- what was found, put together of its fields
-whole : (f : Found) → handedAt f (f .value) ≡ f
-unfolding handedAt
-whole f = refl
 
 pub elliprf-spec : {M : Type 1} → statement M
 unfolding rf
@@ -36,7 +32,7 @@ elliprf-spec =
     let d = c .before .before .before in
     let a = d .before .before .args in
     c .settle .ensures
-    ∙ ap (λ (f : Found). settled f no-result) (c .before .handed .ensures ∙ whole _ ∙ c .before .before .steps .ensures)
+    ∙ ap (λ (f : Found). settled f no-result) (c .before .handed .ensures ∙ handed-itself _ ∙ c .before .before .steps .ensures)
     ∙ within (a .x) (a .y) (a .z) (sym (d .before .moderate3 .ensures) ∙ d .if1 .taken))
     (λ c κs. tt)
     (λ c. rw (sym (c .before .any-nan3 .ensures) ∙ c .if2 .taken))
