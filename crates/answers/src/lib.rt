@@ -1,4 +1,6 @@
 // A call to its answer: what the entry of that name answers.
+#![tactic(auto)]
+
 ghost use Rattle.std.specs.Prelude.{◌≡◌};
 ghost use Rattle.elliprj.specs.Rj.{rj};
 ghost use Rattle.answers.specs.Answers.{answer_of};

@@ -7,13 +7,13 @@ use millimetres::at_end;
 use swing_read::{Line, Reading, close};
 
 // The swing's length, height and gravity, the time and the limit.
-#[derive(Drop)]
+#[derive(Clone, Copy)]
 pub enum Knee {
     Good(u64, u64, u64, u64, u64),
     Bad,
 }
 
-#[derive(Drop)]
+#[derive(Clone, Copy)]
 pub enum Peaks {
     Two(u64, u64),
     Bad,

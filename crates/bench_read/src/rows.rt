@@ -7,7 +7,7 @@ use millimetres::{Measured, last_begun, lengths, measure, plain};
 
 // How far the line is: 0 nothing has come, 1 something, 2 a carriage return last, 3 something after that, which makes it bad.
 // Where it is: 0 in the name, 1 in the swing, 2 behind it. What is read of `L h g`, and of the two numbers that come last.
-#[derive(Drop)]
+#[derive(Clone, Copy)]
 pub struct Row {
     pub stage: u64,
     pub field: u64,

@@ -1,4 +1,6 @@
 // A line of the bench to its reply, and the reply to its tally.
+#![tactic(auto)]
+
 mod asked;
 mod counts;
 

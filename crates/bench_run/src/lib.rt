@@ -1,5 +1,7 @@
 // Standard input to standard output, for the two programs of the bench: what is written is bench_stream's to say. The flags say
 // whether the lines are peaks, whether the tallies are told at the end, and whether it is said how far the work has come.
+#![tactic(auto)]
+
 use bench_stream::{BLOCK, HELD, begin, feed, finish};
 use console::{Got, read_block, written};
 use libc::STDIN_FILENO;

@@ -1,4 +1,6 @@
 // The bench's lines, knees or peaks: a line to its reply, the input as it comes, and a day's tallies at its end.
+#![tactic(auto)]
+
 mod lines;
 mod stream;
 

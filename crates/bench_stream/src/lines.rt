@@ -8,7 +8,7 @@ use bench_write::{Said, Tally};
 use writing::push;
 
 // Whether the lines are peaks, what is read of a line that has not ended, and the tallies of those that have.
-#[derive(Drop)]
+#[derive(Clone, Copy)]
 pub struct State {
     pub decays: bool,
     pub row: Row,

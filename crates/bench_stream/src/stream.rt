@@ -18,7 +18,7 @@ pub const HELD: usize = 33;
 pub const BLOCK: usize = 512;
 
 // The state now, how many bytes of the name are held, and how many were written.
-#[derive(Drop)]
+#[derive(Clone, Copy)]
 pub struct Progress {
     pub state: State,
     pub held: usize,

@@ -1,5 +1,7 @@
 // What is said to a line of the bench, and of a day's file, as text. Which piece comes next is a number's to say; one loop writes
 // them.
+#![tactic(auto)]
+
 mod pieces;
 mod said;
 mod tallies;

@@ -16,7 +16,7 @@ const SUMMARY: usize = 145;
 const NAME: usize = 32;
 
 // To a knee, to two peaks, to a bad line; and at the input's end.
-#[derive(Drop)]
+#[derive(Clone, Copy)]
 pub enum Said {
     Weighed(Verdict),
     NoVerdict(u32),
@@ -40,7 +40,7 @@ pub fn piece_at(said: Said, i: u64) -> Piece
 }
 
 // How many pieces there are, how many bytes of a name are shown before them, and how much room is asked for.
-#[derive(Drop)]
+#[derive(Clone, Copy)]
 pub struct Shape {
     pub pieces: u64,
     pub shown: usize,

@@ -5,7 +5,7 @@ ghost use Rattle.bench_write.specs.Pieces.{label_piece, count_at, count_piece, t
 
 use phrases::Piece;
 
-#[derive(Drop)]
+#[derive(Clone, Copy)]
 pub struct Tally {
     pub passed: u64,
     pub dragging: u64,

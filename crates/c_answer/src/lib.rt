@@ -1,5 +1,7 @@
 // An answer as C sees it: 0 with the value, its rounds, its road and its rescalings written, or the number of the refusal with
 // none of them touched.
+#![tactic(auto)]
+
 ghost use Rattle.std.specs.Prelude.{◌≡◌};
 ghost use Rattle.c_answer.specs.Told.{number_of, value_after, rounds_after, road_after, rescalings_after};
 

@@ -1,6 +1,8 @@
 // A call of an entry, its arguments as bit patterns. What is said of a call is specs/Calls.antt's: its name, its arguments, its
 // function's number.
-#[derive(Drop)]
+#![tactic(auto)]
+
+#[derive(Clone, Copy)]
 pub enum Call {
     Rc(u64, u64),
     Rf(u64, u64, u64),

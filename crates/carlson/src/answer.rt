@@ -25,7 +25,7 @@ use crate::constants::NAN_GIVEN;
 use binary64::is_finite;
 
 // Which formula answered (document 02, 2026-04; the loop is cel's alone, 2026-09).
-#[derive(Drop)]
+#[derive(Clone, Copy)]
 pub enum Road {
     Closed,
     Infinite,
@@ -54,21 +54,21 @@ pub fn road_number(road: Road) -> u32
 }
 
 // What adds up over the call and all it calls: the rounds begun, and the rescalings.
-#[derive(Drop)]
+#[derive(Clone, Copy)]
 pub struct Way {
     pub rounds: u32,
     pub rescalings: u32,
 }
 
 // What the steps found. Between the inner parts the value may be any f64; an entry hands out only a finite one.
-#[derive(Drop)]
+#[derive(Clone, Copy)]
 pub struct Found {
     pub value: f64,
     pub road: Road,
     pub way: Way,
 }
 
-#[derive(Drop)]
+#[derive(Clone, Copy)]
 pub enum Answer {
     Value(Found),
     Refused(u32),

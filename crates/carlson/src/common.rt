@@ -16,7 +16,7 @@ pub fn still_apart(xn: f64, yn: f64) -> bool
 }
 
 // By how much a pass of duplication moves its arguments; beside it the root of the last one, which RD's sum wants too.
-#[derive(Drop)]
+#[derive(Clone, Copy)]
 pub struct Lambda {
     pub lambda: f64,
     pub rz: f64,
@@ -33,7 +33,7 @@ pub fn lambda_with(rx: f64, ry: f64, rz: f64) -> Lambda
 }
 
 // The lambda of a pass whose roots were guessed, and whether they were told to be right.
-#[derive(Drop)]
+#[derive(Clone, Copy)]
 pub struct Trial {
     pub told: bool,
     pub by: Lambda,

@@ -1,4 +1,5 @@
 // Bulirsch's cel, the general complete elliptic integral (cel.rs in its general form; document 02, 2026-09).
+#![tactic(auto)]
 
 ghost use Rattle.std.specs.Prelude.{◌≡◌};
 ghost use Rattle.cel.specs.Cel.{

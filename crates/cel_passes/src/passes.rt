@@ -30,7 +30,7 @@ const TOLERANCE: f64 = 1.4901161193847656e-8;
 const TOO_FAR: f64 = 1.1920928955078125e-7;
 
 // The running quantities by the Rust's names; g is the m of before the pass.
-#[derive(Drop)]
+#[derive(Clone, Copy)]
 pub struct Running {
     pub kc: f64,
     pub e: f64,

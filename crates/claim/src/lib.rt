@@ -1,4 +1,6 @@
 // A claim of another laboratory held against our answer, and what is known of its table row by row (document 02, 2026-11).
+#![tactic(auto)]
+
 mod meeting;
 mod rows;
 

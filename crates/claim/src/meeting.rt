@@ -7,7 +7,7 @@ use carlson::answer::Answer;
 use distance::{apart, is_finite_pattern};
 
 // Kind 0 and the value's bits, or kind 1 and the refusal's number; no claim of another kind meets anything.
-#[derive(Drop)]
+#[derive(Clone, Copy)]
 pub struct Claim {
     pub kind: u64,
     pub word: u64,

@@ -5,7 +5,7 @@ ghost use Rattle.claim.specs.Rows.{row_after, missing_at, ended_at};
 // Document 02's number for no: claims and jobs differ in number.
 const NUMBERS_DIFFER: u32 = 22;
 
-#[derive(Drop)]
+#[derive(Clone, Copy)]
 pub enum Checked {
     Accepted,
     // Counted from 0.

@@ -1,4 +1,6 @@
 // A line of a listing, made by anyone, to what it claims of a job (document 02, 2026-11).
+#![tactic(auto)]
+
 mod fields;
 mod line;
 

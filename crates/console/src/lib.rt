@@ -1,4 +1,6 @@
 // What a program reads and writes: a block is read, bytes are written, and where that fails it is said on standard error.
+#![tactic(auto)]
+
 mod say;
 
 ghost use Rattle.console.specs.Got.{Within};
@@ -8,7 +10,7 @@ use libc::{STDERR_FILENO, STDIN_FILENO, STDOUT_FILENO};
 use writing::{OUT, least};
 
 // What a read led to.
-#[derive(Drop)]
+#[derive(Clone, Copy)]
 pub enum Got {
     // So many bytes came.
     Bytes(usize),

@@ -1,4 +1,6 @@
 // The logarithmic decrement of two successive peaks: ln of their quotient.
+#![tactic(auto)]
+
 ghost use Rattle.std.specs.Prelude.{◌≡◌, ◌≤◌, ◌^◌};
 ghost use Rattle.swing.specs.Period.{within, ratio};
 ghost use Rattle.decay.specs.Decrement.{decay_of};
@@ -11,7 +13,7 @@ const AMPLITUDE: u32 = 24;
 // Up to here every whole number is an f64.
 const MOST: u64 = 0x20_0000_0000_0000; // 2 ^ 53
 
-#[derive(Drop)]
+#[derive(Clone, Copy)]
 pub enum Decay {
     Decrement(f64),
     Refused(u32),

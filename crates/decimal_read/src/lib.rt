@@ -1,5 +1,7 @@
 // A decimal's text to the f64 that it says: `-1.5`, `0.25`, `1e-3`, `6.02E23`, `inf`, `-inf`, `nan`. What is beyond the largest
 // f64 is refused, and what is no number is told with its place.
+#![tactic(auto)]
+
 mod said;
 mod text;
 
@@ -18,7 +20,7 @@ const MINUS_INF: u64 = 0xfff0_0000_0000_0000;
 
 const NAN: u64 = 0x7ff8_0000_0000_0000;
 
-#[derive(Drop)]
+#[derive(Clone, Copy)]
 pub enum Reading {
     Number(f64),
     TooLarge,

@@ -6,7 +6,7 @@ use decimal_scan::{Scan, start, step, whole};
 
 const BAD: u64 = 8;
 
-#[derive(Drop)]
+#[derive(Clone, Copy)]
 pub enum Scanned {
     Whole(Scan),
     Bad(usize),

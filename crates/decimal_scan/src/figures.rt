@@ -3,7 +3,7 @@ ghost use Rattle.std.specs.Prelude.{◌≡◌, ◌<◌, ◌^◌};
 ghost use Rattle.decimal_scan.specs.Figures.{no_figures, first_of, grown_by, figures_after, room_for};
 
 // The digits from the first that is not 0; those of them up to the last that is not 0; the number that the first 19 are.
-#[derive(Drop)]
+#[derive(Clone, Copy)]
 pub struct Figures {
     pub digits: u64,
     pub kept: u64,

@@ -1,4 +1,6 @@
 // A decimal as people write it, byte by byte: a minus, digits, a point with digits after it, and `e` or `E` with a power of ten.
+#![tactic(auto)]
+
 mod figures;
 mod scan;
 

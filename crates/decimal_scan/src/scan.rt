@@ -21,7 +21,7 @@ use crate::figures::{Figures, after, none, room};
 // no number, whatever follows.
 const BAD: u64 = 8;
 
-#[derive(Drop)]
+#[derive(Clone, Copy)]
 pub struct Scan {
     pub phase: u64,
     pub minus: bool,

@@ -1,4 +1,6 @@
 // The text of an f64: the shortest decimal that reads back, laid out for people.
+#![tactic(auto)]
+
 mod shape;
 mod text;
 

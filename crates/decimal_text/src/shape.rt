@@ -12,7 +12,7 @@ const WIDEST: u64 = 1217; // up to here a whole number is written out
 const LEAST: u64 = 1195; // and past here a number below 1
 
 // A whole part, so many places after a point and the number that they are, and a power of ten, below 1 or above.
-#[derive(Drop)]
+#[derive(Clone, Copy)]
 pub struct Shape {
     pub whole: u64,
     pub places: u64,

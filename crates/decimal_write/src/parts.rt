@@ -10,7 +10,7 @@ const LOG: u64 = 1_292_913_986; // log10 2 in units of 2 ^ -32
 const START: u64 = 3_691_063_776_218; // 1183 less 1075 times that
 
 // m * 2 ^ (y - 1075)
-#[derive(Drop)]
+#[derive(Clone, Copy)]
 pub struct Parts {
     pub m: u64,
     pub y: u64,

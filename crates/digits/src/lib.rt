@@ -1,9 +1,11 @@
 // Numbers as upper-case digits: what a byte is, read as a digit.
+#![tactic(auto)]
+
 ghost use Rattle.std.specs.Prelude.{◌≡◌};
 ghost use Rattle.digits.specs.Digits.{digit_of};
 
 // What reading a number finds.
-#[derive(Drop)]
+#[derive(Clone, Copy)]
 pub enum Word {
     Is(u64),
     Not,

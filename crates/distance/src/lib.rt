@@ -1,4 +1,6 @@
 // How many steps between neighbouring f64 values two bit patterns lie apart (document 02, 2026-11).
+#![tactic(auto)]
+
 ghost use Rattle.std.specs.Prelude.{◌≡◌};
 ghost use Rattle.distance.specs.Steps.{step_of, apart_of, finite_pattern};
 

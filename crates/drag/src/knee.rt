@@ -7,7 +7,7 @@ use crate::nanoseconds::{Verdict, weigh};
 use carlson::answer::Answer;
 use swing::period::period;
 
-#[derive(Drop)]
+#[derive(Clone, Copy)]
 pub enum Judged {
     Weighed(Verdict),
     Refused(u32),

@@ -1,4 +1,6 @@
 // The verdict on a knee: the light gate's time for one swing held against the ideal one.
+#![tactic(auto)]
+
 mod knee;
 mod nanoseconds;
 

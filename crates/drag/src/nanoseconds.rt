@@ -10,7 +10,7 @@ const BILLION: u64 = 1_000_000_000;
 
 // Whether the knee passes, whether it was quicker than the ideal swing, by how many whole nanoseconds it was apart from it,
 // rounded half to even, and the ideal period in seconds.
-#[derive(Drop)]
+#[derive(Clone, Copy)]
 pub struct Verdict {
     pub passes: bool,
     pub quicker: bool,

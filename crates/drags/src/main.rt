@@ -1,5 +1,7 @@
 // Knees to verdicts: `ID L h g T LIMIT`, one a line. The argument --summary asks for the tallies at the end, and --progress,
 // before or after it, for how far the work has come; the shell lets no other in.
+#![tactic(auto)]
+
 use progress::asked;
 
 fn summary(at: usize) -> bool {

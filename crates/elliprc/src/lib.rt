@@ -1,5 +1,7 @@
 // RC, the degenerate symmetric elliptic integral of the first kind (elliprc.rs; DLMF 19.16.6). It is elementary: closed forms
 // only.
+#![tactic(auto)]
+
 ghost use Rattle.std.specs.Prelude.{◌≡◌};
 ghost use Rattle.elliprc.specs.Rc.{rc, rc_unchecked, rc_found, over_root};
 

@@ -2,6 +2,8 @@
 //
 // What another function answers is bound before it is returned, so that the formulas' answers go straight to the caller
 // (docs/PROVING.md, "An answer in memory").
+#![tactic(auto)]
+
 mod means;
 
 ghost use Rattle.std.specs.Prelude.{◌≡◌};

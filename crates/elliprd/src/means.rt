@@ -12,7 +12,7 @@ use root_guess::{Ahead, nearly_twice, ready, unready};
 const TOO_FAR: f64 = 4.8e-15;
 
 // The running means, and the running sum with its power of two.
-#[derive(Drop)]
+#[derive(Clone, Copy)]
 pub struct Sums {
     pub xn: f64,
     pub yn: f64,

@@ -1,4 +1,6 @@
 // RF, the symmetric elliptic integral of the first kind (elliprf.rs; DLMF 19.16.1).
+#![tactic(auto)]
+
 mod means;
 
 ghost use Rattle.std.specs.Prelude.{◌≡◌};

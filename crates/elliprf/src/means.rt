@@ -15,7 +15,7 @@ const CAP: u32 = 11;
 const TOO_FAR: f64 = 4.8e-15;
 
 // The running means.
-#[derive(Drop)]
+#[derive(Clone, Copy)]
 pub struct Means {
     pub xn: f64,
     pub yn: f64,

@@ -1,4 +1,6 @@
 // RG, the symmetric elliptic integral of the second kind (elliprg.rs; DLMF 19.16.2_5).
+#![tactic(auto)]
+
 ghost use Rattle.std.specs.Prelude.{◌≡◌, false};
 ghost use Rattle.elliprg.specs.Rg.{
   rg_equal,

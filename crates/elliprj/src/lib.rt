@@ -1,5 +1,7 @@
 // RJ, the symmetric elliptic integral of the third kind (elliprj.rs; DLMF 19.16.2), in two: an entry for p above zero, and one
 // for p below zero (document 02, 2026-10).
+#![tactic(auto)]
+
 ghost use Rattle.std.specs.Prelude.{◌≡◌};
 ghost use Rattle.elliprj.specs.Rj.{rj_settled, rj_rest, rj_signed, rj_of_positive, rj_of_negative};
 

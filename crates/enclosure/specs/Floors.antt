@@ -41,10 +41,10 @@ abbrev pub total : List ℕ → ℕ
 total [] = 0
 total (b ∷ bs) = b + total bs
 
-abbrev pub left_out_lem : ℕ → List ℕ → ℕ
-left_out_lem zero bs = total bs
-left_out_lem (suc k) [] = 0
-left_out_lem (suc k) (b ∷ bs) = left_out_lem k bs
+abbrev pub left_out : ℕ → List ℕ → ℕ
+left_out zero bs = total bs
+left_out (suc k) [] = 0
+left_out (suc k) (b ∷ bs) = left_out k bs
 
 -- (Q = q ^ length)
 total_step : Order 6 (λ b p q Q e t. (q times e ≼ t :* Q) ∷ (e times p ≼ q) ∷ [] ⊩ b :* (q :* Q) :+ p :* e ≈ (b :+ t) :* (q :* Q))
@@ -95,7 +95,7 @@ module _ (W : ℕ) (pos : 0 < W) (p : ℕ) (inside : p ≤ 2 ^ 58) where
       (entry_low g b) (div-mul-le_self (4 * p * h) (2 ^ 64)) (floors_low k (16 * g) bs)) (pow_pos 64))
 
   pub floors_high : (k g : ℕ) (bs : List ℕ)
-      → g * evaluate bs p (2 ^ 58) ≤ ((horner (4 * p) (entries k W g bs) + 3) * W + g * left_out_lem k bs) * (2 ^ 58) ^ length bs
+      → g * evaluate bs p (2 ^ 58) ≤ ((horner (4 * p) (entries k W g bs) + 3) * W + g * left_out k bs) * (2 ^ 58) ^ length bs
   floors_high zero g bs =
       nothing_left.law W g ((2 ^ 58) ^ length bs) (evaluate bs p (2 ^ 58)) (total bs) (below_total bs p (2 ^ 58) inside)
   floors_high (suc k) g [] = omega arith
@@ -104,5 +104,5 @@ module _ (W : ℕ) (pos : 0 < W) (p : ℕ) (inside : p ≤ 2 ^ 58) where
       rw (horner_step (4 * p) (entry W g b) (entries k W (16 * g) bs), pow-succ' (2 ^ 58) (length bs))
       (le_of_mul-le-mul_right (step_high.law W g b p ((2 ^ 58) ^ length bs) (evaluate bs p (2 ^ 58)) (entry W g b) h
       (4 * p * h / 2 ^ 64)
-      (left_out_lem k bs)
+      (left_out k bs)
       (entry_high g b) (lt-div-mul-add (pow_pos 64)) (floors_high k (16 * g) bs) inside) (pow_pos 64))

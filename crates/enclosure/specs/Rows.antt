@@ -21,7 +21,7 @@ use Rattle.enclosure.specs.Pieces.{
   right_row,
   right_rows,
 }
-use Rattle.enclosure.specs.Floors.{horner_least, all_fit, horner_fits, left_out_lem}
+use Rattle.enclosure.specs.Floors.{horner_least, all_fit, horner_fits, left_out}
 
 -- ---- a test of all numbers below n
 abbrev pub all_below : (ℕ → Bool) → ℕ → Bool
@@ -52,7 +52,7 @@ row_first s i h = leb→le (2 ^ 63) (get_or (row s i) 0 0)
     (and_l (leb (2 ^ 63) (get_or (row s i) 0 0)) (all_fit (row s i)) (row_good s i h))
 
 abbrev pub little_left : Series → ℕ → Bool
-little_left s i = leb (2 ^ 63 * left_out_lem row_length (shifted i (numerators s))) (3 * row_denominator s)
+little_left s i = leb (2 ^ 63 * left_out row_length (shifted i (numerators s))) (3 * row_denominator s)
 
 pub rest_fits : (s : Series) (i : ℕ) → i < pieces s → T (little_left s i)
 unfolding numerators

@@ -76,9 +76,9 @@ spread : (g u : Quotient) (y v a : ℕ) → y + v ≤ a → parts 62 y ⊞ (g �
 spread g u y v a h = record { cross = spread_out.law y v a g.num g.den u.num u.den (2 ^ 62) h }
 
 -- ---- what is near atan(r), r ≤ 1, is at most 2 ^ 62 + 10 parts
-at_most_one_lem : Order 2 (λ n d. (con (2 ^ 124) times n ≼ d) ∷ []
+at_most_one : Order 2 (λ n d. (con (2 ^ 124) times n ≼ d) ∷ []
     ⊩ (n :* con (2 ^ 62) :+ con 10 :* d) :* con (2 ^ 62) ≈ con (2 ^ 62 + 10) :* (d :* con (2 ^ 62)))
-at_most_one_lem = by_below tt
+at_most_one = by_below tt
 
 pub within_one : (r : Quotient) (v : ℕ) (up : Quotient) → r.num ≤ r.den
     → Within (atan_lower r) (atan_upper r) (parts 62 v) (parts 62 10) up

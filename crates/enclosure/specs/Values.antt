@@ -24,7 +24,7 @@ use Rattle.enclosure.specs.Pieces.{
 }
 use Rattle.enclosure.specs.Expansion.{coefficient, exact}
 use Rattle.enclosure.specs.Shifted.{evaluate, length_shifted, shifted_value, mul_pow, length_numerators, exact_is}
-use Rattle.enclosure.specs.Floors.{left_out_lem, floors_low, floors_high}
+use Rattle.enclosure.specs.Floors.{left_out, floors_low, floors_high}
 use Rattle.enclosure.specs.Rows.{rest_fits}
 use Rattle.enclosure.specs.Slope.{half, exact_rises}
 
@@ -111,8 +111,8 @@ module _ (s : Series) (x : ℕ) (inside : piece x < pieces s) where
   unfolding value row
   value_above =
       let high = rw bs_length at (floors_high W W-pos p p_fits row_length (2 ^ 63) bs) in
-      let rest = leb→le (2 ^ 63 * left_out_lem row_length bs) (3 * W) (rest_fits s i inside) in
-      let k = at_high.law (value s x) e.num e.den W Q (evaluate bs p (2 ^ 58)) (left_out_lem row_length bs) high rest
+      let rest = leb→le (2 ^ 63 * left_out row_length bs) (3 * W) (rest_fits s i inside) in
+      let k = at_high.law (value s x) e.num e.den W Q (evaluate bs p (2 ^ 58)) (left_out row_length bs) high rest
       (le_of_eq same_number) in
       record { cross = le_of_mul-le-mul_right k scale_pos }
 

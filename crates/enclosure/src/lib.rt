@@ -6,3 +6,4 @@
 // `Rows`, `Slope` and `Values` (the short polynomial is near the exact one), `Atan`, `Steep`, `Logarithm`, `Seeds`, `Ln` (the
 // rules), `Rise` and `Addition` (T(1/3) is T(s) + T(r)), `Below` (ln below 1), `Constants` (ln 2 and π/2), `Sizes` (enough
 // digits, and not too many), `Tiny` (small arguments), `Examples`.
+#![tactic(auto)]

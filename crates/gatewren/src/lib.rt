@@ -1,4 +1,6 @@
 // The C interface, for C and Rust to link: the leaves and the entries under C names. A list only; what each does is in its crate.
+#![tactic(auto)]
+
 mod bench_layer;
 mod decimals;
 mod entries;

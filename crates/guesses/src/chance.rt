@@ -8,7 +8,7 @@ const HALF: u64 = 0x400_0000; // 2 ^ 26
 const ONE: u64 = 0x10_0000_0000_0000; // 2 ^ 52
 
 // From 2 ^ -10 to 2 ^ 10; of any exponent; subnormal.
-#[derive(Drop)]
+#[derive(Clone, Copy)]
 pub enum Range {
     Near,
     All,
@@ -16,7 +16,7 @@ pub enum Range {
 }
 
 // A number, and the seed for the next.
-#[derive(Drop)]
+#[derive(Clone, Copy)]
 pub struct Drawn {
     pub x: f64,
     pub seed: u64,

@@ -1,6 +1,8 @@
 // How good the guesses of the root and of the power -3/2 are: over numbers by chance, how often each way to the answer was taken,
 // told by the very functions that `sqrt` and `pow_neg_3_2` are. The answers are proved whatever a guess gives, so that a spoilt
 // one would only cost time; the file `stdout` has the counts, and a guess that became worse, or better, shows here.
+#![tactic(auto)]
+
 mod chance;
 
 use crate::chance::{Range, draw};
@@ -11,7 +13,7 @@ use root_guess::{by_ahead, by_row, ready, row, two_factors};
 const NUMBERS: u64 = 20_000;
 
 // How often each way was taken: the rule for what is no number above zero first, and then from the quickest down.
-#[derive(Drop)]
+#[derive(Clone, Copy)]
 struct Tally {
     ways: [u64; 5],
 }
@@ -83,7 +85,7 @@ fn ahead_way(x: f64) -> usize {
     0
 }
 
-#[derive(Drop)]
+#[derive(Clone, Copy)]
 struct Tallies {
     root: Tally,
     beside: Tally,

@@ -1,4 +1,6 @@
 // A job of a work list to its answer: the entry of its function's number, at the f64s of its arguments.
+#![tactic(auto)]
+
 ghost use Rattle.std.specs.Prelude.{◌≡◌};
 ghost use Rattle.answers.specs.Answers.{answer_of};
 ghost use Rattle.job_answers.specs.JobAnswers.{call_of_job};

@@ -1,4 +1,6 @@
 // The jobs of a packed file, one after the other, through a window that moves over it.
+#![tactic(auto)]
+
 ghost use Rattle.std.specs.Prelude.{◌≤◌, length};
 
 use console::{Got, read_from};
@@ -8,7 +10,7 @@ use writing::least;
 
 // What stands in the window: the file's place at which it begins, the place in it of the next job and how many bytes came;
 // whether the file has ended, and whether a read failed.
-#[derive(Drop)]
+#[derive(Clone, Copy)]
 pub struct Window {
     pub from: u64,
     pub at: usize,
@@ -17,7 +19,7 @@ pub struct Window {
     pub failed: bool,
 }
 
-#[derive(Drop)]
+#[derive(Clone, Copy)]
 pub enum Pulled {
     // The job, and the window after it.
     Job(Job, Window),

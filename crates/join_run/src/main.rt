@@ -1,6 +1,8 @@
 // Report texts one after another from standard input, as `cat` puts them, to one report's text on standard output (document 02,
 // 2026-05). A line that no report has there is said on standard error with its number, counted from 1, and so is 18; there is no
 // report then.
+#![tactic(auto)]
+
 mod texts;
 
 use crate::texts::{BLOCK, LINE, begin, ended, feed};

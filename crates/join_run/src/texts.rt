@@ -13,7 +13,7 @@ const LINES: usize = 192;
 
 // Which line may come next, 0 a header and 1 more than its number else; how many lines came, how much is held of the next, and
 // whether something was wrong, which was said.
-#[derive(Drop)]
+#[derive(Clone, Copy)]
 pub struct Standing {
     pub next: usize,
     pub lines: u64,
@@ -31,7 +31,7 @@ pub fn begin() -> Standing {
 }
 
 // What a line leads to.
-#[derive(Drop)]
+#[derive(Clone, Copy)]
 enum Step {
     Next(usize),
     Bad,

@@ -1,11 +1,13 @@
 // A line of the listing to a call (document 01): a name, then each argument as one blank and sixteen upper-case hex digits.
+#![tactic(auto)]
+
 ghost use Rattle.std.specs.Prelude.{◌≡◌, ◌+◌, ◌≤◌, [], ◌∷◌, length};
 ghost use Rattle.listing_read.specs.Lines.{argument_length, line_length, word_at, same, all, named, read_as, call_of};
 
 use calls::Call;
 use digits::{Word, digit};
 
-#[derive(Drop)]
+#[derive(Clone, Copy)]
 pub enum Line {
     Good(Call),
     Bad,

@@ -1,5 +1,7 @@
 // Standard input to standard output, for the two programs that answer calls: what is written is listing_stream's to say. The flag
 // `profile` says who answers, as there; `wanted` whether it is said how far the work has come.
+#![tactic(auto)]
+
 use console::{Got, read_block, written};
 use libc::STDIN_FILENO;
 use listing_stream::{BLOCK, HELD, begin, feed, finish};

@@ -1,4 +1,6 @@
 // The listing's replies (document 01), by the base's entries or the bench profile's: a line to its reply, the input as it comes.
+#![tactic(auto)]
+
 mod replies;
 mod stream;
 

@@ -17,7 +17,7 @@ pub const HELD: usize = LONGEST + 1;
 pub const BLOCK: usize = 1024;
 
 // How many bytes are held now, and how many were written.
-#[derive(Drop)]
+#[derive(Clone, Copy)]
 pub struct Progress {
     pub held: usize,
     pub used: usize,

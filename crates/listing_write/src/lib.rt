@@ -1,4 +1,6 @@
 // An answer to its text, a line of the listing (document 01; document 02, 2026-04).
+#![tactic(auto)]
+
 ghost use Rattle.std.specs.Prelude.{◌≡◌, false, [], ◌∷◌, ◌+◌, ◌≤◌, length};
 ghost use Rattle.io.specs.Counts.{IsPrefixLen};
 ghost use Rattle.calls.specs.Calls.{name_of, longest_name};

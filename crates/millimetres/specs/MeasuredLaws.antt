@@ -187,25 +187,25 @@ module _ (k a b : ℕ) (K : k < 2) where
   unfolding bytes_measured byte_measured places_after places_end padded_of unit_after letter_after
   after_three n = refl
 
+  letter_whole : (t : Bool) (s : Reading) (x : ℕ) → eqb x 32 ≡ false → eqb x 46 ≡ false
+      → cond t (length_after s x) (told 0 (byte_after s x)) ≡ told 0 (byte_after s x)
+  letter_whole true s x p q = unfold length_after in rw (p, q)
+  letter_whole false s x p q = refl
+
+  figure_whole : (d : ℕ) (s : Reading) → d < 10 → bytes_measured (told 0 s) (glyph_of d ∷ []) ≡ told 0 (bytes_after s (glyph_of d ∷ []))
+  figure_whole d s h =
+      unfold bytes_measured byte_measured whole_after bytes_after in
+      rw (glyph 0 0 0 (omega arith) d h)
+      (letter_whole (may_be_length s) s (48 + d) (ne_eqb (48 + d) 32 (λ e. omega arith)) (ne_eqb (48 + d) 46 (λ e. omega arith)))
+
   figures_whole : (p n : ℕ) (r : Reading) → bytes_measured (told 0 r) (digits 10 p n) ≡ told 0 (bytes_after r (digits 10 p n))
   unfolding digits
   figures_whole zero n r = unfold bytes_measured bytes_after in refl
   figures_whole (suc p) n r =
       measured_more (digits 10 p (n / 10)) (told 0 r) (glyph_of (n % 10) ∷ [])
       ∙ ap (λ (m : Measured). bytes_measured m (glyph_of (n % 10) ∷ [])) (figures_whole p (n / 10) r)
-      ∙ last (n % 10) (bytes_after r (digits 10 p (n / 10))) (omega arith)
+      ∙ figure_whole (n % 10) (bytes_after r (digits 10 p (n / 10))) (omega arith)
       ∙ ap (told 0) (sym (bytes_more (digits 10 p (n / 10)) r (glyph_of (n % 10) ∷ [])))
-    where
-      go : (t : Bool) (s : Reading) (x : ℕ) → eqb x 32 ≡ false → eqb x 46 ≡ false
-          → cond t (length_after s x) (told 0 (byte_after s x)) ≡ told 0 (byte_after s x)
-      go true s x p q = unfold length_after in rw (p, q)
-      go false s x p q = refl
-
-      last : (d : ℕ) (s : Reading) → d < 10 → bytes_measured (told 0 s) (glyph_of d ∷ []) ≡ told 0 (bytes_after s (glyph_of d ∷ []))
-      last d s h =
-          unfold bytes_measured byte_measured whole_after bytes_after in
-          rw (glyph 0 0 0 (omega arith) d h)
-          (go (may_be_length s) s (48 + d) (ne_eqb (48 + d) 32 (λ e. omega arith)) (ne_eqb (48 + d) 46 (λ e. omega arith)))
 
   whole_part : (v : ℕ) → v < 2 ^ 64 → bytes_measured (told 0 (at k a b false 0)) (decimal 19 v) ≡ told 0 (at k a b true v)
   unfolding decimal

@@ -1,5 +1,7 @@
 // A line as it comes whose first two numbers may be lengths in millimetres, as `250.5 mm`: they are read as the whole micrometres
 // that they are. What is finer than a micrometre makes the line bad; nothing is rounded.
+#![tactic(auto)]
+
 ghost use Rattle.std.specs.Prelude.{◌≡◌, ◌<◌};
 ghost use Rattle.millimetres.specs.Measured.{
   lengths_from,
@@ -43,7 +45,7 @@ const DONE: u64 = 8; // the second
 const PLAIN: u64 = 9; // a line without lengths, from its start to its end
 
 // What is known of a line that has not ended, its numbers in micrometres.
-#[derive(Drop)]
+#[derive(Clone, Copy)]
 pub struct Measured {
     pub part: u64,
     pub reading: Reading,

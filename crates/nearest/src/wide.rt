@@ -6,7 +6,7 @@ use crate::word::sticky;
 use words::Wide;
 
 // The digits of a number at the top of one word, with the flag for those below it, and z zeros before them in the two words.
-#[derive(Drop)]
+#[derive(Clone, Copy)]
 pub struct Digits {
     pub v: u64,
     pub z: u64,

@@ -1,5 +1,7 @@
 // The numbers of a line of progress: how many lines end in a block, how much was done in a second, what part of the input was
 // read.
+#![tactic(auto)]
+
 mod ends;
 mod numbers;
 

@@ -1,5 +1,7 @@
 // Lines of the listing's form from standard input, as a packed work list to standard output (document 02, 2026-03). A bad
 // line ends it, and its number, counted from 1, is said on standard error; what came before it is written.
+#![tactic(auto)]
+
 use console::{Got, read_block, say_bad, written};
 use pack_stream::{BLOCK, HELD, feed, finish};
 use writing::OUT;

@@ -1,4 +1,6 @@
 // Lines of the listing's form to a packed work list (document 02, 2026-03), the input as it comes.
+#![tactic(auto)]
+
 mod jobs;
 mod stream;
 

@@ -15,7 +15,7 @@ pub const HELD: usize = LONGEST + 1;
 pub const BLOCK: usize = 1024;
 
 // How many bytes are held now, how many were written, how many lines have ended, and whether the last of them was bad.
-#[derive(Drop)]
+#[derive(Clone, Copy)]
 pub struct Progress {
     pub held: usize,
     pub used: usize,

@@ -5,7 +5,7 @@ ghost use Rattle.packed.specs.Jobs.{arity_of, argument_of, with_argument};
 // Document 02's number for no: a function that the work lists do not know.
 pub const UNKNOWN_FUNCTION: u32 = 16;
 
-#[derive(Drop)]
+#[derive(Clone, Copy)]
 pub struct Job {
     pub function: u64,
     pub a: u64,

@@ -6,13 +6,13 @@ ghost use Rattle.packed.specs.Reading.{function_read, argument_at, argument_afte
 use crate::jobs::{Job, UNKNOWN_FUNCTION, arity, with_argument};
 use packed_number::{Number, number_at};
 
-#[derive(Drop)]
+#[derive(Clone, Copy)]
 pub struct Got {
     pub job: Job,
     pub next: usize,
 }
 
-#[derive(Drop)]
+#[derive(Clone, Copy)]
 pub enum Read {
     Found(Got),
     Nothing,

@@ -11,7 +11,7 @@ use packed_number::number_length;
 // Document 02's number for no: the job is longer than what is left.
 pub const NO_ROOM: u32 = 17;
 
-#[derive(Drop)]
+#[derive(Clone, Copy)]
 pub enum Written {
     Next(usize),
     Refused(u32),

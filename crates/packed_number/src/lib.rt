@@ -1,5 +1,7 @@
 // A number in groups of seven bits, low group first, top bit set while more follow, shortest form only (document 02, 2026-03):
 // read at a place of a lent slice, and how long it is written.
+#![tactic(auto)]
+
 ghost use Rattle.std.specs.Prelude.{◌≡◌, ◌+◌, ◌*◌, ◌^◌, ◌<◌, length};
 ghost use Rattle.packed_number.specs.Numbers.{last_group, number_at, number_bytes};
 
@@ -9,7 +11,7 @@ pub const LIST_CUT: u32 = 14;
 pub const NUMBER_BAD: u32 = 15;
 
 // A number that was read whole, and the place after it.
-#[derive(Drop)]
+#[derive(Clone, Copy)]
 pub enum Number {
     Whole(u64, usize),
     Refused(u32),

@@ -3,7 +3,7 @@ ghost use Rattle.std.specs.Prelude.{◌≡◌, ◌*◌, ◌^◌, ◌<◌, ◌≤
 ghost use Rattle.parted.specs.Parts.{part_of, parts_of, step_of, rounded_of};
 
 // The part of one more: 0 none, 1 less than half of it, 2 the half, 3 more.
-#[derive(Drop)]
+#[derive(Clone, Copy)]
 pub struct Parts {
     pub whole: u64,
     pub part: u64,

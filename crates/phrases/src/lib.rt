@@ -1,11 +1,13 @@
 // A text in pieces. What a piece is, is decided in functions of numbers alone; bytes are written here, in one place for all.
+#![tactic(auto)]
+
 ghost use Rattle.std.specs.Prelude.{◌+◌, ◌≤◌, length};
 ghost use Rattle.writing.specs.Written.{Put, Tried};
 ghost use Rattle.phrases.specs.Pieces.{letters, piece_text, room_of};
 
 use writing::{has_room, put_decimal, put_places, put_word};
 
-#[derive(Drop)]
+#[derive(Clone, Copy)]
 pub enum Piece {
     // So many bytes, the last ones of a number, which has up to eight: `a` and `b` are 0x6162 and 2.
     Letters(u64, usize),

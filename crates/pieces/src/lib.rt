@@ -1,4 +1,6 @@
 // The two series' sums by short polynomials, one for each sixty_fourth of the range: enclosure's `value`, in code.
+#![tactic(auto)]
+
 mod row;
 
 ghost use Rattle.std.specs.Prelude.{◌≡◌};

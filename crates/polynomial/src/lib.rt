@@ -1,4 +1,6 @@
 // The polynomial of RC near equal arguments, by Horner's rule.
+#![tactic(auto)]
+
 ghost use Rattle.std.specs.Prelude.{◌≡◌};
 ghost use Rattle.polynomial.specs.Polynomial.{horner};
 

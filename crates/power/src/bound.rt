@@ -10,7 +10,7 @@ ghost use Rattle.power.specs.Parts.{against, Told};
 use words::high;
 
 // The side of one on which the product lies, if the bound tells.
-#[derive(Drop)]
+#[derive(Clone, Copy)]
 pub enum Side {
     Below,
     Above,

@@ -6,6 +6,8 @@
 // test:
 // the processor runs on past it. Which of these found the answer is told beside it, so that a program can count how good the
 // guess is; `pow_neg_3_2` leaves it away.
+#![tactic(auto)]
+
 mod bound;
 mod exact;
 mod guess;

@@ -62,7 +62,7 @@ fn digits(n: u64, y: u64) -> u64
 }
 
 // A pattern, and what found it.
-#[derive(Drop)]
+#[derive(Clone, Copy)]
 pub struct Pattern {
     pub r: u64,
     pub way: Way,

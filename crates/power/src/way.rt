@@ -2,7 +2,7 @@
 
 // A rule for what is no finite number above zero; the guess, certified by bounds of one word, or by the exact product; a
 // neighbour of the guess; its digits one by one.
-#[derive(Drop)]
+#[derive(Clone, Copy)]
 pub enum Way {
     Rule,
     Bound,
@@ -11,7 +11,7 @@ pub enum Way {
     Digits,
 }
 
-#[derive(Drop)]
+#[derive(Clone, Copy)]
 pub struct Found {
     pub value: f64,
     pub way: Way,

@@ -1,5 +1,7 @@
 // The bench profile (document 02, 2026-14): five entries beside the old ones, whose arguments may stand in any order and in any
 // unit by powers of four.
+#![tactic(auto)]
+
 ghost use Rattle.std.specs.Prelude.{◌≡◌};
 ghost use Rattle.profile.specs.Profile.{
   rc_plain,

@@ -1,4 +1,6 @@
 // A call to the bench profile's answer (document 02, 2026-14): what the profile's entry of that name answers.
+#![tactic(auto)]
+
 ghost use Rattle.std.specs.Prelude.{◌≡◌};
 ghost use Rattle.profile_answers.specs.ProfileAnswers.{profile_of};
 

@@ -1,4 +1,6 @@
 // What the bench profile (document 02, 2026-14) holds every argument to.
+#![tactic(auto)]
+
 ghost use Rattle.std.specs.Prelude.{◌≡◌};
 ghost use Rattle.profile_arguments.specs.Arguments.{plus_zero, sized, sized2, sized3, sized4};
 

@@ -1,5 +1,7 @@
 // How far long work has come: a line on standard error at each second of the clock, where it was asked for. Standard output is
 // never touched.
+#![tactic(auto)]
+
 mod meter;
 mod say;
 

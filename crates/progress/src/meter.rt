@@ -5,7 +5,7 @@ use pace::{due, lines_in, rate};
 
 // Whether lines are wanted; the input's bytes, or 0 where they are not known, how many of them are read and how much is done; the
 // clock's second at the line before, what was done then, and whether there was such a line.
-#[derive(Drop)]
+#[derive(Clone, Copy)]
 pub struct Meter {
     pub wanted: bool,
     pub size: u64,

@@ -7,13 +7,13 @@ use root::together::numbers3;
 use root::{certain, sqrt};
 use root_guess::{by_row, row};
 
-#[derive(Drop)]
+#[derive(Clone, Copy)]
 pub struct Both {
     pub x: f64,
     pub y: f64,
 }
 
-#[derive(Drop)]
+#[derive(Clone, Copy)]
 pub struct All {
     pub x: f64,
     pub y: f64,

@@ -35,7 +35,7 @@ const CAP: u32 = 50;
 const START: f64 = 107.63474115247546;
 
 // The running mean, arguments, distance, power of four and sum of one pass.
-#[derive(Drop)]
+#[derive(Clone, Copy)]
 pub struct Round {
     pub an: f64,
     pub xn: f64,

@@ -1,5 +1,7 @@
 // The report of a work list (document 02, 2026-05): its answers' counts and exact sums, added to what a report holds. What is
 // refused leaves the report as it was: a list is looked through before any entry is asked.
+#![tactic(auto)]
+
 ghost use Rattle.std.specs.Prelude.{◌≡◌};
 ghost use Rattle.packed.specs.Reading.{read_all};
 ghost use Rattle.report.specs.Report.{job_added, jobs_added, jobs_of, list_number, list_after};

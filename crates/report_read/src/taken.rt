@@ -12,7 +12,7 @@ const WORDS: usize = 384;
 const LINES: usize = 192;
 
 // The number of the line that may come next, or that the line is none.
-#[derive(Drop)]
+#[derive(Clone, Copy)]
 pub enum Taken {
     At(usize),
     Bad,

@@ -1,6 +1,8 @@
 // The report of the packed work list that comes from standard input, as text on standard output (document 02, 2026-05). A refusal
 // is said on standard error, with the place, counted from 0, at which its job begins, and there is no report then. The list is
 // read as it comes: what is added before a refusal is never written. The argument --progress asks for how far it has come.
+#![tactic(auto)]
+
 use console::say_refused;
 use jobs_in::{Pulled, begin, place, pull};
 use libc::STDIN_FILENO;

@@ -1,4 +1,6 @@
 // A report's text on standard output.
+#![tactic(auto)]
+
 use console::written;
 use report_text::{put_header, put_line};
 use writing::OUT;

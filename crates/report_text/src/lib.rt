@@ -1,4 +1,6 @@
 // The text of a report (document 02, 2026-05), line by line, from its words.
+#![tactic(auto)]
+
 mod hex;
 mod line;
 mod report;

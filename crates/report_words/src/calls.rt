@@ -7,7 +7,7 @@ use crate::place::BLOCK;
 
 const FUNCTIONS: usize = 6;
 
-#[derive(Drop)]
+#[derive(Clone, Copy)]
 pub enum Room {
     // So many calls more.
     For(u64),

@@ -1,5 +1,7 @@
 // A report's words (document 02, 2026-05): a block for each of the six functions that the work lists know, in the order of their
 // numbers. Zero words are the report of no list.
+#![tactic(auto)]
+
 mod add;
 mod both;
 mod calls;

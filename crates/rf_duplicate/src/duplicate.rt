@@ -34,7 +34,7 @@ const CAP: u32 = 11;
 const START: f64 = 78.8959690786408;
 
 // The running mean, arguments, distance and power of four of one pass.
-#[derive(Drop)]
+#[derive(Clone, Copy)]
 pub struct Round {
     pub an: f64,
     pub xn: f64,

@@ -34,7 +34,7 @@ use root_guess::{by_row, row};
 const CAP: u32 = 50;
 
 // RF's share of a pass: its mean, distance and power of four, and its result once it is close.
-#[derive(Drop)]
+#[derive(Clone, Copy)]
 pub struct RfPart {
     pub an: f64,
     pub q: f64,
@@ -44,7 +44,7 @@ pub struct RfPart {
 }
 
 // RD's share, with its sum.
-#[derive(Drop)]
+#[derive(Clone, Copy)]
 pub struct RdPart {
     pub an: f64,
     pub q: f64,
@@ -55,7 +55,7 @@ pub struct RdPart {
 }
 
 // The running arguments and both shares.
-#[derive(Drop)]
+#[derive(Clone, Copy)]
 pub struct Joint {
     pub xn: f64,
     pub yn: f64,
@@ -65,7 +65,7 @@ pub struct Joint {
 }
 
 // What both came to; NaN where one was not close when the cap was spent.
-#[derive(Drop)]
+#[derive(Clone, Copy)]
 pub struct RfRd {
     pub rf: f64,
     pub rd: f64,

@@ -1,4 +1,6 @@
 // RJ before its checks (elliprj.rs): what a call does, and the calls of itself.
+#![tactic(auto)]
+
 mod plan;
 
 ghost use Rattle.std.specs.Prelude.{◌≤◌, ◌≡◌};

@@ -10,7 +10,7 @@ use rj_positive::positive::positive;
 use sorting::{Triple, rising};
 
 // The rescaled arguments, and the scale.
-#[derive(Drop)]
+#[derive(Clone, Copy)]
 pub struct Rescaled {
     pub x: f64,
     pub y: f64,
@@ -20,7 +20,7 @@ pub struct Rescaled {
 }
 
 // It is done, or calls itself at rescaled arguments, or at the reduction's.
-#[derive(Drop)]
+#[derive(Clone, Copy)]
 pub enum Plan {
     Done(Answer),
     Rescale(Rescaled),

@@ -20,14 +20,14 @@ use root::sqrt;
 const ROOT_EPSILON: f64 = 1.4901161193847656e-8; // 2 ^ -26, the root of 2 ^ -52
 
 // The expansion's value, or that the arguments are too far from the zero.
-#[derive(Drop)]
+#[derive(Clone, Copy)]
 pub enum Near {
     Taylor(f64),
     Far,
 }
 
 // The arguments' distances from 2q, 2q and 3q.
-#[derive(Drop)]
+#[derive(Clone, Copy)]
 pub struct Deltas {
     pub x: f64,
     pub y: f64,

@@ -8,7 +8,7 @@ use elliprf::elliprf_unchecked;
 use root::sqrt;
 
 // The arguments of the inner call, and q = -p of the outer one.
-#[derive(Drop)]
+#[derive(Clone, Copy)]
 pub struct Reduced {
     pub x: f64,
     pub y: f64,

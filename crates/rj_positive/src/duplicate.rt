@@ -37,7 +37,7 @@ const MIN_POSITIVE: f64 = 2.2250738585072014e-308; // the least normal f64, 2 ^ 
 
 // The running mean and arguments, the product of the differences, the power of four, the sum of one pass, and how often RC
 // rescaled on the way to it.
-#[derive(Drop)]
+#[derive(Clone, Copy)]
 pub struct Round {
     pub an: f64,
     pub xn: f64,

@@ -1,3 +1,5 @@
 // RJ for p above zero, before any rescaling.
+#![tactic(auto)]
+
 mod duplicate;
 pub mod positive;

@@ -7,7 +7,7 @@ use carlson::answer::Found;
 use elliprc::elliprc_unchecked;
 
 // The roots of the running arguments.
-#[derive(Drop)]
+#[derive(Clone, Copy)]
 pub struct Roots {
     pub x: f64,
     pub y: f64,

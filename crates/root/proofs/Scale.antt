@@ -43,6 +43,7 @@ module _ (b : ℕ) (l : 2 ^ 52 ≤ b) where
 -- ---- a subnormal number: n is b * 4 ^ k, and y is 511 - k
 pub step : (n y : ℕ) → 1 ≤ y → n * 4 * four (y - 1) ≡ n * four y
 unfolding four
+step n zero h = elim h [ ]
 step n (suc y) h =
     let s : suc y - 1 ≡ y = omega arith in
     let e : suc y + suc y ≡ 2 + (y + y) = omega arith in

@@ -78,7 +78,7 @@ fn near(n: u64) -> u64
 }
 
 // The digits of a root, and what found them.
-#[derive(Drop)]
+#[derive(Clone, Copy)]
 pub struct Digits {
     pub c: u64,
     pub way: Way,

@@ -4,6 +4,8 @@
 // proved to be the root. Where the guess is one off, or the number is subnormal, `search` finds the root, in a bounded number
 // of steps. A caller does not wait for the test: the processor runs on past it. `find` tells which of these found the root, so
 // that a program can count how good the guess is.
+#![tactic(auto)]
+
 mod certificate;
 mod exact;
 pub mod parts;

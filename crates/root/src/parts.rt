@@ -5,7 +5,7 @@ ghost use Rattle.root.specs.Parts.{Scaled};
 const ONE: u64 = 0x10_0000_0000_0000; // 2 ^ 52
 
 // The value is n * 4 ^ (y - 511) smallest units, where n has 53 or 54 digits.
-#[derive(Drop)]
+#[derive(Clone, Copy)]
 pub struct Parts {
     pub n: u64,
     pub y: u64,

@@ -2,7 +2,7 @@
 
 // A rule for what is no finite number above zero; the guess, at once; a second guess, from the digits alone, as for a subnormal
 // number; a neighbour of that; the bisection.
-#[derive(Drop)]
+#[derive(Clone, Copy)]
 pub enum Way {
     Rule,
     Guess,
@@ -11,7 +11,7 @@ pub enum Way {
     Bisection,
 }
 
-#[derive(Drop)]
+#[derive(Clone, Copy)]
 pub struct Found {
     pub value: f64,
     pub way: Way,

@@ -12,7 +12,7 @@ const WIDE_PIECE: u64 = 0x1_0000_0000_0000; // 2 ^ 48
 
 // A number of few digits near the root; its square, which is exact; and a quotient by it, with its sign turned, so that the power
 // of two in it is a pattern whatever b is.
-#[derive(Drop)]
+#[derive(Clone, Copy)]
 pub struct Ahead {
     pub near: f64,
     pub square: f64,

@@ -9,6 +9,8 @@
 // is w * 1.456² and 1.456² / 4 more, so that they need not wait for d. The sum with r comes last, so that the only rounding that
 // counts is its own. (The factors are written in three different ways, so that LLVM works out no two of them as a pair, for which
 // it moves u and the results about: in a chain of roots that took 1.5 ns more.)
+#![tactic(auto)]
+
 mod ahead;
 mod rows;
 mod start;

@@ -3,7 +3,7 @@
 // one caller. Nothing is proved of the numbers: a wrong one makes the root slow, not wrong.
 
 // r and r * r, both exact; 1.49813 / (2 * r), rounded, and its square.
-#[derive(Drop)]
+#[derive(Clone, Copy)]
 pub struct Row(pub f64, pub f64, pub f64, pub f64);
 
 pub(crate) fn row_of(piece: u64) -> Row {

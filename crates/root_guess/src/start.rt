@@ -4,7 +4,7 @@
 // proved of the numbers: a wrong one makes the root slow, not wrong.
 
 // A number and its square.
-#[derive(Drop)]
+#[derive(Clone, Copy)]
 pub(crate) struct Squared(pub f64, pub f64);
 
 // r and r * r, both exact.

@@ -1,4 +1,6 @@
 // The rows of a file or of standard input, one after the other: each is held without its end, as much of it as there is room for.
+#![tactic(auto)]
+
 ghost use Rattle.std.specs.Prelude.{◌≡◌, ◌≤◌, length};
 ghost use Rattle.io.specs.Counts.{IsPrefixLen};
 
@@ -13,7 +15,7 @@ pub const BLOCK: usize = 2048;
 
 // The next byte's place in the block, how many bytes of the block came, how many are held of a row, whether it is whole, and
 // whether a read failed.
-#[derive(Drop)]
+#[derive(Clone, Copy)]
 pub struct Rows {
     pub at: usize,
     pub size: usize,

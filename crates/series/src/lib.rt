@@ -2,6 +2,8 @@
 //
 // A function takes its argument apart by its bits, works in words of fixed point, and rounds at the end. Two quotients at most,
 // one short polynomial (the crate `pieces`), and a few products of which the upper word counts.
+#![tactic(auto)]
+
 mod arc;
 mod logarithm;
 mod one_plus;

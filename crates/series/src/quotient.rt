@@ -10,7 +10,7 @@ const BASE: u64 = 0x8000_0000; // 2 ^ 31
 const HALF: u64 = 0x2000_0000_0000_0000; // 2 ^ 61: a half in parts of 2 ^ -62
 
 // A quotient and a rest.
-#[derive(Drop)]
+#[derive(Clone, Copy)]
 pub struct WithRest {
     pub q: u64,
     pub r: u64,

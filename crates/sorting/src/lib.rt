@@ -1,8 +1,10 @@
 // Three values brought into order as the Rust does it: each step exchanges two of them where they stand wrong.
+#![tactic(auto)]
+
 ghost use Rattle.std.specs.Prelude.{◌≡◌};
 ghost use Rattle.sorting.specs.Sorting.{rise_xy, rise_yz, fall_xy, fall_xz, rising, largest_first};
 
-#[derive(Drop)]
+#[derive(Clone, Copy)]
 pub struct Triple {
     pub x: f64,
     pub y: f64,

@@ -1,6 +1,8 @@
 // Calls with numbers as people write them: each line of standard input is a name and decimals, and has an answer line. The
 // argument `table` asks for a heading and rows that a spreadsheet opens, `hex` for the same with the values' bits; without one a
 // line is for people. What is said to a line is `spoken_read`'s, its text `spoken_write`'s.
+#![tactic(auto)]
+
 use console::written;
 use rows::{BLOCK, ROW, begin, next};
 use spoken_parts::{Form, Said};

@@ -1,4 +1,6 @@
 // What is said to a call with decimals, and its parts: which comes next is a number's to say.
+#![tactic(auto)]
+
 mod parts;
 mod said;
 

@@ -31,7 +31,7 @@ use binary64::split;
 use carlson::answer::{Found, Road};
 use phrases::Piece;
 
-#[derive(Drop)]
+#[derive(Clone, Copy)]
 pub enum Part {
     // from a place of the text to another
     Words(usize, usize),

@@ -5,14 +5,14 @@ ghost use Rattle.spoken_parts.specs.Texts.{speaks};
 use carlson::answer::Found;
 
 // The argument `table` asks for rows, `hex` for rows with the values' bits; without one a line is for people.
-#[derive(Drop)]
+#[derive(Clone, Copy)]
 pub struct Form {
     pub table: bool,
     pub hex: bool,
 }
 
 // Why a line is no call: how many arguments are wanted, or the place, from 1.
-#[derive(Drop)]
+#[derive(Clone, Copy)]
 pub enum Bad {
     NoFunction,
     Wanted(u64),
@@ -21,7 +21,7 @@ pub enum Bad {
     TooLong,
 }
 
-#[derive(Drop)]
+#[derive(Clone, Copy)]
 pub enum Said {
     // there is no word in the line
     Nothing,

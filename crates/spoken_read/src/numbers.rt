@@ -7,7 +7,7 @@ use binary64::split;
 use decimal_read::{Reading, read};
 
 // The patterns of up to four numbers; one more is counted, and none after it.
-#[derive(Drop)]
+#[derive(Clone, Copy)]
 pub struct Numbers {
     pub count: u64,
     pub a: u64,
@@ -16,7 +16,7 @@ pub struct Numbers {
     pub d: u64,
 }
 
-#[derive(Drop)]
+#[derive(Clone, Copy)]
 pub enum Taken {
     All(Numbers),
     // the place of the byte that makes a word no number, from 1

@@ -22,7 +22,7 @@ use root::sqrt;
 use series::{atan, ln, ln_1p};
 use spoken_parts::{Bad, Said};
 
-#[derive(Drop)]
+#[derive(Clone, Copy)]
 enum Function {
     Rc,
     Rf,

@@ -1,18 +1,20 @@
 // The step log (document 02, 2026-01): a total, and what the 16-bit counter went on between successive readings.
+#![tactic(auto)]
+
 ghost use Rattle.std.specs.Prelude.{◌≡◌};
 ghost use Rattle.steplog.specs.Steps.{advance_of, added_to, log_from, log_after, steps_of, StepsTaken, kept_total, steps_number};
 
 // Document 02's number for no: the sum would pass 2^64 - 1.
 const TOO_LARGE: u32 = 13;
 
-#[derive(Drop)]
+#[derive(Clone, Copy)]
 pub enum Steps {
     Total(u64),
     Refused(u32),
 }
 
 // The sum so far, and the last reading once there is one.
-#[derive(Drop)]
+#[derive(Clone, Copy)]
 pub struct Log {
     pub sum: Steps,
     pub begun: bool,

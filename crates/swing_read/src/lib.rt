@@ -1,9 +1,11 @@
 // A line as it comes: one number, or three with one blank between. A number is decimal, a u64, with no zero in front and no sign.
+#![tactic(auto)]
+
 ghost use Rattle.std.specs.Prelude.{◌≡◌, ◌<◌};
 ghost use Rattle.swing_read.specs.Reading.{start_of, spoilt_of, blank_after, room_for, digit_after, byte_after, line_of, at_start};
 
 // What is known of a line that has not ended. Three numbers ended say that it is bad, whatever comes.
-#[derive(Drop)]
+#[derive(Clone, Copy)]
 pub struct Reading {
     pub ended: u64,
     pub first: u64,
@@ -12,7 +14,7 @@ pub struct Reading {
     pub value: u64,
 }
 
-#[derive(Drop)]
+#[derive(Clone, Copy)]
 pub enum Line {
     One(u64),
     Three(u64, u64, u64),

@@ -1,4 +1,6 @@
 // Standard input to standard output, for the two programs of the swing's lines: what is written is swing_stream's to say.
+#![tactic(auto)]
+
 use console::{Got, read_block, written};
 use swing_stream::{BLOCK, State, feed, finish};
 

@@ -23,7 +23,7 @@ use swing_write::put_swing;
 use writing::put_text;
 
 // Whether the lines are the step log's, whether its total is known, the log, and what is read of a line that has not ended.
-#[derive(Drop)]
+#[derive(Clone, Copy)]
 pub struct State {
     pub counting: bool,
     pub known: bool,

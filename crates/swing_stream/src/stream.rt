@@ -15,7 +15,7 @@ use writing::{OUT, least, put_text};
 pub const BLOCK: usize = 1024;
 
 // The state now, and how many bytes were written.
-#[derive(Drop)]
+#[derive(Clone, Copy)]
 pub struct Progress {
     pub state: State,
     pub used: usize,

@@ -1,4 +1,6 @@
 // The swing's and the step log's answers as text (document 02, 2026-01).
+#![tactic(auto)]
+
 mod replies;
 mod seconds;
 

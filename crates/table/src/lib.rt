@@ -1,4 +1,6 @@
 // A table that another laboratory sends, held against ours (document 02, 2026-11): a claim for each job of a work list.
+#![tactic(auto)]
+
 mod check;
 mod judge;
 

@@ -1,4 +1,6 @@
 // A work list's jobs and the lines of a listing made by anyone, row by row (document 02, 2026-11).
+#![tactic(auto)]
+
 ghost use Rattle.std.specs.Prelude.{◌≡◌};
 ghost use Rattle.claim.specs.Rows.{row_after};
 ghost use Rattle.table_lines.specs.Lines.{is_header, line_meets};

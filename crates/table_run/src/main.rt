@@ -1,6 +1,8 @@
 // A packed work list and a listing made by anyone, held against our answers (document 02, 2026-11): arguments are the tolerance
 // in steps, the list and the listing, and --progress where it is to be said how far the work has come. Both files are read as
 // they come, side by side. What is wrong with them is the answer; what keeps it from being found is said on standard error.
+#![tactic(auto)]
+
 mod inputs;
 mod say;
 

@@ -4,7 +4,7 @@ use libc::{STDERR_FILENO, STDOUT_FILENO};
 use writing::{least, put_decimal, put_text};
 
 // What the inputs led to.
-#[derive(Drop)]
+#[derive(Clone, Copy)]
 pub enum Ended {
     With(Checked),
     // A read failed, and that was said.

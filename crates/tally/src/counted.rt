@@ -8,7 +8,7 @@ use carlson::answer::Answer;
 const INFINITY: u64 = 0x7ff0_0000_0000_0000; // the pattern of the infinity: a sum takes none of it
 
 // The refusal's number, or 0; the rounds of a value; its bits, or those of an infinity, of which a sum takes nothing.
-#[derive(Drop)]
+#[derive(Clone, Copy)]
 pub struct Counted {
     pub refused: u64,
     pub rounds: u64,

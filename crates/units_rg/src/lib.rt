@@ -1,1 +1,2 @@
 // Laws only, no function: units drop out of RG (demand 3). `Rg` ends with the claim.
+#![tactic(auto)]

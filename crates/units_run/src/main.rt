@@ -1,5 +1,7 @@
 // Demand 3 run through the proved entries: each call of its standard input, which has the form of the listing's, is asked again
 // with its arguments multiplied by every power of four that keeps them in range, and the answers are compared.
+#![tactic(auto)]
+
 mod pair;
 
 ghost use Rattle.std.specs.Prelude.{◌<◌};
@@ -13,7 +15,7 @@ use rows::{BLOCK, ROW, begin, next};
 // Calls are shown until so many pairs differ.
 const SHOWN: u64 = 5;
 
-#[derive(Drop)]
+#[derive(Clone, Copy)]
 struct Tally {
     // calls of each entry, in the order RC, RF, RD, RG, RJ, and of all; pairs, those refused alike, those that differ, likewise
     calls: [u64; 6],

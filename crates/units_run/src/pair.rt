@@ -15,7 +15,7 @@ const MOST: u64 = 0x43F0_0000_0000_0000; // 2 ^ 64
 const ONE: u64 = 0x0010_0000_0000_0000; // one in the exponent; and the least normal number
 
 // What a pair of calls led to.
-#[derive(Drop)]
+#[derive(Clone, Copy)]
 pub enum Verdict {
     // Demand 3 does not speak of it.
     Outside,

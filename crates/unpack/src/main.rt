@@ -1,6 +1,8 @@
 // A packed work list from standard input, as lines of the listing's form to standard output (document 02, 2026-03). A
 // refusal ends it, and is said on standard error with the place, counted from 0, at which its job begins; the jobs before
 // it are written.
+#![tactic(auto)]
+
 use console::{Got, read_block, say_refused, written};
 use unpack_stream::{BLOCK, HELD, feed, left_over};
 use writing::OUT;

@@ -18,7 +18,7 @@ pub const BLOCK: usize = 512;
 
 // How many bytes are held now, how many were written, how many bytes the whole jobs took, and whether a refusal ended it,
 // with its number.
-#[derive(Drop)]
+#[derive(Clone, Copy)]
 pub struct Progress {
     pub held: usize,
     pub used: usize,
@@ -28,7 +28,7 @@ pub struct Progress {
 }
 
 // What some bytes led to, and the place after them.
-#[derive(Drop)]
+#[derive(Clone, Copy)]
 struct Turned {
     fed: Progress,
     next: usize,

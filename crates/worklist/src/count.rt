@@ -5,7 +5,7 @@ ghost use Rattle.worklist.specs.Count.{count_of};
 
 use packed::{Read, read_job};
 
-#[derive(Drop)]
+#[derive(Clone, Copy)]
 pub enum Count {
     Jobs(u64),
     // The list's own number for no.

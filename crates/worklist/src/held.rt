@@ -5,7 +5,7 @@ ghost use Rattle.packed.specs.Reading.{read_at};
 
 use packed::{Read, read_job};
 
-#[derive(Drop)]
+#[derive(Clone, Copy)]
 pub struct Reader<'a> {
     pub bytes: &'a [u8],
     pub place: usize,

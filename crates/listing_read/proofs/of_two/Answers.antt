@@ -1,0 +1,15 @@
+-- `of_two` meets its contract: its test is that of the definition. Assumes nothing.
+use mathlib.Core.Path.{sym, ◌∙◌}
+use Rattle.calls.specs.Calls.{name_of}
+use Rattle.listing_read.specs.Lines.{called_by, named}
+use Rattle.listing_read.proofs.of_two.Goals as goal
+
+pub returns-then-is_name : goal.returns-then-is_name
+unfolding named called_by name_of
+returns-then-is_name c =
+    rw (sym c.is_name.ensures ∙ c.if-is_name.true)
+
+pub returns : goal.returns
+unfolding named called_by name_of
+returns c =
+    rw (sym c.is_name.ensures ∙ c.if-is_name.false)
