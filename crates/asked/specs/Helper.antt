@@ -9,7 +9,7 @@ use Rattle.std.specs.Float.Ieee.Fits.{and_l, and_r}
 use Rattle.std.specs.Float.Ieee.Scale.{finite}
 use Rattle.root.specs.Root.{root}
 use Rattle.scaling.specs.Units.{Is, lt_units, neg_units}
-use Rattle.scaling.specs.Plain.{units_of_lem}
+use Rattle.scaling.specs.Plain.{whole_units_of}
 use Rattle.carlson.specs.Constants.{two, half}
 use Rattle.rj_term.specs.Helper.{hundredth, AtHalf, ln_argument}
 use Rattle.rj_term.specs.Borders.{to_logs, logs_reached, ln_from_two}
@@ -22,7 +22,7 @@ negative : (y : Float) → T (fits binary64 y) → T (lt y (neg hundredth)) → 
 unfolding lt neg of_bits
 negative nan F h f = absurd h
 negative (inf s) F h f = absurd (true≢false (sym f))
-negative (fin true m e) F h f = units_of_lem binary64 (fin true m e) F tt
+negative (fin true m e) F h f = whole_units_of binary64 (fin true m e) F tt
 negative (fin false m e) F h f = absurd h
 
 pub logs_asked : (y : Float) → T (fits binary64 y) → T (to_logs y) → Within (root (neg y)) × Within (neg (root (neg y)))

@@ -9,7 +9,7 @@ use Rattle.binary64.specs.Operators.{◌⊘◌}
 use Rattle.scaling.specs.Near.{near, near_mono, near_exact}
 use Rattle.scaling.specs.Units.{Is, div_units, lt_units, eq_units}
 use Rattle.scaling.specs.Last.{digits_of}
-use Rattle.scaling.specs.Plain.{units_of_lem}
+use Rattle.scaling.specs.Plain.{whole_units_of}
 use Rattle.scaling.specs.Tests.{zero_is}
 use Rattle.carlson.specs.Constants.{zero, half}
 use Rattle.asked.specs.Arguments.{half_is}
@@ -69,8 +69,8 @@ ordered (fin s m e) (inf false) h f = absurd h.not_less
 ordered (fin s m e) (fin t n d) h f =
     let x = fin s m e in
     let y = fin t n d in
-    let A = units_of_lem binary64 x h.fit_x tt in
-    let B = units_of_lem binary64 y h.fit_y tt in
+    let A = whole_units_of binary64 x h.fit_x tt in
+    let B = whole_units_of binary64 y h.fit_y tt in
     let pos = some s A.0 (subst (λ b. T (not b)) (eq_units A.1 (zero_is binary64)) h.not_zero) in
     let y_above = subst (λ b. T (not b)) (lt_units B.1 (zero_is binary64)) h.y_above in
     let not_less = subst (λ b. T (not b)) (lt_units A.1 B.1) h.not_less in

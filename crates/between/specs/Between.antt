@@ -121,30 +121,30 @@ value_le a b h = elim (lt_or_le a b) [
 ]
 
 module _ {lo hi : ℕ} {x : Float} (X : Between lo hi x) where
-  unfoldable pub units_of_lem : ℕ
-  units_of_lem = value X.n
+  unfoldable pub whole_units_of : ℕ
+  whole_units_of = value X.n
 
-  pub units_low : value lo ≤ units_of_lem
-  unfolding units_of_lem
+  pub units_low : value lo ≤ whole_units_of
+  unfolding whole_units_of
   units_low = value_le lo X.n X.low
 
-  pub units_high : units_of_lem ≤ value hi
-  unfolding units_of_lem
+  pub units_high : whole_units_of ≤ value hi
+  unfolding whole_units_of
   units_high = value_le X.n hi X.high
 
   under_infinity : X.n < infinity
   under_infinity = lt_of_le_of_lt X.high (solid_under lo hi X.ok)
 
-  pub has_value : HasValue x false units_of_lem (2 ^ 1074)
-  unfolding units_of_lem
+  pub has_value : HasValue x false whole_units_of (2 ^ 1074)
+  unfolding whole_units_of
   has_value = subst (λ (y : Float). HasValue y false (value X.n) (2 ^ 1074)) (sym X.is) (value_is X.n under_infinity)
 
-  pub units_pos : 0 < units_of_lem
-  unfolding units_of_lem value
+  pub units_pos : 0 < whole_units_of
+  unfolding whole_units_of value
   units_pos = value_lt 0 X.n (lt_of_lt_of_le (solid_above lo hi X.ok) X.low)
 
-  pub form : Form x units_of_lem
-  form = form_of x units_of_lem units_pos has_value
+  pub form : Form x whole_units_of
+  form = form_of x whole_units_of units_pos has_value
 
 -- ---- the operations on two such f64s: the exact result's fraction, rounded once
 sum_cross : (a b c d u w D : ℕ) → a * D ≡ u * c → b * D ≡ w * d → (a * d + b * c) * D ≡ (u + w) * (c * d)
@@ -207,7 +207,7 @@ root_is X = rw X.is
 module _ {lo hi lo' hi' : ℕ} {x y : Float} (X : Between lo hi x) (Y : Between lo' hi' y) (p q : ℕ) (o : T (solid p q)) where
   pub sum_between : T (leb (value p) (value lo + value lo')) → T (leb (value hi + value hi') (value q)) → Between p q (x ⊕ y)
   sum_between s t = subst (λ (z : Float). Between p q z) (sym (add_is (form X) (form Y)))
-      (fraction_between (units_of_lem X + units_of_lem Y) (2 ^ 1074) p q (pow_pos 1074) o
+      (fraction_between (whole_units_of X + whole_units_of Y) (2 ^ 1074) p q (pow_pos 1074) o
       (mul-le-mul_right (2 ^ 1074) (le_trans (leb→le (value p) (value lo + value lo') s)
       (add-le-add (units_low X) (units_low Y))))
       (mul-le-mul_right (2 ^ 1074) (le_trans (add-le-add (units_high X) (units_high Y))
@@ -216,7 +216,7 @@ module _ {lo hi lo' hi' : ℕ} {x y : Float} (X : Between lo hi x) (Y : Between 
   pub product_between : T (leb (value p * 2 ^ 1074) (value lo * value lo')) → T (leb (value hi * value hi') (value q * 2 ^ 1074))
       → Between p q (x ⊗ y)
   product_between s t = subst (λ (z : Float). Between p q z) (sym (mul_is (form X) (form Y)))
-      (fraction_between (units_of_lem X * units_of_lem Y) (2 ^ 1074 * 2 ^ 1074) p q (mul-pos (pow_pos 1074) (pow_pos 1074)) o
+      (fraction_between (whole_units_of X * whole_units_of Y) (2 ^ 1074 * 2 ^ 1074) p q (mul-pos (pow_pos 1074) (pow_pos 1074)) o
       (le_trans (le_of_eq (sym (mul_assoc (value p) (2 ^ 1074) (2 ^ 1074))))
       (mul-le-mul_right (2 ^ 1074) (le_trans (leb→le (value p * 2 ^ 1074) (value lo * value lo') s)
       (mul-le-mul (units_low X) (units_low Y)))))
@@ -227,7 +227,7 @@ module _ {lo hi lo' hi' : ℕ} {x y : Float} (X : Between lo hi x) (Y : Between 
   pub quotient_between : T (leb (value p * value hi') (value lo * 2 ^ 1074)) → T (leb (value hi * 2 ^ 1074) (value q * value lo'))
       → Between p q (x ⊘ y)
   quotient_between s t = subst (λ (z : Float). Between p q z) (sym (div_is (form X) (form Y) (units_pos Y)))
-      (fraction_between (units_of_lem X) (units_of_lem Y) p q (units_pos Y) o
+      (fraction_between (whole_units_of X) (whole_units_of Y) p q (units_pos Y) o
       (le_trans (mul-le-mul_left (value p) (units_high Y))
       (le_trans (leb→le (value p * value hi') (value lo * 2 ^ 1074) s) (mul-le-mul_right (2 ^ 1074) (units_low X))))
       (le_trans (mul-le-mul_right (2 ^ 1074) (units_high X))
@@ -252,10 +252,10 @@ root_between {lo} {hi} {x} X p q o s t =
     subst (λ (z : Float). Between p q z) (sym (root_is F))
     (cut_between (root_of M c) (root_number M c (down_pos F.e)) p q o
     (le→leb (value p * value p * c) (M * (2 ^ 1074 * 2 ^ 1074))
-    (root_low (value p) (units_of_lem X) M c (2 ^ 1074)
+    (root_low (value p) (whole_units_of X) M c (2 ^ 1074)
     (le_trans (leb→le (value p * value p) (value lo * 2 ^ 1074) s) (mul-le-mul_right (2 ^ 1074) (units_low X))) F.units))
     (not_below (value q * value q * c) (M * (2 ^ 1074 * 2 ^ 1074))
-    (root_high (value q) (units_of_lem X) M c (2 ^ 1074)
+    (root_high (value q) (whole_units_of X) M c (2 ^ 1074)
     (le_trans (mul-le-mul_right (2 ^ 1074) (units_high X)) (leb→le (value hi * 2 ^ 1074) (value q * value q) t)) F.units)))
 
 -- a constant

@@ -17,8 +17,8 @@ use Rattle.rounding.specs.Cut.{infinity}
 use Rattle.rounding.specs.Value.{infinity_is}
 
 -- +0, as a literal in code is
-abbrev pub plus_zero_lem : Float
-plus_zero_lem = of_bits binary64 0
+abbrev pub zero_above : Float
+zero_above = of_bits binary64 0
 
 -- finite, and not a zero
 abbrev pub number : Float → Bool
@@ -54,65 +54,65 @@ pub not_nan : (x : Float) → is_nan x ≡ false → T (not (is_nan x))
 not_nan x h = subst (λ (t : Bool). T (not t)) (sym h) tt
 
 -- ---- x > 0.0
-pub above_no_nan : (x : Float) → lt plus_zero_lem x ≡ true → T (not (is_nan x))
+pub above_no_nan : (x : Float) → lt zero_above x ≡ true → T (not (is_nan x))
 unfolding lt is_nan of_bits
 above_no_nan nan h = true≢false (sym h)
 above_no_nan (inf s) h = tt
 above_no_nan (fin s m e) h = tt
 
-not_itself : lt plus_zero_lem plus_zero_lem ≡ false
+not_itself : lt zero_above zero_above ≡ false
 unfolding lt of_bits
 not_itself = refl
 
-pub bits_pos : (x : Float) → T (fits binary64 x) → lt plus_zero_lem x ≡ true → 0 < to_bits binary64 x
+pub bits_pos : (x : Float) → T (fits binary64 x) → lt zero_above x ≡ true → 0 < to_bits binary64 x
 bits_pos x f h = elim (lt_or_le 0 (to_bits binary64 x)) [
   | inl l ↦ l
   | inr l ↦
       let z : to_bits binary64 x ≡ 0 = omega arith in
-      let e : plus_zero_lem ≡ x = ap (λ (b : ℕ). of_bits binary64 b) (sym z) ∙ of_bits-to_bits binary64 x f in
-      absurd (true≢false (sym h ∙ ap (λ (y : Float). lt plus_zero_lem y) (sym e) ∙ not_itself))
+      let e : zero_above ≡ x = ap (λ (b : ℕ). of_bits binary64 b) (sym z) ∙ of_bits-to_bits binary64 x f in
+      absurd (true≢false (sym h ∙ ap (λ (y : Float). lt zero_above y) (sym e) ∙ not_itself))
 ]
 
 -- above zero, with a pattern that is no number's: the infinity
-odd_negative : (d q k l : ℕ) → lt plus_zero_lem (odd d true q k l) ≡ false
+odd_negative : (d q k l : ℕ) → lt zero_above (odd d true q k l) ≡ false
 unfolding lt odd of_bits
 odd_negative d zero k l = refl
 odd_negative d (suc q) k l = refl
 
-fields_negative : (y t : ℕ) → lt plus_zero_lem (of_fields binary64 true y t) ≡ false
+fields_negative : (y t : ℕ) → lt zero_above (of_fields binary64 true y t) ≡ false
 unfolding of_fields of_bits
 fields_negative zero t = odd_negative 53 t 0 1074
 fields_negative (suc y) t = go (eqb (suc y) 2047) (eqb t 0)
   where
-    go : (a b : Bool) → lt plus_zero_lem (cond a (cond b (inf true) nan) (odd 53 true (2 ^ 52 + t) y 1074)) ≡ false
+    go : (a b : Bool) → lt zero_above (cond a (cond b (inf true) nan) (odd 53 true (2 ^ 52 + t) y 1074)) ≡ false
     go true true = unfold lt in refl
     go true false = unfold lt in refl
     go false b = odd_negative 53 (2 ^ 52 + t) y 1074
 
-fields_top : (t : ℕ) → lt plus_zero_lem (of_fields binary64 false 2047 t) ≡ true → of_fields binary64 false 2047 t ≡ inf false
+fields_top : (t : ℕ) → lt zero_above (of_fields binary64 false 2047 t) ≡ true → of_fields binary64 false 2047 t ≡ inf false
 unfolding of_fields of_bits
 fields_top t = go (eqb t 0)
   where
-    go : (b : Bool) → lt plus_zero_lem (cond b (inf false) nan) ≡ true → cond b (inf false) nan ≡ inf false
+    go : (b : Bool) → lt zero_above (cond b (inf false) nan) ≡ true → cond b (inf false) nan ≡ inf false
     go true h = refl
     go false h = absurd (true≢false (sym h ∙ (unfold lt in refl)))
 
-top_is_infinity : (b : ℕ) → infinity ≤ b → b < 2 ^ 64 → lt plus_zero_lem (of_bits binary64 b) ≡ true → of_bits binary64 b ≡ inf false
+top_is_infinity : (b : ℕ) → infinity ≤ b → b < 2 ^ 64 → lt zero_above (of_bits binary64 b) ≡ true → of_bits binary64 b ≡ inf false
 unfolding of_bits
 top_is_infinity b l u h = elim (lt_or_le b (2 ^ 63)) [
   | inl g ↦
       let y : b % 2 ^ 63 / 2 ^ 52 ≡ 2047 = omega arith in
       let e : of_bits binary64 b ≡ of_fields binary64 false 2047 (b % 2 ^ 52) = rw (lt-leb (2 ^ 63) b g, y) in
-      e ∙ fields_top (b % 2 ^ 52) (ap (λ (x : Float). lt plus_zero_lem x) (sym e) ∙ h)
+      e ∙ fields_top (b % 2 ^ 52) (ap (λ (x : Float). lt zero_above x) (sym e) ∙ h)
   | inr g ↦
       let e : of_bits binary64 b ≡ of_fields binary64 true (b % 2 ^ 63 / 2 ^ 52) (b % 2 ^ 52) = rw (le-leb (2 ^ 63) b g) in
-      absurd (true≢false (sym h ∙ ap (λ (x : Float). lt plus_zero_lem x) e ∙ fields_negative (b % 2 ^ 63 / 2 ^ 52) (b % 2 ^ 52)))
+      absurd (true≢false (sym h ∙ ap (λ (x : Float). lt zero_above x) e ∙ fields_negative (b % 2 ^ 63 / 2 ^ 52) (b % 2 ^ 52)))
 ]
 
-pub above_all : (x : Float) → T (fits binary64 x) → infinity ≤ to_bits binary64 x → lt plus_zero_lem x ≡ true → x ≡ inf false
+pub above_all : (x : Float) → T (fits binary64 x) → infinity ≤ to_bits binary64 x → lt zero_above x ≡ true → x ≡ inf false
 above_all x f l h =
     let e : of_bits binary64 (to_bits binary64 x) ≡ x = of_bits-to_bits binary64 x f in
-    sym e ∙ top_is_infinity (to_bits binary64 x) l (to_bits-lt binary64 x f) (ap (λ (z : Float). lt plus_zero_lem z) e ∙ h)
+    sym e ∙ top_is_infinity (to_bits binary64 x) l (to_bits-lt binary64 x f) (ap (λ (z : Float). lt zero_above z) e ∙ h)
 
 -- ---- x == 0.0, for a finite x, which lt and eq see by whole numbers
 zero_not : (m : ℕ) (e : ℤ) (s : Bool)
@@ -133,25 +133,25 @@ level_zero false a b p q = rw (p, q)
 pub data Zero : Float → Type 0 where
   a_zero : (s : Bool) (e : ℤ) → Zero (fin s 0 e)
 
-pub is_zero : (x : Float) → eq x plus_zero_lem ≡ true → Zero x
+pub is_zero : (x : Float) → eq x zero_above ≡ true → Zero x
 unfolding eq of_bits
 is_zero nan h = absurd (true≢false (sym h))
 is_zero (inf s) h = absurd (true≢false (sym h))
 is_zero (fin s zero e) h = a_zero s e
 is_zero (fin s (suc m) e) h = absurd (zero_not m e s h)
 
-pub zero_is : (s : Bool) (e : ℤ) → eq (fin s 0 e) plus_zero_lem ≡ true
+pub zero_is : (s : Bool) (e : ℤ) → eq (fin s 0 e) zero_above ≡ true
 unfolding eq of_bits
 zero_is s e = level_zero s (0 * up e * 1) (0 * 1 * down e) (ap (λ (z : ℕ). z * 1) (zero-mul (up e))) (zero-mul (down e))
 
-pub is_number : (x : Float) → finite x ≡ true → eq x plus_zero_lem ≡ false → T (number x)
+pub is_number : (x : Float) → finite x ≡ true → eq x zero_above ≡ false → T (number x)
 is_number nan h k = true≢false (sym h)
 is_number (inf s) h k = true≢false (sym h)
 is_number (fin s zero e) h k = true≢false (sym (zero_is s e) ∙ k)
 is_number (fin s (suc m) e) h k = tt
 
 -- ---- a number above zero passes x > 0.0
-pub number_above : (m : ℕ) (e : ℤ) → lt plus_zero_lem (fin false (suc m) e) ≡ true
+pub number_above : (m : ℕ) (e : ℤ) → lt zero_above (fin false (suc m) e) ≡ true
 unfolding lt of_bits
 number_above m e =
     let z : 0 * 1 * down e ≡ 0 = zero-mul (down e) in

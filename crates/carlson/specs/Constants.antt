@@ -42,8 +42,8 @@ abbrev pub nan_given : ℕ
 nan_given = 1
 
 -- an argument is below zero
-abbrev pub below_zero_lem : ℕ
-below_zero_lem = 2
+abbrev pub below_zero_number : ℕ
+below_zero_number = 2
 
 -- more than one of RF's or RJ's x, y, z is zero; RD's x and y are
 abbrev pub zeros : ℕ

@@ -9,7 +9,7 @@ use Rattle.std.specs.Float.Ieee.{up, down, is_nan, lt, eq, le, of_bits}
 use Rattle.std.specs.Float.Ieee.Fits.{up_pos, down_pos}
 use Rattle.std.specs.Float.Ieee.Scale.{finite}
 use Rattle.binary64.specs.Leaves.{absolute, maximum, minimum}
-use Rattle.binary64.specs.Tests.{plus_zero_lem, number, number_above, Zero, a_zero, is_zero}
+use Rattle.binary64.specs.Tests.{zero_above, number, number_above, Zero, a_zero, is_zero}
 use Rattle.derived.specs.Limits.{limit, reciprocal}
 use Rattle.carlson.specs.Constants.{infinity}
 use Rattle.carlson_arguments.specs.Checks.{
@@ -44,10 +44,10 @@ moderate x = lt reciprocal x && lt x limit
 
 -- RC's, whose second argument may be below zero
 unfoldable pub moderate2 : Float → Float → Bool
-moderate2 x y = (moderate x || eq x plus_zero_lem) && moderate (absolute y)
+moderate2 x y = (moderate x || eq x zero_above) && moderate (absolute y)
 
 unfoldable pub moderate3 : Float → Float → Float → Bool
-moderate3 x y z = (moderate x || eq x plus_zero_lem) && (moderate y && moderate z)
+moderate3 x y z = (moderate x || eq x zero_above) && (moderate y && moderate z)
 
 unfoldable pub moderate4 : Float → Float → Float → Float → Bool
 moderate4 x y z p = moderate3 x y z && moderate p
@@ -56,9 +56,9 @@ moderate4 x y z p = moderate3 x y z && moderate p
 pub record Moderate (x : Float) : Type 0 where
   pub number : is_nan x ≡ false
   pub size : absolute x ≡ x
-  pub above : lt plus_zero_lem x ≡ true
-  pub not_below : lt x plus_zero_lem ≡ false
-  pub not_zero : eq x plus_zero_lem ≡ false
+  pub above : lt zero_above x ≡ true
+  pub not_below : lt x zero_above ≡ false
+  pub not_zero : eq x zero_above ≡ false
   pub bounded : eq x infinity ≡ false
   pub not_small : lt x reciprocal ≡ false
   pub not_large : lt limit x ≡ false
@@ -90,10 +90,10 @@ lt_turned (fin true m e) (fin true n d) h = turned (n * up d * down e) (m * up e
 no_number : {x : Float} → Zero x → number x ≡ false
 no_number (a_zero s e) = refl
 
-unequal : (m : ℕ) (e : ℤ) → eq (fin false (suc m) e) plus_zero_lem ≡ false
-unequal m e = go (eq (fin false (suc m) e) plus_zero_lem) refl
+unequal : (m : ℕ) (e : ℤ) → eq (fin false (suc m) e) zero_above ≡ false
+unequal m e = go (eq (fin false (suc m) e) zero_above) refl
   where
-    go : (b : Bool) → eq (fin false (suc m) e) plus_zero_lem ≡ b → b ≡ false
+    go : (b : Bool) → eq (fin false (suc m) e) zero_above ≡ b → b ≡ false
     go true h = absurd (true≢false (no_number (is_zero (fin false (suc m) e) h)))
     go false h = refl
 
@@ -126,7 +126,7 @@ form (fin false (suc m) e) h k p q = record {
   number = unfold is_nan in refl;
   size = unfold absolute in refl;
   above = number_above m e;
-  not_below = lt_turned plus_zero_lem (fin false (suc m) e) (number_above m e);
+  not_below = lt_turned zero_above (fin false (suc m) e) (number_above m e);
   not_zero = unequal m e;
   bounded = unfold eq of_bits in refl;
   not_small = p;
@@ -140,7 +140,7 @@ moderate_told x h =
     let b = both_true (lt reciprocal x) (lt x limit) h in
     form x b.0 b.1 (lt_turned reciprocal x b.0) (lt_turned x limit b.1)
 
-pub not_le_zero : {x : Float} → Moderate x → le x plus_zero_lem ≡ false
+pub not_le_zero : {x : Float} → Moderate x → le x zero_above ≡ false
 unfolding le
 not_le_zero m = ap₂ ◌||◌ m.not_below m.not_zero
 
@@ -149,7 +149,7 @@ unfolding maximum
 larger {x} {y} X Y = chosen Moderate (is_nan x) Y (chosen Moderate (lt x y) Y X)
 
 within : {s : Float} → Moderate s → beyond_limits s ≡ false
-within {s} m = go (finite s) (lt plus_zero_lem s) (lt limit s) (lt s reciprocal) m.not_large m.not_small
+within {s} m = go (finite s) (lt zero_above s) (lt limit s) (lt s reciprocal) m.not_large m.not_small
   where
     go : (a b c d : Bool) → c ≡ false → d ≡ false → a && (b && (c || d)) ≡ false
     go a b true d e f = absurd (true≢false e)
@@ -163,10 +163,10 @@ pub data Fair : Float → Type 0 where
   plain : {x : Float} → Moderate x → Fair x
   none : {x : Float} → Zero x → Fair x
 
-fair_told : (x : Float) → moderate x || eq x plus_zero_lem ≡ true → Fair x
+fair_told : (x : Float) → moderate x || eq x zero_above ≡ true → Fair x
 fair_told x h = go (moderate x) refl h
   where
-    go : (b : Bool) → moderate x ≡ b → b || eq x plus_zero_lem ≡ true → Fair x
+    go : (b : Bool) → moderate x ≡ b → b || eq x zero_above ≡ true → Fair x
     go true e h = plain (moderate_told x e)
     go false e h = none (is_zero x h)
 
@@ -174,7 +174,7 @@ fair_number : {x : Float} → Fair x → is_nan x ≡ false
 fair_number (plain X) = X.number
 fair_number (none (a_zero s e)) = unfold is_nan in refl
 
-zero_not_below : (s : Bool) (e : ℤ) → lt (fin s zero e) plus_zero_lem ≡ false
+zero_not_below : (s : Bool) (e : ℤ) → lt (fin s zero e) zero_above ≡ false
 unfolding lt of_bits
 zero_not_below true e = le-ltb _ _ (low (0 * up e * 1) (0 * 1 * down e) (nothing (up e) 1) (nothing 1 (down e)))
   where
@@ -185,7 +185,7 @@ zero_not_below false e = le-ltb _ _ (low (0 * up e * 1) (0 * 1 * down e) (nothin
     low : (a b : ℕ) → b ≡ 0 → b ≤ a
     low a b q = omega arith
 
-fair_not_below : {x : Float} → Fair x → lt x plus_zero_lem ≡ false
+fair_not_below : {x : Float} → Fair x → lt x zero_above ≡ false
 fair_not_below (plain X) = X.not_below
 fair_not_below (none (a_zero s e)) = zero_not_below s e
 
@@ -222,17 +222,17 @@ pub record Inside2 (x y : Float) : Type 0 where
 pub inside2 : (x y : Float) → moderate2 x y ≡ true → Inside2 x y
 unfolding moderate2
 inside2 x y h =
-    let a = both_true (moderate x || eq x plus_zero_lem) (moderate (absolute y)) h in
+    let a = both_true (moderate x || eq x zero_above) (moderate (absolute y)) h in
     record { one = fair_told x a.0; two = moderate_told (absolute y) a.1 }
 
 module _ {x y : Float} (i : Inside2 x y) where
-  pub not_below : lt x plus_zero_lem ≡ false
+  pub not_below : lt x zero_above ≡ false
   not_below = fair_not_below i.one
 
-  pub not_zero : eq y plus_zero_lem ≡ false
-  not_zero = go (eq y plus_zero_lem) refl
+  pub not_zero : eq y zero_above ≡ false
+  not_zero = go (eq y zero_above) refl
     where
-      go : (b : Bool) → eq y plus_zero_lem ≡ b → b ≡ false
+      go : (b : Bool) → eq y zero_above ≡ b → b ≡ false
       go true h = absurd (no_zero_sized (is_zero y h) i.two)
       go false h = refl
 
@@ -256,7 +256,7 @@ pub record Inside3 (x y z : Float) : Type 0 where
 pub inside3 : (x y z : Float) → moderate3 x y z ≡ true → Inside3 x y z
 unfolding moderate3
 inside3 x y z h =
-    let a = both_true (moderate x || eq x plus_zero_lem) (moderate y && moderate z) h in
+    let a = both_true (moderate x || eq x zero_above) (moderate y && moderate z) h in
     let b = both_true (moderate y) (moderate z) a.1 in
     record { one = fair_told x a.0; two = moderate_told y b.0; three = moderate_told z b.1 }
 
@@ -271,30 +271,30 @@ inside4 x y z p h =
     record { three = inside3 x y z a.0; last = moderate_told p a.1 }
 
 -- the smaller of two that are not below zero
-least : (x y : Float) → lt x plus_zero_lem ≡ false → lt y plus_zero_lem ≡ false → lt (minimum x y) plus_zero_lem ≡ false
+least : (x y : Float) → lt x zero_above ≡ false → lt y zero_above ≡ false → lt (minimum x y) zero_above ≡ false
 unfolding minimum
 least x y p q =
-    let Q : Float → Type 0 = λ v. lt v plus_zero_lem ≡ false in chosen Q (is_nan x) q (chosen Q (lt y x) q p)
+    let Q : Float → Type 0 = λ v. lt v zero_above ≡ false in chosen Q (is_nan x) q (chosen Q (lt y x) q p)
 
 module _ {x y z : Float} (i : Inside3 x y z) where
   pub no_nan3 : any_nan3 x y z ≡ false
   no_nan3 = ap₂ ◌||◌ (ap₂ ◌||◌ (fair_number i.one) i.two.number) i.three.number
 
-  pub none_below2 : lt (minimum x y) plus_zero_lem ≡ false
+  pub none_below2 : lt (minimum x y) zero_above ≡ false
   none_below2 = least x y (fair_not_below i.one) i.two.not_below
 
   pub none_below3 : below3 x y z ≡ false
   none_below3 = least (minimum x y) z none_below2 i.three.not_below
 
-  pub no_zeros2 : eq x plus_zero_lem && eq y plus_zero_lem ≡ false
-  no_zeros2 = go (eq x plus_zero_lem) (eq y plus_zero_lem) i.two.not_zero
+  pub no_zeros2 : eq x zero_above && eq y zero_above ≡ false
+  no_zeros2 = go (eq x zero_above) (eq y zero_above) i.two.not_zero
     where
       go : (a b : Bool) → b ≡ false → a && b ≡ false
       go true b h = h
       go false b h = refl
 
   pub no_zeros3 : zeros_of3 x y z ≡ false
-  no_zeros3 = go (eq x plus_zero_lem) (eq y plus_zero_lem) (eq z plus_zero_lem) i.two.not_zero i.three.not_zero
+  no_zeros3 = go (eq x zero_above) (eq y zero_above) (eq z zero_above) i.two.not_zero i.three.not_zero
     where
       go : (a b c : Bool) → b ≡ false → c ≡ false → (a && b) || ((a || b) && c) ≡ false
       go true b c p q = rw p q

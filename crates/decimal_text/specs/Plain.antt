@@ -12,7 +12,7 @@ use Rattle.std.specs.Float.Ieee.Compare.{nan_differs}
 use Rattle.rounding.specs.Cut.{infinity}
 use Rattle.rounding.specs.Value.{infinity_is}
 use Rattle.binary64.specs.Leaves.{absolute}
-use Rattle.binary64.specs.Tests.{plus_zero_lem, ne_itself, number_above}
+use Rattle.binary64.specs.Tests.{zero_above, ne_itself, number_above}
 use Rattle.digits.specs.Digits.{digits, glyph_of}
 use Rattle.writing.specs.Decimal.{places_of, decimal}
 use Rattle.decimal.specs.Decimal.{ones}
@@ -33,7 +33,7 @@ sign_of (fin s m e) = s
 
 -- how a finite x without a sign is laid out: a zero is a whole number
 unfoldable pub plain_shape : Float → Shape
-plain_shape x = cond (lt plus_zero_lem x) (shape_of (shortest x) (place_of x)) (whole_shape 0 ones)
+plain_shape x = cond (lt zero_above x) (shape_of (shortest x) (place_of x)) (whole_shape 0 ones)
 
 -- the text of x without its sign
 unfoldable pub plain_text : Float → List ℕ
@@ -76,7 +76,7 @@ sign_is (inf s) f = number_sign (inf s) f (unfold is_nan in refl)
 sign_is (fin s m e) f = number_sign (fin s m e) f (unfold is_nan in refl)
 
 -- ---- a zero
-zero_not_above : (e : _) → lt plus_zero_lem (fin false 0 e) ≡ false
+zero_not_above : (e : _) → lt zero_above (fin false 0 e) ≡ false
 unfolding lt of_bits
 zero_not_above e = none (0 * 1 * down e) (0 * up e * 1) (ap (λ (z : ℕ). z * 1) (zero-mul (up e)))
   where
@@ -127,9 +127,9 @@ sign_length false = omega arith
 module _ (x : Float) (f : T (fits binary64 x)) (k : lt x (of_bits binary64 infinity) ≡ true) where
   pub plain_length : length (shape_text (plain_shape x)) ≤ 23
   unfolding plain_shape
-  plain_length = go (lt plus_zero_lem x) refl
+  plain_length = go (lt zero_above x) refl
     where
-      go : (t : Bool) → lt plus_zero_lem x ≡ t
+      go : (t : Bool) → lt zero_above x ≡ t
           → length (shape_text (cond t (shape_of (shortest x) (place_of x)) (whole_shape 0 ones))) ≤ 23
       go true h =
           let A = above_told x f h k in
@@ -138,9 +138,9 @@ module _ (x : Float) (f : T (fits binary64 x)) (k : lt x (of_bits binary64 infin
 
   pub plain_power : (plain_shape x).power < 1000
   unfolding plain_shape whole_shape
-  plain_power = go (lt plus_zero_lem x) refl
+  plain_power = go (lt zero_above x) refl
     where
-      go : (t : Bool) → lt plus_zero_lem x ≡ t → (cond t (shape_of (shortest x) (place_of x)) (whole_shape 0 ones)).power < 1000
+      go : (t : Bool) → lt zero_above x ≡ t → (cond t (shape_of (shortest x) (place_of x)) (whole_shape 0 ones)).power < 1000
       go true h =
           let A = above_told x f h k in
           power_small (shortest x) (seventeen_digits A) (place_of x) (place_least A) (place_most A)

@@ -7,7 +7,7 @@ use Rattle.binary64.specs.Leaves.{minimum, maximum}
 use Rattle.binary64.specs.Operators.{◌⊗◌, bits}
 use Rattle.carlson.specs.Constants.{
   nan_given,
-  below_zero_lem,
+  below_zero_number,
   zeros,
   zero_given,
   z_not_above,
@@ -51,19 +51,19 @@ use Rattle.answers.specs.Answers.{number, answer_of}
 
 -- ---- the numbers that each entry can give, as the header and docs/REFUSALS.md list them
 abbrev pub rc_numbers : List ℕ
-rc_numbers = nan_given ∷ below_zero_lem ∷ zero_given ∷ rc_no_result ∷ []
+rc_numbers = nan_given ∷ below_zero_number ∷ zero_given ∷ rc_no_result ∷ []
 
 abbrev pub rf_numbers : List ℕ
-rf_numbers = nan_given ∷ below_zero_lem ∷ zeros ∷ no_result ∷ []
+rf_numbers = nan_given ∷ below_zero_number ∷ zeros ∷ no_result ∷ []
 
 abbrev pub rd_numbers : List ℕ
-rd_numbers = nan_given ∷ below_zero_lem ∷ zeros ∷ z_not_above ∷ no_result ∷ agm_spent ∷ []
+rd_numbers = nan_given ∷ below_zero_number ∷ zeros ∷ z_not_above ∷ no_result ∷ agm_spent ∷ []
 
 abbrev pub rg_numbers : List ℕ
-rg_numbers = nan_given ∷ below_zero_lem ∷ rg_no_result ∷ agm_spent ∷ []
+rg_numbers = nan_given ∷ below_zero_number ∷ rg_no_result ∷ agm_spent ∷ []
 
 abbrev pub rj_numbers : List ℕ
-rj_numbers = nan_given ∷ below_zero_lem ∷ zeros ∷ zero_given ∷ no_result ∷ agm_spent ∷ too_deep ∷ []
+rj_numbers = nan_given ∷ below_zero_number ∷ zeros ∷ zero_given ∷ no_result ∷ agm_spent ∷ too_deep ∷ []
 
 abbrev pub cel_numbers : List ℕ
 cel_numbers = nan_given ∷ zero_given ∷ no_result ∷ several_infinite ∷ a_or_b_infinite ∷ []

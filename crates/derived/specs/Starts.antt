@@ -19,22 +19,22 @@ use Rattle.binary64.specs.Meaning.{bits_back}
 abbrev rf_bits : ℕ
 rf_bits = 0x4053_B957_8EB0_BF54
 
-abbrev pub rf_start_lem : Float
-rf_start_lem = bits rf_bits
+abbrev pub rf_start_factor : Float
+rf_start_factor = bits rf_bits
 
 -- of ε/4: 107.63474115247546
 abbrev rd_bits : ℕ
 rd_bits = 0x405A_E89F_995A_D3AD
 
-abbrev pub rd_start_lem : Float
-rd_start_lem = bits rd_bits
+abbrev pub rd_start_factor : Float
+rd_start_factor = bits rd_bits
 
 -- of ε/5: 110.67925377307274
 abbrev rj_bits : ℕ
 rj_bits = 0x405B_AB78_E4D1_420D
 
-abbrev pub rj_start_lem : Float
-rj_start_lem = bits rj_bits
+abbrev pub rj_start_factor : Float
+rj_start_factor = bits rj_bits
 
 -- ---- what they are
 -- (p / q) to the power -1/8: a / b lies to it as a⁸ / b⁸ lies to q / p
@@ -68,15 +68,15 @@ eighth (fin s m e) = rounded (eighth_of (m * up e) (down e))
 abbrev pub epsilon : Float
 epsilon = fin false 1 (negsuc 51)
 
-pub of_three : eighth (fin false 3 (pos 0) ⊗ epsilon) ≡ rf_start_lem
+pub of_three : eighth (fin false 3 (pos 0) ⊗ epsilon) ≡ rf_start_factor
 unfolding mul rounded value of_bits
 of_three = refl
 
-pub of_quarter : eighth (epsilon ⊘ fin false 1 (pos 2)) ≡ rd_start_lem
+pub of_quarter : eighth (epsilon ⊘ fin false 1 (pos 2)) ≡ rd_start_factor
 unfolding div rounded value of_bits
 of_quarter = refl
 
-pub of_fifth : eighth (epsilon ⊘ fin false 5 (pos 0)) ≡ rj_start_lem
+pub of_fifth : eighth (epsilon ⊘ fin false 5 (pos 0)) ≡ rj_start_factor
 unfolding div rounded value of_bits
 of_fifth = refl
 

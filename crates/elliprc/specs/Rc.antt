@@ -3,7 +3,7 @@ use Rattle.std.specs.Prelude.{cond, Float}
 use Rattle.std.specs.Float.Ieee.{lt, eq}
 use Rattle.binary64.specs.Operators.{◌⊘◌}
 use Rattle.root.specs.Root.{root}
-use Rattle.carlson.specs.Constants.{zero, below_zero_lem, zero_given, rc_no_result}
+use Rattle.carlson.specs.Constants.{zero, below_zero_number, zero_given, rc_no_result}
 use Rattle.carlson_arguments.specs.Rescaling.{rescaling2}
 use Rattle.carlson_arguments.specs.Checks.{any_nan2, any_infinite2}
 use Rattle.carlson.specs.Answer.{closed_at, rescaled_at, settled_late}
@@ -26,6 +26,6 @@ rc_unchecked = rescaling2 over_root rc_found
 -- ---- the entry: 2, 4, steps; a finite result stands; else 1, then +infinity gives 0, then 7. RC counts no round.
 unfoldable pub rc : Float → Float → Answer
 rc x y =
-    cond (lt x zero) (Refused below_zero_lem)
+    cond (lt x zero) (Refused below_zero_number)
     (cond (eq y zero) (Refused zero_given)
     (settled_late (rc_unchecked x y) (any_nan2 x y) (any_infinite2 x y) rc_no_result))

@@ -4,7 +4,7 @@ use Rattle.std.specs.Float.Ieee.{lt, le, eq}
 use Rattle.binary64.specs.Leaves.{minimum}
 use Rattle.binary64.specs.Operators.{◌⊗◌, ◌⊘◌, bits}
 use Rattle.root.specs.Root.{root}
-use Rattle.carlson.specs.Constants.{zero, one, three, four, pi, below_zero_lem, zeros, z_not_above, no_result}
+use Rattle.carlson.specs.Constants.{zero, one, three, four, pi, below_zero_number, zeros, z_not_above, no_result}
 use Rattle.carlson_arguments.specs.Rescaling.{rescaling3}
 use Rattle.carlson_arguments.specs.Checks.{any_nan3, any_infinite3}
 use Rattle.carlson.specs.Answer.{closed_at, rescaled_at, settled_late}
@@ -50,7 +50,7 @@ rd_settled (Refused n) nan unbounded = Refused n
 
 unfoldable pub rd : Float → Float → Float → Answer
 rd x y z =
-    cond (lt (minimum x y) zero) (Refused below_zero_lem)
+    cond (lt (minimum x y) zero) (Refused below_zero_number)
     (cond (eq x zero && eq y zero) (Refused zeros)
     (cond (le z zero) (Refused z_not_above)
     (rd_settled (rd_unchecked x y z) (any_nan3 x y z) (any_infinite3 x y z))))

@@ -3,7 +3,7 @@ use Rattle.std.specs.Prelude.{cond, Float}
 use Rattle.std.specs.Float.Ieee.{eq}
 use Rattle.binary64.specs.Operators.{◌⊗◌, ◌⊘◌}
 use Rattle.root.specs.Root.{root}
-use Rattle.carlson.specs.Constants.{zero, one, two, pi, nan_given, below_zero_lem, zeros, no_result}
+use Rattle.carlson.specs.Constants.{zero, one, two, pi, nan_given, below_zero_number, zeros, no_result}
 use Rattle.carlson_arguments.specs.Rescaling.{rescaling3}
 use Rattle.carlson_arguments.specs.Checks.{any_nan3, any_infinite3, below3, zeros_of3}
 use Rattle.carlson.specs.Answer.{closed_at, infinite_at, settled}
@@ -46,6 +46,6 @@ rf_unchecked = rescaling3 over_root rf_steps
 unfoldable pub rf : Float → Float → Float → Answer
 rf x y z =
     cond (any_nan3 x y z) (Refused nan_given)
-    (cond (below3 x y z) (Refused below_zero_lem)
+    (cond (below3 x y z) (Refused below_zero_number)
     (cond (zeros_of3 x y z) (Refused zeros)
     (cond (any_infinite3 x y z) infinite_at (settled (rf_unchecked x y z) no_result))))

@@ -3,7 +3,7 @@ use Rattle.std.specs.Prelude.{Bool, false, cond, Float}
 use Rattle.std.specs.Float.Ieee.{eq}
 use Rattle.binary64.specs.Operators.{◌⊕◌, ◌⊗◌, ◌⊘◌}
 use Rattle.root.specs.Root.{root}
-use Rattle.carlson.specs.Constants.{zero, two, four, pi, below_zero_lem, rg_no_result}
+use Rattle.carlson.specs.Constants.{zero, two, four, pi, below_zero_number, rg_no_result}
 use Rattle.carlson_arguments.specs.Rescaling.{rescaling3}
 use Rattle.carlson_arguments.specs.Checks.{any_nan3, below3}
 use Rattle.carlson.specs.Answer.{closed_at, carried_at, rescaled_at, settled_late}
@@ -58,4 +58,4 @@ rg_settled (Value f) nan = settled_late f nan false rg_no_result
 rg_settled (Refused n) nan = Refused n
 
 unfoldable pub rg : Float → Float → Float → Answer
-rg x y z = cond (below3 x y z) (Refused below_zero_lem) (rg_settled (rg_unchecked x y z) (any_nan3 x y z))
+rg x y z = cond (below3 x y z) (Refused below_zero_number) (rg_settled (rg_unchecked x y z) (any_nan3 x y z))

@@ -6,7 +6,7 @@ use Rattle.std.proofs.Common.{le_of_mul-le-mul_right, arith, pow-add}
 use Rattle.algebra.specs.Ring.{con, ◌:+◌, ◌:*◌, ◌≈◌, ◌⊩◌, ◌times◌≼◌, Order, by_below}
 use Rattle.enclosure.specs.Quotient.{Quotient, ◌≼◌, whole, parts, ◌⊞◌, ◌⊠◌}
 use Rattle.enclosure.specs.Order.{≼_refl, ≼_trans, ⊞-mono, ⊞-under, parts_join, parts_split, parts_mono}
-use Rattle.enclosure.specs.Enclosure.{atan_lower, atan_upper, steep_lower, steep_upper, ln_argument_lem, ln_proper, ln_lower}
+use Rattle.enclosure.specs.Enclosure.{atan_lower, atan_upper, steep_lower, steep_upper, argument_of_ln, ln_proper, ln_lower}
 use Rattle.enclosure.specs.Enclosure.{ln_upper, ln_below_lower, ln_below_upper, gain, gain_proper, loss, loss_proper}
 use Rattle.enclosure.specs.Enclosure.{double_lower, double_upper, Within}
 use Rattle.enclosure.specs.Pieces.{odd, terms}
@@ -103,7 +103,7 @@ pub ln_below_within : (m b e : ℕ) → 2 ^ 52 ≤ m → m < 2 ^ 53 → 1 ≤ e 
 unfolding ln_below_answer
 ln_below_within m b e low high some fits few =
     let h = ln_third m low high in
-    let proper = across_proper (ln_argument_lem (parts 52 m)) h in
+    let proper = across_proper (argument_of_ln (parts 52 m)) h in
     let tight = T-tight (beyond m low high) proper 1 (inverse_seed m) (inverse_seeds m low high) in
     below_near (parts 52 m) h e (terms odd) (multiple_near b e (T-answer 1 (inverse_seed m)) some fits few tight)
 
@@ -115,7 +115,7 @@ unfolding gain_answer ln_lower ln_upper
 above_one_within m j low high fits =
     let sg = gain_seed j (2 * (m - 2 ^ 52) * 2 ^ j) in
     with_none (doubled j (T-answer j sg)
-    (T-near (ln_argument_lem (parts 52 m)) (ln_proper (parts 52 m)) j sg (above_seeds m j low high fits)))
+    (T-near (argument_of_ln (parts 52 m)) (ln_proper (parts 52 m)) j sg (above_seeds m j low high fits)))
 
 pub below_one_within : (m j : ℕ) → 2 ^ 52 ≤ m → m < 2 ^ 53 → let n = 2 ^ 53 - m in n * 2 ^ j ≤ 2 ^ 53
     → Within (ln_below_lower (parts 52 m) 1) (ln_below_upper (parts 52 m) 1) (parts (61 + j) (loss_answer j n))
@@ -123,7 +123,7 @@ pub below_one_within : (m j : ℕ) → 2 ^ 52 ≤ m → m < 2 ^ 53 → let n = 2
 unfolding loss_answer
 below_one_within m j low high fits =
     let h = ln_third m low high in
-    let proper = across_proper (ln_argument_lem (parts 52 m)) h in
+    let proper = across_proper (argument_of_ln (parts 52 m)) h in
     let sg = loss_seed j ((2 ^ 53 - m) * 2 ^ j) in
     let tight = T-tight (beyond m low high) proper j sg (below_seeds m j low high fits) in
     below_near (parts 52 m) h 0 (terms odd) (with_none (doubled j (T-answer j sg) tight))

@@ -4,7 +4,7 @@ use Rattle.std.specs.Prelude.{ℕ, suc, ◌*◌, ◌≤◌, [], ◌∷◌}
 use Rattle.algebra.specs.Ring.{con, nxt, ◌:+◌, ◌:*◌, ◌≈◌, ◌⊩◌, ◌times◌≼◌, Order, by_below}
 use Rattle.enclosure.specs.Quotient.{Quotient, ◌≼◌, whole, ◌⊞◌, ◌⊠◌}
 use Rattle.enclosure.specs.Order.{≼_refl, ≼_trans, ⊞-mono}
-use Rattle.enclosure.specs.Enclosure.{T-lower, T-upper, third, third_proper, ln_argument_lem, ln_proper, ln_below_lower}
+use Rattle.enclosure.specs.Enclosure.{T-lower, T-upper, third, third_proper, argument_of_ln, ln_proper, ln_below_lower}
 use Rattle.enclosure.specs.Enclosure.{ln_below_upper, Within}
 use Rattle.enclosure.specs.Nested.{T-nested}
 use Rattle.enclosure.specs.Addition.{across, across_proper, third_low, third_high}
@@ -27,15 +27,15 @@ taken_high : Order 7 (λ e T T' R R' S S'. (con 2 :* T' times T :* (S' :* R') �
 taken_high = by_below tt
 
 -- THE LAW, from N terms of T(r)
-pub below_near : (m : Quotient) (h : 3 * (ln_argument_lem m).num ≤ (ln_argument_lem m).den) (e N : ℕ) {v down up : Quotient}
-    → let r = across (ln_argument_lem m) h in
-    let proper = across_proper (ln_argument_lem m) h in
+pub below_near : (m : Quotient) (h : 3 * (argument_of_ln m).num ≤ (argument_of_ln m).den) (e N : ℕ) {v down up : Quotient}
+    → let r = across (argument_of_ln m) h in
+    let proper = across_proper (argument_of_ln m) h in
     Within (λ n. whole (2 * e) ⊠ T-lower third n ⊞ whole 2 ⊠ T-upper r proper N)
     (λ n. whole (2 * e) ⊠ T-upper third third_proper n ⊞ whole 2 ⊠ T-lower r N) v down up
     → Within (ln_below_lower m (suc e)) (ln_below_upper m (suc e)) v down up
 unfolding ln_below_lower ln_below_upper
 below_near m h e N {v} {down} {up} near =
-    let s = ln_argument_lem m in
+    let s = argument_of_ln m in
     let r = across s h in
     record {
       low = λ n.

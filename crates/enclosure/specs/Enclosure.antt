@@ -88,25 +88,25 @@ pub third_proper : third.num < third.den
 third_proper = omega arith
 
 -- (m-1) / (m+1)
-abbrev pub ln_argument_lem : Quotient → Quotient
-ln_argument_lem m = record { num = m.num - m.den; den = m.num + m.den; pos = omega (arith, m.pos) }
+abbrev pub argument_of_ln : Quotient → Quotient
+argument_of_ln m = record { num = m.num - m.den; den = m.num + m.den; pos = omega (arith, m.pos) }
 
-pub ln_proper : (m : Quotient) → (ln_argument_lem m).num < (ln_argument_lem m).den
+pub ln_proper : (m : Quotient) → (argument_of_ln m).num < (argument_of_ln m).den
 ln_proper m = omega (arith, m.pos)
 
 unfoldable pub ln_lower : Quotient → ℕ → ℕ → Quotient
-ln_lower m e n = whole (2 * e) ⊠ T-lower third n ⊞ whole 2 ⊠ T-lower (ln_argument_lem m) n
+ln_lower m e n = whole (2 * e) ⊠ T-lower third n ⊞ whole 2 ⊠ T-lower (argument_of_ln m) n
 
 unfoldable pub ln_upper : Quotient → ℕ → ℕ → Quotient
-ln_upper m e n = whole (2 * e) ⊠ T-upper third third_proper n ⊞ whole 2 ⊠ T-upper (ln_argument_lem m) (ln_proper m) n
+ln_upper m e n = whole (2 * e) ⊠ T-upper third third_proper n ⊞ whole 2 ⊠ T-upper (argument_of_ln m) (ln_proper m) n
 
 -- ---- ln of m * 2 ^ -e, e ≥ 1: the same with the exponent below zero (document 02, 2026-02). The answer is below zero, its size
 -- 2e T(1/3) - 2 T((m-1) / (m+1)); what is taken away is greatest at the lower end. (No upper end is below zero.)
 unfoldable pub ln_below_lower : Quotient → ℕ → ℕ → Quotient
-ln_below_lower m e n = whole (2 * e) ⊠ T-lower third n ⊟ whole 2 ⊠ T-upper (ln_argument_lem m) (ln_proper m) n
+ln_below_lower m e n = whole (2 * e) ⊠ T-lower third n ⊟ whole 2 ⊠ T-upper (argument_of_ln m) (ln_proper m) n
 
 unfoldable pub ln_below_upper : Quotient → ℕ → ℕ → Quotient
-ln_below_upper m e n = whole (2 * e) ⊠ T-upper third third_proper n ⊟ whole 2 ⊠ T-lower (ln_argument_lem m) n
+ln_below_upper m e n = whole (2 * e) ⊠ T-upper third third_proper n ⊟ whole 2 ⊠ T-lower (argument_of_ln m) n
 
 -- ---- ln_1p(a): "2 T(a / (2+a))". Where a is below zero, -2 T(|a| / (2-|a|)), for |a| < 1.
 abbrev pub gain : Quotient → Quotient

@@ -6,7 +6,7 @@ use Rattle.std.proofs.Math.Nat.{lt-div-mul-add}
 use Rattle.algebra.specs.Ring.{con, nxt, ◌:+◌, ◌:*◌, ◌≈◌, ◌⊩◌, ◌times◌≼◌, Order, by_below}
 use Rattle.enclosure.specs.Quotient.{Quotient, ◌≼◌, whole, parts, ◌⊞◌, ◌⊠◌}
 use Rattle.enclosure.specs.Order.{≼_refl, ≼_trans, ⊞-mono, ⊠-mono, parts_join, parts_split, parts_mono}
-use Rattle.enclosure.specs.Enclosure.{T-lower, T-upper, third, third_proper, ln_argument_lem, ln_proper, ln_lower, ln_upper}
+use Rattle.enclosure.specs.Enclosure.{T-lower, T-upper, third, third_proper, argument_of_ln, ln_proper, ln_lower, ln_upper}
 use Rattle.enclosure.specs.Enclosure.{Within}
 use Rattle.enclosure.specs.Rules.{T-answer, ln_seed, ln_two, multiple, ln_answer}
 use Rattle.enclosure.specs.Logarithm.{T-near}
@@ -117,6 +117,6 @@ pub ln_near : (m b e : ℕ) → 2 ^ 52 ≤ m → m < 2 ^ 53 → 1 ≤ e → e < 
     (parts (63 - b) 42)
 unfolding ln_answer ln_lower ln_upper
 ln_near m b e low high some fits few =
-    let s = ln_argument_lem (parts 52 m) in
+    let s = argument_of_ln (parts 52 m) in
     multiple_near b e (T-answer 1 (ln_seed m)) some fits few
     (T-near s (ln_proper (parts 52 m)) 1 (ln_seed m) (ln_seeds m low high))

@@ -4,7 +4,7 @@ use Rattle.std.proofs.Common.{sym, ap, le_of_mul-le-mul_right, div-mul-le_self, 
 use Rattle.std.proofs.Math.Nat.{lt-div-mul-add, div-le_of_le-mul}
 use Rattle.algebra.specs.Ring.{con, nxt, ◌:+◌, ◌:*◌, ◌≈◌, ◌⊩◌, ◌times◌≼◌, Order, by_below}
 use Rattle.enclosure.specs.Quotient.{Quotient, parts}
-use Rattle.enclosure.specs.Enclosure.{ln_argument_lem, gain, loss}
+use Rattle.enclosure.specs.Enclosure.{argument_of_ln, gain, loss}
 use Rattle.enclosure.specs.Rules.{part, gain_seed, loss_seed, ln_seed, inverse_seed}
 use Rattle.enclosure.specs.Addition.{across}
 use Rattle.enclosure.specs.Logarithm.{Seed}
@@ -20,7 +20,7 @@ ln_high = by_below tt
 ln_fits : Order 2 (λ p q. (con (2 ^ 62) times con 3 :* p ≼ q) ∷ [] ⊩ con 2 :* p :* con (2 ^ 62) ≈ q :* con (2 ^ 62))
 ln_fits = by_below tt
 
-pub ln_seeds : (m : ℕ) → 2 ^ 52 ≤ m → m < 2 ^ 53 → Seed (ln_argument_lem (parts 52 m)) 1 (ln_seed m)
+pub ln_seeds : (m : ℕ) → 2 ^ 52 ≤ m → m < 2 ^ 53 → Seed (argument_of_ln (parts 52 m)) 1 (ln_seed m)
 ln_seeds m low high =
     let p = m - 2 ^ 52 in
     let q = m + 2 ^ 52 in
@@ -43,12 +43,12 @@ inverse_high : Order 3 (λ g p q. (con 2 times nxt (con 2 :* p :* con (2 ^ 62)) 
 inverse_high = by_below tt
 
 -- (m-1) / (m+1) is at most 1/3, and across it lies r
-pub ln_third : (m : ℕ) → 2 ^ 52 ≤ m → m < 2 ^ 53 → let s = ln_argument_lem (parts 52 m) in 3 * s.num ≤ s.den
+pub ln_third : (m : ℕ) → 2 ^ 52 ≤ m → m < 2 ^ 53 → let s = argument_of_ln (parts 52 m) in 3 * s.num ≤ s.den
 ln_third m low high = omega arith
 
 module _ (m : ℕ) (low : 2 ^ 52 ≤ m) (high : m < 2 ^ 53) where
   abbrev pub beyond : Quotient
-  beyond = across (ln_argument_lem (parts 52 m)) (ln_third m low high)
+  beyond = across (argument_of_ln (parts 52 m)) (ln_third m low high)
 
   pub beyond_num : beyond.num ≡ 2 * (2 ^ 53 - m)
   beyond_num = omega arith
@@ -250,11 +250,11 @@ module _ (m j : ℕ) (low : 2 ^ 52 ≤ m) (high : m < 2 ^ 53) where
   scale : 2 ^ (53 + j) ≡ 2 ^ 53 * J
   scale = pow-add 2 53 j
 
-  pub above_seeds : let n = 2 * (m - 2 ^ 52) in n * J ≤ 2 ^ 53 → Seed (ln_argument_lem (parts 52 m)) j (gain_seed j (n * J))
+  pub above_seeds : let n = 2 * (m - 2 ^ 52) in n * J ≤ 2 ^ 53 → Seed (argument_of_ln (parts 52 m)) j (gain_seed j (n * J))
   above_seeds fits =
       let n = 2 * (m - 2 ^ 52) in
       let same = above_same (m - 2 ^ 52) (m + 2 ^ 52) J (omega arith) in
-      seed_same (gain (parts (53 + j) (n * J))) (ln_argument_lem (parts 52 m)) j (gain_seed j (n * J)) (rw scale same)
+      seed_same (gain (parts (53 + j) (n * J))) (argument_of_ln (parts 52 m)) j (gain_seed j (n * J)) (rw scale same)
       (gain_seeds j (n * J) fits)
 
   pub below_seeds : let n = 2 ^ 53 - m in n * J ≤ 2 ^ 53 → Seed (beyond m low high) j (loss_seed j (n * J))

@@ -5,7 +5,7 @@ use Rattle.std.proofs.Common.{le_trans, le-div_iff_mul-le, div-lt_iff_lt-mul, di
 use Rattle.std.proofs.Math.Nat.{div-le_of_le-mul}
 use Rattle.algebra.specs.Ring.{con, nxt, ◌:+◌, ◌:*◌, ◌≈◌, ◌⊩◌, ◌times◌≼◌, Order, by_below}
 use Rattle.enclosure.specs.Quotient.{Quotient, parts}
-use Rattle.enclosure.specs.Enclosure.{ln_argument_lem}
+use Rattle.enclosure.specs.Enclosure.{argument_of_ln}
 use Rattle.enclosure.specs.Pieces.{euler, odd, pieces, piece, value}
 use Rattle.enclosure.specs.Rules.{square, share, front, atan_answer, steep_answer, seed_square, T-answer, part, gain_seed}
 use Rattle.enclosure.specs.Rules.{loss_seed, ln_seed, ln_two, multiple, ln_answer}
@@ -118,7 +118,7 @@ ln_size b e m = multiple_size b e (T-answer 1 (ln_seed m))
 pub ln_fits : (m b e : ℕ) → 2 ^ 52 ≤ m → m < 2 ^ 53 → 1 ≤ e → e < 2 ^ b → ln_answer b e m < 2 ^ 64
 unfolding ln_answer
 ln_fits m b e low high =
-    multiple_fits b e (T-answer 1 (ln_seed m)) (T-fits (ln_argument_lem (parts 52 m)) 1 (ln_seed m) (ln_seeds m low high))
+    multiple_fits b e (T-answer 1 (ln_seed m)) (T-fits (argument_of_ln (parts 52 m)) 1 (ln_seed m) (ln_seeds m low high))
 
 pub ln_below_size : (b e m : ℕ) → 2 ^ b ≤ 2 * e → 2 ^ 61 ≤ ln_below_answer b e m
 unfolding ln_below_answer
@@ -135,7 +135,7 @@ pub above_one_size : (m j : ℕ) → 2 ^ 52 ≤ m → m < 2 ^ 53 → let n = 2 *
 unfolding gain_answer
 above_one_size m j low high some fits =
     let k = 2 * (m - 2 ^ 52) * 2 ^ j in
-    let s = ln_argument_lem (parts 52 m) in
+    let s = argument_of_ln (parts 52 m) in
     let seed = above_seeds m j low high fits in
     (le_trans (gain_size j k some) (T-size s j (gain_seed j k) seed), T-fits s j (gain_seed j k) seed)
 

@@ -3,7 +3,7 @@
 use Rattle.std.specs.Prelude.{ℕ, ◌&&◌, cond, Float}
 use Rattle.std.specs.Float.Ieee.{lt, le, eq}
 use Rattle.binary64.specs.Leaves.{minimum}
-use Rattle.carlson.specs.Constants.{zero, nan_given, below_zero_lem, zeros, zero_given, z_not_above}
+use Rattle.carlson.specs.Constants.{zero, nan_given, below_zero_number, zeros, zero_given, z_not_above}
 use Rattle.carlson_arguments.specs.Checks.{any_nan2, any_nan3, any_nan4, below3, zeros_of3}
 use Rattle.carlson.specs.declared.answer.Answer.{Answer}
 use Rattle.carlson.specs.declared.answer.Answer.TheVariants.{Refused}
@@ -24,7 +24,7 @@ outside_profile = 23
 -- RC: 2, 4, 1, 23
 unfoldable pub rc_plain : Float → Float → Answer
 rc_plain x y =
-    cond (lt x zero) (Refused below_zero_lem)
+    cond (lt x zero) (Refused below_zero_number)
     (cond (eq y zero) (Refused zero_given)
     (cond (any_nan2 x y) (Refused nan_given)
     (cond (sized2 x y) (rc x y) (Refused outside_profile))))
@@ -37,7 +37,7 @@ rf_upward x y z = let t = rising (three x y z) in rf t.x t.y t.z
 unfoldable pub rf_plain : Float → Float → Float → Answer
 rf_plain x y z =
     cond (any_nan3 x y z) (Refused nan_given)
-    (cond (below3 x y z) (Refused below_zero_lem)
+    (cond (below3 x y z) (Refused below_zero_number)
     (cond (zeros_of3 x y z) (Refused zeros)
     (cond (sized3 x y z) (rf_upward x y z) (Refused outside_profile))))
 
@@ -48,7 +48,7 @@ rd_upward x y z = let t = rise_xy (three x y z) in rd t.x t.y t.z
 -- RD: 2, 3, 5, 1, 23
 unfoldable pub rd_plain : Float → Float → Float → Answer
 rd_plain x y z =
-    cond (lt (minimum x y) zero) (Refused below_zero_lem)
+    cond (lt (minimum x y) zero) (Refused below_zero_number)
     (cond (eq x zero && eq y zero) (Refused zeros)
     (cond (le z zero) (Refused z_not_above)
     (cond (any_nan3 x y z) (Refused nan_given)
@@ -57,7 +57,7 @@ rd_plain x y z =
 -- RG: 2, 1, 23; it sorts for itself
 unfoldable pub rg_plain : Float → Float → Float → Answer
 rg_plain x y z =
-    cond (below3 x y z) (Refused below_zero_lem)
+    cond (below3 x y z) (Refused below_zero_number)
     (cond (any_nan3 x y z) (Refused nan_given)
     (cond (sized3 x y z) (rg x y z) (Refused outside_profile)))
 
@@ -69,7 +69,7 @@ unfoldable pub rj_plain : Float → Float → Float → Float → Answer
 rj_plain x y z p =
     cond (any_nan4 x y z p) (Refused nan_given)
     (cond (eq p zero) (Refused zero_given)
-    (cond (below3 x y z) (Refused below_zero_lem)
+    (cond (below3 x y z) (Refused below_zero_number)
     (cond (zeros_of3 x y z) (Refused zeros)
     (cond (sized4 x y z p) (rj_upward x y z p) (Refused outside_profile)))))
 

@@ -8,7 +8,7 @@ use Rattle.std.specs.Float.Ieee.{fits, is_nan, lt, eq, neg, of_bits}
 use Rattle.std.specs.Float.Ieee.Scale.{finite}
 use Rattle.scaling.specs.Units.{Is, unique, neg_units}
 use Rattle.scaling.specs.One.{sign}
-use Rattle.scaling.specs.Plain.{units_of_lem}
+use Rattle.scaling.specs.Plain.{whole_units_of}
 use Rattle.scaling.specs.Tests.{zero_is}
 use Rattle.carlson.specs.Constants.{zero}
 use Rattle.units.specs.Arguments.{no_units_of}
@@ -29,7 +29,7 @@ zero_finite (fin s m e) t = tt
 
 two_zeros : (x : Float) → F64 x → T (eq x zero) → (x ≡ zero) ⊎ (x ≡ neg zero)
 two_zeros x f t =
-    let i = units_of_lem binary64 x f (zero_finite x t) in
+    let i = whole_units_of binary64 x f (zero_finite x t) in
     go (sign x) (subst (Is binary64 x (sign x)) (no_units_of i.1 t) i.1)
   where
     go : (s : Bool) → Is binary64 x s 0 → (x ≡ zero) ⊎ (x ≡ neg zero)

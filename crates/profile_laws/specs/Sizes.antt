@@ -9,7 +9,7 @@ use Rattle.std.specs.Float.Ieee.{lt, le, eq, of_bits}
 use Rattle.std.specs.Float.Ieee.Bits.{of_bits-fits}
 use Rattle.binary64.specs.Leaves.{absolute, minimum}
 use Rattle.binary64.specs.Operators.{bits}
-use Rattle.carlson.specs.Constants.{zero, nan_given, below_zero_lem, zeros, zero_given, z_not_above}
+use Rattle.carlson.specs.Constants.{zero, nan_given, below_zero_number, zeros, zero_given, z_not_above}
 use Rattle.carlson_arguments.specs.Checks.{any_nan2, any_nan3, any_nan4, below3, zeros_of3}
 use Rattle.carlson.specs.Only.{among, part, Only, refused, Finite, longer}
 use Rattle.carlson.specs.declared.answer.Answer.{Answer}
@@ -69,11 +69,11 @@ neighbours_out = (refl, refl)
 -- ---- the numbers of each entry
 -- "the base ones first where they rest on arguments alone"
 abbrev pub argument_numbers : Call → List ℕ
-argument_numbers (Rc x y) = below_zero_lem ∷ zero_given ∷ nan_given ∷ []
-argument_numbers (Rf x y z) = nan_given ∷ below_zero_lem ∷ zeros ∷ []
-argument_numbers (Rd x y z) = below_zero_lem ∷ zeros ∷ z_not_above ∷ nan_given ∷ []
-argument_numbers (Rg x y z) = below_zero_lem ∷ nan_given ∷ []
-argument_numbers (Rj x y z p) = nan_given ∷ zero_given ∷ below_zero_lem ∷ zeros ∷ []
+argument_numbers (Rc x y) = below_zero_number ∷ zero_given ∷ nan_given ∷ []
+argument_numbers (Rf x y z) = nan_given ∷ below_zero_number ∷ zeros ∷ []
+argument_numbers (Rd x y z) = below_zero_number ∷ zeros ∷ z_not_above ∷ nan_given ∷ []
+argument_numbers (Rg x y z) = below_zero_number ∷ nan_given ∷ []
+argument_numbers (Rj x y z p) = nan_given ∷ zero_given ∷ below_zero_number ∷ zeros ∷ []
 -- cel is no call of the profile: the base entry alone answers
 argument_numbers (Cel kc p a b) = []
 
@@ -173,22 +173,22 @@ pub told : (c : Call) → Told (argument_numbers c) (base_numbers c) (any_of (ch
 unfolding profile_of profile_rc profile_rf profile_rd profile_rg profile_rj rc_plain rf_plain rf_upward rd_plain rd_upward rg_plain rj_plain
     rj_upward
 told (Rc x y) =
-    check (one x).below below_zero_lem tt (check (one y).none zero_given tt (check (nan2_same (one x) (one y)) nan_given tt
+    check (one x).below below_zero_number tt (check (one y).none zero_given tt (check (nan2_same (one x) (one y)) nan_given tt
     (ends (sized2_same (one x) (one y)) (rc_only _ _))))
 told (Rf x y z) =
     let a = all x y z in
-    check (nan3_same a) nan_given tt (check (below3_same a) below_zero_lem tt (check (zeros3_same a) zeros tt
+    check (nan3_same a) nan_given tt (check (below3_same a) below_zero_number tt (check (zeros3_same a) zeros tt
     (ends (sized3_same a) (rf_only _ _ _))))
 told (Rd x y z) =
     let a = all x y z in
-    check (below2_same (one x) (one y)) below_zero_lem tt (check (zeros2_same (one x) (one y)) zeros tt
+    check (below2_same (one x) (one y)) below_zero_number tt (check (zeros2_same (one x) (one y)) zeros tt
     (check (not_above_same (one z)) z_not_above tt (check (nan3_same a) nan_given tt (ends (sized3_same a) (rd_only _ _ _)))))
 told (Rg x y z) =
     let a = all x y z in
-    check (below3_same a) below_zero_lem tt (check (nan3_same a) nan_given tt (ends (sized3_same a) (rg_only _ _ _)))
+    check (below3_same a) below_zero_number tt (check (nan3_same a) nan_given tt (ends (sized3_same a) (rg_only _ _ _)))
 told (Rj x y z p) =
     let a = all x y z in
-    check (nan4_same a (one p)) nan_given tt (check (one p).none zero_given tt (check (below3_same a) below_zero_lem tt
+    check (nan4_same a (one p)) nan_given tt (check (one p).none zero_given tt (check (below3_same a) below_zero_number tt
     (check (zeros3_same a) zeros tt (ends (sized4_same a (one p)) (rj_positive_only _ _ _ _)))))
 told (Cel kc p a b) = by_base (cel_only _ _ _ _)
 

@@ -10,7 +10,7 @@ use Rattle.binary64.specs.Leaves.{absolute, minimum}
 use Rattle.scaling.specs.Kind.{and₃, or_cases}
 use Rattle.scaling.specs.Two.{Two, lt_two}
 use Rattle.scaling.specs.One as one
-use Rattle.scaling.specs.Plain.{units_of_lem, units_times}
+use Rattle.scaling.specs.Plain.{whole_units_of, units_times}
 use Rattle.scaling.specs.Tests.{zero_is, zero_two}
 use Rattle.scaling.specs.Signs.{lt_zero_two}
 use Rattle.scaling.specs.Pick.{choose}
@@ -99,10 +99,10 @@ module _ {u d : ℕ} where
   less_same X Y = either_way u d (λ k e. lt_two (onto X k e) (onto Y k e) tt) (λ k e. sym (lt_two (back X k e) (back Y k e) tt))
 
   number_first : {x x' : Float} → Scaled u d x x' → is_nan x ≡ false
-  number_first {x} X = one.number (units_of_lem binary64 x X.first.fit X.factor.finite_first).1
+  number_first {x} X = one.number (whole_units_of binary64 x X.first.fit X.factor.finite_first).1
 
   number_second : {x x' : Float} → Scaled u d x x' → is_nan x' ≡ false
-  number_second {x} {x'} X = one.number (units_of_lem binary64 x' X.second.fit X.factor.finite_second).1
+  number_second {x} {x'} X = one.number (whole_units_of binary64 x' X.second.fit X.factor.finite_second).1
 
   tests : {x x' : Float} → Scaled u d x x' → Same x x'
   tests X = record {

@@ -6,7 +6,7 @@ use Rattle.binary64.specs.Leaves.{maximum}
 use Rattle.binary64.specs.Operators.{◌⊕◌, ◌⊖◌, ◌⊗◌, ◌⊘◌, bits}
 use Rattle.root.specs.Root.{root}
 use Rattle.power.specs.Power.{power}
-use Rattle.derived.specs.Starts.{rd_start_lem}
+use Rattle.derived.specs.Starts.{rd_start_factor}
 use Rattle.carlson.specs.Constants.{zero, one, three, four}
 use Rattle.carlson.specs.Common.{lambda_with, third_kind}
 use Rattle.carlson.specs.Loop.{capped}
@@ -21,7 +21,7 @@ rd_mean x y z = (x ⊕ y ⊕ three ⊗ z) ⊘ bits 0x4014_0000_0000_0000
 
 -- the start factor of epsilon / 4, times the largest signed distance, times 1.2
 unfoldable pub rd_start : Float → Float → Float → Float → Float
-rd_start an x y z = rd_start_lem ⊗ maximum (maximum (an ⊖ x) (an ⊖ y)) (an ⊖ z) ⊗ bits 0x3FF3_3333_3333_3333
+rd_start an x y z = rd_start_factor ⊗ maximum (maximum (an ⊖ x) (an ⊖ y)) (an ⊖ z) ⊗ bits 0x3FF3_3333_3333_3333
 
 unfoldable pub rd_begin : Float → Float → Float → Round
 rd_begin x y z =

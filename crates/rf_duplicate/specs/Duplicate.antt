@@ -5,7 +5,7 @@ use Rattle.std.specs.Float.Ieee.{neg, lt}
 use Rattle.binary64.specs.Leaves.{absolute, maximum}
 use Rattle.binary64.specs.Operators.{◌⊕◌, ◌⊖◌, ◌⊗◌, ◌⊘◌, bits}
 use Rattle.root.specs.Root.{root}
-use Rattle.derived.specs.Starts.{rf_start_lem}
+use Rattle.derived.specs.Starts.{rf_start_factor}
 use Rattle.carlson.specs.Constants.{one, three, four}
 use Rattle.carlson.specs.Common.{lambda_with}
 use Rattle.carlson.specs.Loop.{capped}
@@ -20,7 +20,7 @@ mean_of x y z = (x ⊕ y ⊕ z) ⊘ three
 -- the start factor of 3 epsilon, times the largest of the mean and its distances
 unfoldable pub rf_start : Float → Float → Float → Float → Float
 rf_start an x y z =
-    rf_start_lem
+    rf_start_factor
     ⊗ maximum (maximum (maximum (absolute an) (absolute (an ⊖ x))) (absolute (an ⊖ y))) (absolute (an ⊖ z))
 
 unfoldable pub rf_begin : Float → Float → Float → Round

@@ -11,7 +11,7 @@ use Rattle.binary64.specs.Leaves.{absolute, maximum}
 use Rattle.binary64.specs.Operators.{◌⊘◌}
 use Rattle.scaling.specs.Units.{Is, unique, lt_units, neg_units}
 use Rattle.scaling.specs.One.{sign, abs_units}
-use Rattle.scaling.specs.Plain.{units_of_lem}
+use Rattle.scaling.specs.Plain.{whole_units_of}
 use Rattle.scaling.specs.Tests.{zero_is}
 use Rattle.carlson.specs.Constants.{zero}
 use Rattle.carlson.specs.Only.{chosen}
@@ -57,8 +57,8 @@ same (fin s m e) nan p q g h = absurd (true≢false q.number)
 same (fin s m e) (inf true) p q g h = absurd (true≢false h)
 same (fin s m e) (inf false) p q g h = absurd (true≢false g)
 same (fin s m e) (fin t n d) p q g h =
-    let i = (units_of_lem binary64 (fin s m e) p.fit tt).1 in
-    let j = (units_of_lem binary64 (fin t n d) q.fit tt).1 in
+    let i = (whole_units_of binary64 (fin s m e) p.fit tt).1 in
+    let j = (whole_units_of binary64 (fin t n d) q.fit tt).1 in
     same_number p q i j (sym (lt_units i j) ∙ g) (sym (lt_units j i) ∙ h)
 
 pub told_apart : ToldApart Plain
@@ -78,7 +78,7 @@ unfolding absolute is_nan
 size_plain nan p = absurd (true≢false p.number)
 size_plain (inf s) p = plus_plain (inf-fits binary64 false) (record { number = refl; sign = refl })
 size_plain (fin s m e) p =
-    plus_plain (abs_units (units_of_lem binary64 (fin s m e) p.fit tt).1).fit (record { number = refl; sign = refl })
+    plus_plain (abs_units (whole_units_of binary64 (fin s m e) p.fit tt).1).fit (record { number = refl; sign = refl })
 
 pub larger_plain : {x y : Float} → Plain x → Plain y → Plain (maximum x y)
 unfolding maximum
@@ -93,7 +93,7 @@ unsigned (inf true) p h = absurd (true≢false h)
 unsigned (inf false) p h = record { number = refl; sign = refl }
 unsigned (fin false m e) p h = record { number = refl; sign = refl }
 unsigned (fin true m e) p h =
-    let i = units_of_lem binary64 (fin true m e) p.fit tt in
+    let i = whole_units_of binary64 (fin true m e) p.fit tt in
     absurd (minus_zero_only p i.1 (none i.0 (ltb-false 0 (i.0 + 0) (sym (lt_units i.1 (zero_is binary64)) ∙ h))))
   where
     none : (n : ℕ) → n + 0 ≤ 0 → n ≡ 0

@@ -3,7 +3,7 @@ use Rattle.std.specs.Prelude.{◌≡◌, true, false, Float}
 use Rattle.std.proofs.Common.{sym, ◌∙◌, true≢false}
 use Rattle.std.specs.Float.Ieee.{neg, le}
 use Rattle.binary64.specs.Operators.{◌⊘◌}
-use Rattle.carlson.specs.Constants.{zero as plus_zero_lem}
+use Rattle.carlson.specs.Constants.{zero as zero_above}
 use Rattle.carlson_arguments.specs.Rescaling.{scale_of4, rescales4}
 use Rattle.carlson.specs.Answer.{taylor_at}
 use Rattle.carlson.specs.Only.{asked}
@@ -33,23 +33,23 @@ divided_of x y z p = let s = scale_of4 x y z p in record { x = x ⊘ s; y = y �
 
 -- p at most zero: the expansion, a rescaling or the reduction. Else RJ for p above zero, or a rescaling.
 module _ (A : Answer → Type 0) (C : Rescaled → Type 0) (R : Reduced → Type 0) (p : Float)
-    (near : le p plus_zero_lem ≡ true → (v : Float) → A (Value (taylor_at v)))
+    (near : le p zero_above ≡ true → (v : Float) → A (Value (taylor_at v)))
     (scaled : (x y z : Float) → rescales4 x y z p (scale_of4 x y z p) ≡ true → C (divided_of x y z p))
-    (reduced : le p plus_zero_lem ≡ true → (x y z : Float) → R (reduce_of x y z (neg p))) where
-  scaled_holds : (x y z : Float) → (le p plus_zero_lem ≡ false → A (rj_positive x y z p)) → Plans A C R (plan_scaled x y z p)
+    (reduced : le p zero_above ≡ true → (x y z : Float) → R (reduce_of x y z (neg p))) where
+  scaled_holds : (x y z : Float) → (le p zero_above ≡ false → A (rj_positive x y z p)) → Plans A C R (plan_scaled x y z p)
   unfolding plan_scaled plan_unscaled
   scaled_holds x y z positive =
       asked (Plans A C R) (rescales4 x y z p (scale_of4 x y z p)) (scaled x y z)
-      (λ e. asked (Plans A C R) (le p plus_zero_lem) (λ h. reduced h x y z) positive)
+      (λ e. asked (Plans A C R) (le p zero_above) (λ h. reduced h x y z) positive)
 
-  near_holds : le p plus_zero_lem ≡ true → (n : Near) (x y z : Float) → Plans A C R (plan_near n x y z p)
+  near_holds : le p zero_above ≡ true → (n : Near) (x y z : Float) → Plans A C R (plan_near n x y z p)
   unfolding plan_near
   near_holds h (Taylor v) x y z = near h v
   near_holds h Far x y z = scaled_holds x y z (λ e. absurd (true≢false (sym h ∙ e)))
 
-  pub plan_holds : (x y z : Float) → (le p plus_zero_lem ≡ false → A (rj_positive x y z p)) → Plans A C R (plan_of x y z p)
+  pub plan_holds : (x y z : Float) → (le p zero_above ≡ false → A (rj_positive x y z p)) → Plans A C R (plan_of x y z p)
   unfolding plan_of
   plan_holds x y z positive =
       let t = rising (record { x = x; y = y; z = z }) in
-      asked (Plans A C R) (le p plus_zero_lem) (λ h. near_holds h (near_zero t.x t.y t.z (neg p)) t.x t.y t.z)
+      asked (Plans A C R) (le p zero_above) (λ h. near_holds h (near_zero t.x t.y t.z (neg p)) t.x t.y t.z)
       (λ h. scaled_holds x y z positive)

@@ -3,7 +3,7 @@ use Rattle.std.specs.Prelude.{ℕ, zero, suc, cond, Float}
 use Rattle.std.specs.Float.Ieee.{neg, le}
 use Rattle.binary64.specs.Operators.{◌⊘◌}
 use Rattle.carlson.specs.Constants.{too_deep}
-use Rattle.carlson.specs.Constants.{zero as plus_zero_lem}
+use Rattle.carlson.specs.Constants.{zero as zero_above}
 use Rattle.carlson_arguments.specs.Rescaling.{scale_of4, rescales4}
 use Rattle.carlson.specs.Answer.{taylor_at}
 use Rattle.carlson.specs.declared.answer.Answer.{Answer}
@@ -21,7 +21,7 @@ use Rattle.rj_calls.specs.declared.plan.Plan.TheVariants.{Done, Rescale, Reduce}
 -- ---- what a call does: it is done, or calls itself at rescaled arguments, or at the reduction's
 -- past the rescaling
 unfoldable pub plan_unscaled : Float → Float → Float → Float → Plan
-plan_unscaled x y z p = cond (le p plus_zero_lem) (Reduce (reduce_of x y z (neg p))) (Done (rj_positive x y z p))
+plan_unscaled x y z p = cond (le p zero_above) (Reduce (reduce_of x y z (neg p))) (Done (rj_positive x y z p))
 
 unfoldable pub plan_scaled : Float → Float → Float → Float → Plan
 plan_scaled x y z p =
@@ -37,7 +37,7 @@ plan_near Far x y z p = plan_scaled x y z p
 unfoldable pub plan_of : Float → Float → Float → Float → Plan
 plan_of x y z p =
     let t = rising (record { x = x; y = y; z = z }) in
-    cond (le p plus_zero_lem) (plan_near (near_zero t.x t.y t.z (neg p)) t.x t.y t.z p) (plan_scaled x y z p)
+    cond (le p zero_above) (plan_near (near_zero t.x t.y t.z (neg p)) t.x t.y t.z p) (plan_scaled x y z p)
 
 -- ---- document 01, Rounds: with no call left it is refused with 10
 unfoldable pub rj_run : ℕ → Plan → Answer

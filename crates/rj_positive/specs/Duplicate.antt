@@ -6,7 +6,7 @@ use Rattle.binary64.specs.Leaves.{absolute, maximum}
 use Rattle.binary64.specs.Operators.{◌⊕◌, ◌⊖◌, ◌⊗◌, ◌⊘◌, bits}
 use Rattle.root.specs.Root.{root}
 use Rattle.power.specs.Power.{power}
-use Rattle.derived.specs.Starts.{rj_start_lem}
+use Rattle.derived.specs.Starts.{rj_start_factor}
 use Rattle.carlson.specs.Constants.{zero, one, two, three, four}
 use Rattle.carlson.specs.Common.{lambda_with, third_kind}
 use Rattle.carlson.specs.Loop.{capped}
@@ -24,7 +24,7 @@ rj_mean x y z p = (x ⊕ y ⊕ z ⊕ two ⊗ p) ⊘ bits 0x4014_0000_0000_0000
 -- the start factor of epsilon / 5, times the largest distance from the mean
 unfoldable pub rj_start : Float → Float → Float → Float → Float → Float
 rj_start an x y z p =
-    rj_start_lem
+    rj_start_factor
     ⊗ maximum (maximum (maximum (absolute (an ⊖ x)) (absolute (an ⊖ y))) (absolute (an ⊖ z))) (absolute (an ⊖ p))
 
 unfoldable pub rj_begin : Float → Float → Float → Float → Round

@@ -17,15 +17,15 @@ use Rattle.scaling.specs.Last.{pow_le}
 use Rattle.scaling.specs.One.{sign, lit_n, lit_ok, lit_is}
 
 -- ---- a finite float that fits has units
-pub units_of_lem : (f : Format) (x : Float) → T (fits f x) → T (finite x) → (n : ℕ) × Is f x (sign x) n
+pub whole_units_of : (f : Format) (x : Float) → T (fits f x) → T (finite x) → (n : ℕ) × Is f x (sign x) n
 unfolding fits
-units_of_lem f nan h t = absurd t
-units_of_lem f (inf s) h t = absurd t
-units_of_lem f (fin s zero e) h
+whole_units_of f nan h t = absurd t
+whole_units_of f (inf s) h t = absurd t
+whole_units_of f (fin s zero e) h
     t = (0, record { fit = h; val = (refl, ring 3 (λ u l d. con 0 :* u :* l ≈ con 0 :* d) tt (up e) (2 ^ low f) (down e)) })
-units_of_lem f (fin s (suc m) (pos k)) h
+whole_units_of f (fin s (suc m) (pos k)) h
     t = (suc m * 2 ^ k * 2 ^ low f, record { fit = h; val = (refl, sym (mul-one (suc m * 2 ^ k * 2 ^ low f))) })
-units_of_lem f (fin s (suc m) (negsuc k)) h t =
+whole_units_of f (fin s (suc m) (negsuc k)) h t =
     let o = and₃ (eqb (suc m % 2) 1 && ltb (suc m) (2 ^ prec f)) (leb (2 ^ suc k) (2 ^ low f))
     (ltb (suc m * 1) (2 ^ suc (emax f) * 2 ^ suc k)) h in
     let l : suc k ≤ low f = pow_le (suc k) (low f) (leb→le (2 ^ suc k) (2 ^ low f) o.1) in
@@ -122,6 +122,6 @@ module _ (f : Format) (a b : Float) (ok : T (ends_ok f a b)) where
   is_between u x h =
       let o = and₃ (positive a) (positive b) (lit_ok f a && lit_ok f b) ok in
       let p = between a x b o.0 o.1 h.1 h.2 in
-      let r = units_of_lem f x h.0 (positive-finite x p) in
+      let r = whole_units_of f x h.0 (positive-finite x p) in
       let X = subst (λ s. Is f x s r.0) (plus_sign x p) r.1 in
       (r.0, X, record { sign = λ t. refl; from = inr (le_units low_end X h.1); to = le_units X high_end h.2 })

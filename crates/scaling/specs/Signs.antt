@@ -20,9 +20,9 @@ bounded {x = inf t} a = absurd a.val
 bounded {x = fin t m e} a = refl
 
 -- ---- below zero
-below_zero_lem : (s : Bool) (m : ℕ) → T (below s m false 0) → s ≡ true
-below_zero_lem true m t = refl
-below_zero_lem false m t = absurd (let h = ltb→lt m 0 t in let r : ⊥ = omega arith in r)
+below_zero_number : (s : Bool) (m : ℕ) → T (below s m false 0) → s ≡ true
+below_zero_number true m t = refl
+below_zero_number false m t = absurd (let h = ltb→lt m 0 t in let r : ⊥ = omega arith in r)
 
 above_zero : (s : Bool) (m : ℕ) → T (not (below s m false 0)) → (m ≡ 0 → ⊥) → s ≡ false
 above_zero false m t h = refl
@@ -40,7 +40,7 @@ module _ {f : Format} {k : ℕ} {A : Kind} {x y : Float} (a : Two f k A x y) whe
       ∙ sym (lt_units a.second (zero_is f))
 
   pub minus : T (lt x zero) → a.s ≡ true
-  minus t = below_zero_lem a.s a.m (subst T (lt_units a.first (zero_is f)) t)
+  minus t = below_zero_number a.s a.m (subst T (lt_units a.first (zero_is f)) t)
 
   pub plus : T (not (lt x zero)) → T (not (eq x zero)) → a.s ≡ false
   plus t e = above_zero a.s a.m (subst (λ b. T (not b)) (lt_units a.first (zero_is f)) t) (no_units a e).0

@@ -3,7 +3,7 @@ use Rattle.std.proofs.Common.{◌≡◌, ℕ, ◌+◌, ◌-◌, ◌*◌, ◌/◌
 use lib.Ieee.Nearest.{div_same}
 use Rattle.algebra.specs.Ring.{con, ◌:*◌, ◌≈◌, ring}
 use Rattle.enclosure.specs.Quotient.{Quotient, parts}
-use Rattle.enclosure.specs.Enclosure.{ln_argument_lem, gain, loss}
+use Rattle.enclosure.specs.Enclosure.{argument_of_ln, gain, loss}
 use Rattle.enclosure.specs.Rules.{T-answer, part, gain_seed, loss_seed, ln_seed, inverse_seed}
 use Rattle.enclosure.specs.Logarithm.{Seed}
 use Rattle.enclosure.specs.Seeds.{gain_seeds, loss_seeds, ln_seeds, beyond, inverse_seeds}
@@ -121,7 +121,7 @@ module _ (e m : ℕ) (range : Exponent e m) where
 
   pub ln_asked : Multiple e ((m - 2 ^ 52) * 512) ((m + 2 ^ 52) * 256)
   ln_asked =
-      asked (ln_argument_lem (parts 52 m)) ((m - 2 ^ 52) * 512) ((m + 2 ^ 52) * 256) (ln_seed m) (ln_seed_is m)
+      asked (argument_of_ln (parts 52 m)) ((m - 2 ^ 52) * 512) ((m + 2 ^ 52) * 256) (ln_seed m) (ln_seed_is m)
       (below_one (2 * (m - 2 ^ 52)) (m + 2 ^ 52) (omega arith)) (ln_seeds m low high) (omega arith, omega arith, omega arith)
 
   pub below_asked : Multiple e ((2 ^ 53 - m) * 512) ((2 ^ 53 + m) * 256)

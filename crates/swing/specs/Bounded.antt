@@ -31,7 +31,7 @@ use Rattle.swing.specs.Period.{
   height_number,
 }
 use Rattle.swing.specs.Ranges.{From1, in_within}
-use Rattle.between.specs.Between.{Between, has_value, units_of_lem, units_high, product_between}
+use Rattle.between.specs.Between.{Between, has_value, whole_units_of, units_high, product_between}
 use Rattle.swing.specs.Compared.{
   lt_is,
   eq_is,
@@ -87,17 +87,17 @@ one_not_beyond : beyond_limits one ≡ false
 one_not_beyond = unfold lt of_bits in refl
 
 module _ {y : Float} (Y : Between (power 998) below_one y) where
-  under_one : units_of_lem Y < 2 ^ 1074
+  under_one : whole_units_of Y < 2 ^ 1074
   unfolding value
   under_one = lt_of_le_of_lt (units_high Y) (lit< tt)
 
   below_1 : lt y one ≡ true
-  below_1 = lt_is y one (units_of_lem Y) (2 ^ 1074) (has_value Y) one_units ∙ lt-ltb (units_of_lem Y) (2 ^ 1074) under_one
+  below_1 = lt_is y one (whole_units_of Y) (2 ^ 1074) (has_value Y) one_units ∙ lt-ltb (whole_units_of Y) (2 ^ 1074) under_one
 
   not_1 : eq y one ≡ false
   not_1 =
-      eq_is y one (units_of_lem Y) (2 ^ 1074) (has_value Y) one_units
-      ∙ ne_eqb (units_of_lem Y) (2 ^ 1074) (λ e. lt_irrefl (2 ^ 1074) (subst (λ (z : ℕ). z < 2 ^ 1074) e under_one))
+      eq_is y one (whole_units_of Y) (2 ^ 1074) (has_value Y) one_units
+      ∙ ne_eqb (whole_units_of Y) (2 ^ 1074) (λ e. lt_irrefl (2 ^ 1074) (subst (λ (z : ℕ). z < 2 ^ 1074) e under_one))
 
   steps_are : rf_steps +0 y one ≡ rf_agm_of one y
   unfolding rf_steps rf_general

@@ -16,7 +16,7 @@ use Rattle.binary64.specs.Leaves.{absolute}
 use Rattle.binary64.specs.Operators.{bits}
 use Rattle.carlson.specs.Constants.{zero as +0, one}
 use Rattle.swing.specs.Period.{times}
-use Rattle.between.specs.Between.{Between, form, has_value, units_of_lem, units_pos}
+use Rattle.between.specs.Between.{Between, form, has_value, whole_units_of, units_pos}
 
 -- ---- tests on f64s whose units are known
 module _ (a b c d u w D : ℕ) (P : 0 < D) (C : 0 < c * d) (e : a * D ≡ u * c) (f : b * D ≡ w * d) where
@@ -90,16 +90,16 @@ module _ {lo hi : ℕ} {x : Float} (X : Between lo hi x) where
   not_infinite = rw ((form X).is, infinity_is)
 
   pub above_zero : lt +0 x ≡ true
-  above_zero = lt_is +0 x 0 (units_of_lem X) zero_units (has_value X) ∙ lt-ltb 0 (units_of_lem X) (units_pos X)
+  above_zero = lt_is +0 x 0 (whole_units_of X) zero_units (has_value X) ∙ lt-ltb 0 (whole_units_of X) (units_pos X)
 
   pub not_below_zero : lt x +0 ≡ false
-  not_below_zero = lt_is x +0 (units_of_lem X) 0 (has_value X) zero_units ∙ le-ltb (units_of_lem X) 0 zero-le
+  not_below_zero = lt_is x +0 (whole_units_of X) 0 (has_value X) zero_units ∙ le-ltb (whole_units_of X) 0 zero-le
 
   pub not_zero : eq x +0 ≡ false
-  not_zero = eq_is x +0 (units_of_lem X) 0 (has_value X) zero_units
-      ∙ ne_eqb (units_of_lem X) 0 (λ e. lt_irrefl 0 (subst (λ (z : ℕ). 0 < z) e (units_pos X)))
+  not_zero = eq_is x +0 (whole_units_of X) 0 (has_value X) zero_units
+      ∙ ne_eqb (whole_units_of X) 0 (λ e. lt_irrefl 0 (subst (λ (z : ℕ). 0 < z) e (units_pos X)))
 
   pub zero_not : eq +0 x ≡ false
   zero_not =
-      eq_is +0 x 0 (units_of_lem X) zero_units (has_value X)
-      ∙ ne_eqb 0 (units_of_lem X) (λ e. lt_irrefl 0 (subst (λ (z : ℕ). 0 < z) (sym e) (units_pos X)))
+      eq_is +0 x 0 (whole_units_of X) zero_units (has_value X)
+      ∙ ne_eqb 0 (whole_units_of X) (λ e. lt_irrefl 0 (subst (λ (z : ℕ). 0 < z) (sym e) (units_pos X)))

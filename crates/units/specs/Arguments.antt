@@ -16,7 +16,7 @@ use Rattle.scaling.specs.Two.{Two}
 use Rattle.scaling.specs.One as one
 use Rattle.scaling.specs.Tests.{zero_is, no_units}
 use Rattle.scaling.specs.Signs.{above_two}
-use Rattle.scaling.specs.Plain.{units_of_lem, times_units, le_units}
+use Rattle.scaling.specs.Plain.{whole_units_of, times_units, le_units}
 use Rattle.binary64.specs.Leaves.{absolute, minimum}
 use Rattle.carlson.specs.Constants.{zero}
 use Rattle.units.specs.Statement.{InRange, TimesFour, least, most}
@@ -51,8 +51,8 @@ whole_power k d m n e =
 
 pub argument : (k d : ℕ) {x y : Float} → InRange x → InRange y → TimesFour (k + d) d x y → Two binary64 k argument_k x y
 argument k d {x} {y} X Y t =
-    let m = units_of_lem binary64 x X.fit t.finite_first in
-    let n = units_of_lem binary64 y Y.fit t.finite_second in
+    let m = whole_units_of binary64 x X.fit t.finite_first in
+    let n = whole_units_of binary64 y Y.fit t.finite_second in
     let i = in_range m.1 X.size in
     let j = subst (λ s. In argument_k s n.0) (sym t.signs) (in_range n.1 Y.size) in
     record {

@@ -142,10 +142,10 @@ module _ {k : ℕ} where
   free X Y = lt_two (lit_two half tt) (widen_two {B = free_k} (div_two Y X tt) tt) tt
 
   module _ {x y x' y' : Float} (X : Two binary64 k wide_k x x') (Y : Two binary64 k wide_k y y') (t : T (lt y x)) where
-    ln_argument_lem : T (not (lt half (y ⊘ x))) → T (not (lt half (y' ⊘ x')))
+    argument_of_ln : T (not (lt half (y ⊘ x))) → T (not (lt half (y' ⊘ x')))
         → Two binary64 k above_k ((root x ⊕ root (x ⊖ y)) ⊘ root y) ((root x' ⊕ root (x' ⊖ y')) ⊘ root y')
     unfolding div_k div_ok plus_k plus_ok root_k root_ok gap_k gap_ok raise_k within div_two plus_two summed widen_two
-    ln_argument_lem h h' =
+    argument_of_ln h h' =
         let A = root_two X tt in
         let B = gap_root Y X t in
         let R = root_two Y tt in
@@ -208,7 +208,7 @@ module _ {k : ℕ} where
     unfolding rc_by_ln raise_k within
     by_ln X Y t h h' =
         over_fair
-        (leaf_two ln ln_leaf refl refl refl (ln_argument_lem X Y t h h'))
+        (leaf_two ln ln_leaf refl refl refl (argument_of_ln X Y t h h'))
         (divides (gap_root Y X t))
 
     pub cases_fair : {x y x' y' : Float} → eq x zero ≡ eq x' zero → (T (not (eq x zero)) → Two binary64 k wide_k x x')

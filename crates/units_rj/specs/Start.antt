@@ -42,9 +42,9 @@ wide : {k : ℕ} {x x' : Float} → Two binary64 k arg_k x x' → Two binary64 k
 unfolding within
 wide a = widen_two a tt
 
-abbrev mean_of_lem : {k : ℕ} {x x' : Float} → Arg k x x' → Maybe binary64 k mean_k x x'
-mean_of_lem (none z) = maybe.none z
-mean_of_lem (some a) = maybe.some (wide a)
+abbrev start_mean : {k : ℕ} {x x' : Float} → Arg k x x' → Maybe binary64 k mean_k x x'
+start_mean (none z) = maybe.none z
+start_mean (some a) = maybe.some (wide a)
 
 -- ---- lambda: a product of two roots of arguments above zero, at least
 abbrev roots_k : Kind
@@ -104,7 +104,7 @@ fourth_law : (x s : ℕ) → Digits binary64 s → 2 ^ 1010 ≤ s → x ≤ s �
 fourth_law x s D h i = le_trans i (le_of_eq (sym (quarter D (le_trans (pow_mono {i = 55} {j = 1010} (lit≤ tt)) h))))
 
 next : {k : ℕ} {x x' v v' : Float} (a : Arg k x x') → Two binary64 k first_k v v'
-    → Next k (maybe.units (mean_of_lem a)) (maybe.units' (mean_of_lem a)) ((x ⊕ v) ⊘ four) ((x' ⊕ v') ⊘ four)
+    → Next k (maybe.units (start_mean a)) (maybe.units' (start_mean a)) ((x ⊕ v) ⊘ four) ((x' ⊕ v') ⊘ four)
 unfolding solid? plus_k plus_ok within wide widen_two div_k div_ok lit_ok of_bits div_two lit_two
 next {k} {x} {x'} {v} {v'} a L =
     let o : 0 < overflow binary64 = lit< tt in
@@ -119,24 +119,24 @@ next {k} {x} {x'} {v} {v'} a L =
     last_true true = refl
     last_true false = refl
 
-    same_first : (a : Arg k x x') → maybe.units (mean_of_lem a) ≡ maybe.units (arg a)
+    same_first : (a : Arg k x x') → maybe.units (start_mean a) ≡ maybe.units (arg a)
     same_first (none z) = refl
     same_first (some b) = refl
 
-    same_second : (a : Arg k x x') → maybe.units' (mean_of_lem a) ≡ maybe.units' (arg a)
+    same_second : (a : Arg k x x') → maybe.units' (start_mean a) ≡ maybe.units' (arg a)
     same_second (none z) = refl
     same_second (some b) = refl
 
     made : (s : Maybe binary64 k next_sum_k (x ⊕ v) (x' ⊕ v')) → T (maybe.some? s) → maybe.units (arg a) ≤ maybe.units s
         → maybe.units' (arg a) ≤ maybe.units' s
-        → maybe.units (mean_of_lem a) ≡ maybe.units (arg a) → maybe.units' (mean_of_lem a) ≡ maybe.units' (arg a)
-        → Next k (maybe.units (mean_of_lem a)) (maybe.units' (mean_of_lem a)) ((x ⊕ v) ⊘ four) ((x' ⊕ v') ⊘ four)
+        → maybe.units (start_mean a) ≡ maybe.units (arg a) → maybe.units' (start_mean a) ≡ maybe.units' (arg a)
+        → Next k (maybe.units (start_mean a)) (maybe.units' (start_mean a)) ((x ⊕ v) ⊘ four) ((x' ⊕ v') ⊘ four)
     made (maybe.none z) t h i e g = absurd t
     made (maybe.some s) t h i e g = record {
       two = widen_two (div_two s (lit_two four tt) tt) tt;
-      more = fourth_law (maybe.units (mean_of_lem a)) s.m (digits_of s.first) (floor_le s.in_first)
+      more = fourth_law (maybe.units (start_mean a)) s.m (digits_of s.first) (floor_le s.in_first)
           (le_trans (le_of_eq e) h);
-      more' = fourth_law (maybe.units' (mean_of_lem a)) s.n (digits_of s.second) (floor_le s.in_second)
+      more' = fourth_law (maybe.units' (start_mean a)) s.n (digits_of s.second) (floor_le s.in_second)
           (le_trans (le_of_eq g) i);
     }
 
@@ -194,7 +194,7 @@ difference_size A X s t e g D E = rw (e, g) (go (ltb A X))
         le_trans (near_le binary64 1 (zero-lt-suc 0) h) (le_trans (le_of_eq (on_grid D)) i)
 
 difference : {k : ℕ} {p p' x x' : Float} (P : Two binary64 k mean_k p p') (a : Arg k x x')
-    → Difference k P.m P.n (maybe.units (mean_of_lem a)) (maybe.units' (mean_of_lem a)) (p ⊖ x) (p' ⊖ x')
+    → Difference k P.m P.n (maybe.units (start_mean a)) (maybe.units' (start_mean a)) (p ⊖ x) (p' ⊖ x')
 unfolding sub sum_k sum_ok within sub_two neg_two sum_two summed widen_two wide
 difference P (none z) =
     let w : Nothing binary64 _ _ = record { s = not z.s; first = neg_units z.first; second = neg_units z.second } in
@@ -279,9 +279,9 @@ module _ {k : ℕ} {x x' y y' z z' p p' : Float} (a : Arg k x x') (b : Arg k y y
       let Q = wide P in
       let D = delta (difference Q a) (difference Q b) (difference Q c) in
       record {
-        x = mean_of_lem a;
-        y = mean_of_lem b;
-        z = mean_of_lem c;
+        x = start_mean a;
+        y = start_mean b;
+        z = start_mean c;
         p = Q;
         a = mean a b c P t;
         delta = D.two;

@@ -13,6 +13,6 @@ profile-rc-spec =
     (λ c κs. tt)
     (λ c κs. tt)
     (λ c. rw (
-      sym c.before.before.plus_zero_lem.ensures,
+      sym c.before.before.zero_above.ensures,
       sym c.before.plus-zero2.ensures,
     ) c.rc-plain.ensures))

@@ -14,7 +14,7 @@ profile-rf-spec =
     (λ c κs. tt)
     (λ c κs. tt)
     (λ c. rw (
-      sym c.before.before.before.plus_zero_lem.ensures,
+      sym c.before.before.before.zero_above.ensures,
       sym c.before.before.plus-zero2.ensures,
       sym c.before.plus-zero3.ensures,
     ) c.rf-plain.ensures))

@@ -6,7 +6,7 @@ use native.Mathlib.Omega.{arith}
 use lib.Dec.{T}
 use lib.Ieee.{Float, binary64, fits, lt, of_bits}
 use Rattle.rounding.specs.Cut.{infinity}
-use Rattle.binary64.specs.Tests.{plus_zero_lem}
+use Rattle.binary64.specs.Tests.{zero_above}
 use Rattle.decimal_short.specs.Shortest.{place_of, shortest}
 use Rattle.decimal_short.specs.Above.{above_told}
 use Rattle.decimal_short.specs.Fewest.{seventeen_digits}
@@ -18,7 +18,7 @@ use Rattle.decimal_text.specs.Shape.{whole_shape, shape_of}
 use Rattle.decimal_text.specs.Plain.{plain_shape}
 use Rattle.decimal_text.proofs.text.plain_shape.Goals as goal
 
-module _ (x : Float) (s : Short) (is : s ≡ short_of x) (h : lt plus_zero_lem x ≡ true)
+module _ (x : Float) (s : Short) (is : s ≡ short_of x) (h : lt zero_above x ≡ true)
     (k : lt x (of_bits binary64 infinity) ≡ true) where
   digits_are : s.d ≡ shortest x
   unfolding short_of

@@ -7,4 +7,4 @@ use Rattle.rd_duplicate.proofs.duplicate.begin.Tie as tie
 pub begin-spec : {M : Type 1} → statement M
 unfolding rd_begin
 begin-spec = tie.close (tie.spec (λ c κs. tt) (λ c κs. tt)
-    (λ c. rw (sym c.before.mean_of_lem.ensures, sym c.start_of_lem.ensures)))
+    (λ c. rw (sym c.before.start_mean.ensures, sym c.start_of_lem.ensures)))

@@ -36,7 +36,7 @@ returns c =
     let b = a.before.before.before.args in
     c.result.ensures
     ∙ left_spent l.invariant refl c.before.if1.true
-    ∙ whole b.x b.y b.z _ _ a.begin.result a.before.before.mean_of_lem.ensures a.before.mean-of2.ensures
+    ∙ whole b.x b.y b.z _ _ a.begin.result a.before.before.start_mean.ensures a.before.mean-of2.ensures
     a.begin.ensures
 
 returns-2 : tie.Need-returns-2 invariant-loop decreases-loop
@@ -47,7 +47,7 @@ returns-2 c =
     let b = a.before.before.before.args in
     c.result2.ensures
     ∙ left_found (left_on l.invariant refl (omega arith) k.before.step.ensures k.all_done.ensures) c.before.if2.true
-    ∙ whole b.x b.y b.z _ _ a.begin.result a.before.before.mean_of_lem.ensures a.before.mean-of2.ensures
+    ∙ whole b.x b.y b.z _ _ a.begin.result a.before.before.start_mean.ensures a.before.mean-of2.ensures
     a.begin.ensures
 
 pub elliprf-rd-unchecked-spec : {M : Type 1} → statement M

@@ -7,4 +7,4 @@ use Rattle.rg_joint.proofs.joint.rd_begin.Tie as tie
 pub rd-begin-spec : {M : Type 1} → statement M
 unfolding rd_begun
 rd-begin-spec = tie.close (tie.spec (λ c κs. tt) (λ c κs. tt) (λ c κs. tt)
-    (λ c. rw (sym c.before.before.mean_of_lem.ensures, sym c.before.start_of_lem.ensures, sym c.not_a_number.ensures)))
+    (λ c. rw (sym c.before.before.start_mean.ensures, sym c.before.start_of_lem.ensures, sym c.not_a_number.ensures)))

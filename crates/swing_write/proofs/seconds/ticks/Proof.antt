@@ -13,7 +13,7 @@ use Rattle.algebra.specs.Ring.{◌:*◌, ◌≈◌, ◌⊩◌, ◌times◌≼◌
 use Rattle.rounding.specs.Cut.{value, infinity}
 use Rattle.rounding.specs.Value.{value_high}
 use Rattle.binary64.specs.Meaning.{bits_back}
-use Rattle.between.specs.Between.{Between, units_of_lem, has_value}
+use Rattle.between.specs.Between.{Between, whole_units_of, has_value}
 use Rattle.swing.specs.Ratios.{power}
 use Rattle.swing_write.specs.Replies.{ticks_of}
 use Rattle.swing_write.proofs.seconds.ticks.Statement.{statement}
@@ -61,7 +61,7 @@ normal bits P = omega arith
 
 ticked : (x : Float) (bits : ℕ) → Between (power 1012) (power 1042) x → bits ≡ to_bits binary64 x
     → closest ((2 ^ 52 + bits % 2 ^ 52) * 1000000000000) (2 ^ (1075 - bits / 2 ^ 52)) ≡ ticks_of x
-unfolding ticks_of units_of_lem
+unfolding ticks_of whole_units_of
 ticked x bits X e =
     let P = pattern-in x bits X e in
     let M = 2 ^ 52 + bits % 2 ^ 52 in
