@@ -1,9 +1,4 @@
 pub mod With
 pub mod Twice
 pub mod Lost
-pub mod Arguments
 pub mod Reached
-pub mod Rc
-pub mod Helper
-pub mod Before
-pub mod Asked

@@ -5,10 +5,12 @@ use Rattle.std.proofs.Common.{sym, ap, ◌∙◌, subst₂, inl, inr, le_refl, l
 use Rattle.std.specs.Float.{binary64}
 use Rattle.std.specs.Float.Ieee.{low, size}
 use Rattle.std.specs.Float.Ieee.Digits.{size-lt}
-use Rattle.algebra.specs.Ring.{con, nxt, ◌:*◌, ◌≈◌, ◌⊩◌, ◌times◌≼◌, below}
+use Rattle.algebra.specs.Ring.{con, nxt, ◌:*◌, ◌≈◌, ◌⊩◌, ◌times◌≼◌}
+use Rattle.algebra.proofs.Ring.{below}
 use Rattle.scaling.specs.Near.{near, near_mono, near_exact, either}
 use Rattle.scaling.specs.Kind.{last}
-use Rattle.scaling.specs.Last.{Digits, Multiple, multiple}
+use Rattle.scaling.specs.Last.{Digits, Multiple}
+use Rattle.scaling.proofs.Last.{multiple}
 
 doubled : {n : ℕ} → Digits binary64 n → Digits binary64 (n * 2)
 doubled {n} d = record {

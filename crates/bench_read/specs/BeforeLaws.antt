@@ -11,7 +11,8 @@ use Rattle.swing_read.specs.declared.Reading.{Reading}
 use Rattle.swing_read.specs.declared.Line.{Line}
 use Rattle.swing_read.specs.declared.Line.TheVariants.{One, Three, Bad as NoLine}
 use Rattle.millimetres.specs.Measured.{told, lengths_from, plain_from, byte_measured, at_end}
-use Rattle.millimetres.specs.MeasuredLaws.{whole_text, whole_head, Whole, whole_byte, whole_end, whole_last, start_whole, no_line}
+use Rattle.millimetres.specs.MeasuredLaws.{whole_text, Whole}
+use Rattle.millimetres.proofs.MeasuredLaws.{whole_head, whole_byte, whole_end, whole_last, start_whole, no_line}
 use Rattle.millimetres.specs.declared.Measured.{Measured}
 use Rattle.bench_read.specs.Rows.{row_from, times_from, named, staged_of, field_at, swing_fed, times_fed, swing_blank}
 use Rattle.bench_read.specs.Rows.{other_after, blank_after, row_after, pair_of, with_times, with_swing, knee_of, peaks_of}

@@ -14,7 +14,7 @@ use Rattle.std.specs.Float.Ieee.Bits.{of_bits-to_bits, to_bits-lt, nan_bits_abov
 use Rattle.std.specs.Float.Ieee.Compare.{differs_from_itself, nan_differs}
 use Rattle.algebra.specs.Order.{lt_or_le}
 use Rattle.rounding.specs.Cut.{infinity}
-use Rattle.rounding.specs.Value.{infinity_is}
+use Rattle.rounding.proofs.Value.{infinity_is}
 
 -- +0, as a literal in code is
 abbrev pub zero_above : Float

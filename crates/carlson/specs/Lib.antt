@@ -1,6 +1,5 @@
 pub mod Constants
 pub mod Answer
-pub mod AnswerLaws
 pub mod Only
 pub mod Ways
 pub mod Loop

@@ -1,7 +1,7 @@
 -- How a property goes through the rescaling, whatever is rescaled. Assumes nothing.
 use Rattle.std.specs.Prelude.{Float}
 use Rattle.binary64.specs.Operators.{◌⊘◌}
-use Rattle.carlson.specs.Only.{chosen, chosen_both}
+use Rattle.carlson.proofs.Only.{chosen, chosen_both}
 use Rattle.carlson_arguments.specs.Rescaling.{scale_of2, scale_of3, rescales2, rescales3, rescaling2, rescaling3}
 
 -- rescaled or not: P of what the steps give, Q of that and of what comes back

@@ -5,11 +5,13 @@ use Rattle.std.proofs.Common.{◌∙◌, arith}
 use Rattle.std.specs.Float.{binary64}
 use Rattle.std.specs.Float.Ieee.{round, of_bits, to_bits}
 use Rattle.std.specs.Float.Ieee.Scale.{round_same}
-use Rattle.algebra.specs.Ring.{con, ◌:*◌, ◌≈◌, ring}
+use Rattle.algebra.specs.Ring.{con, ◌:*◌, ◌≈◌}
+use Rattle.algebra.proofs.Ring.{ring}
 use Rattle.binary64.specs.Operators.{bits}
 use Rattle.series.specs.Ln.{ln}
 use Rattle.swing.specs.Period.{ratio}
-use Rattle.swing.specs.Ranges.{From1, within_from}
+use Rattle.swing.specs.Ranges.{From1}
+use Rattle.swing.proofs.Ranges.{within_from}
 use Rattle.decay.specs.Quotients.{ratio_is}
 use Rattle.decay.specs.Decrement.{decay_of}
 use Rattle.decay.specs.declared.Decay.TheVariants.{Decrement}

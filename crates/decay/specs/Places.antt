@@ -13,7 +13,7 @@ use Rattle.series.specs.Names.{signed_bits}
 use Rattle.parted.specs.Parts.{measured, parted_of, rounded_of}
 use Rattle.parted.specs.Rounds.{nearest_units}
 use Rattle.swing.specs.Period.{within, ratio}
-use Rattle.swing.specs.Ranges.{in_within}
+use Rattle.swing.proofs.Ranges.{in_within}
 use Rattle.decay.specs.Decrement.{amplitude_number, decay_of}
 use Rattle.decay.specs.Small.{Small, decrement_small}
 use Rattle.decay.specs.declared.Decay.{Decay}

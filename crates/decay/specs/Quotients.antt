@@ -6,11 +6,13 @@ use Rattle.std.specs.Float.Ieee.{round, of_int}
 use Rattle.std.specs.Float.Ieee.Back.{round_whole}
 use Rattle.std.specs.Float.Ieee.Exact.{HasValue}
 use Rattle.std.specs.Float.Ieee.Scale.{round_same}
-use Rattle.algebra.specs.Ring.{◌:*◌, ◌≈◌, ring}
-use Rattle.between.specs.Between.{Form, div_is, form_of}
+use Rattle.algebra.specs.Ring.{◌:*◌, ◌≈◌}
+use Rattle.algebra.proofs.Ring.{ring}
+use Rattle.between.specs.Between.{Form}
+use Rattle.between.proofs.Between.{div_is, form_of}
 use Rattle.swing.specs.Period.{whole, ratio}
 use Rattle.swing.specs.Ranges.{From1}
-use Rattle.swing.specs.Ratios.{in_units}
+use Rattle.swing.proofs.Ratios.{in_units}
 
 exact : (n : ℕ) → n ≤ 2 ^ 53 → HasValue (whole n) false n 1
 unfolding of_int

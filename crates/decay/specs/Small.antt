@@ -6,18 +6,20 @@ use Rattle.std.proofs.Math.Path.{subst}
 use Rattle.std.specs.Float.{binary64}
 use Rattle.std.specs.Float.Ieee.{size, round, of_bits, to_bits}
 use Rattle.algebra.specs.Order.{lt_or_le}
-use Rattle.algebra.specs.Ring.{con, ◌:*◌, ◌≈◌, ◌⊩◌, ◌times◌≼◌, below}
+use Rattle.algebra.specs.Ring.{con, ◌:*◌, ◌≈◌, ◌⊩◌, ◌times◌≼◌}
+use Rattle.algebra.proofs.Ring.{below}
 use Rattle.rounding.specs.Cut.{infinity, value}
-use Rattle.enclosure.specs.Sizes.{above_one_size, below_one_size}
+use Rattle.enclosure.proofs.Sizes.{above_one_size, below_one_size}
 use Rattle.enclosure.specs.Rules.{ln_answer, ln_below_answer, gain_answer, loss_answer}
 use Rattle.series.specs.Pattern.{field, digits}
 use Rattle.series.specs.Near.{signed}
 use Rattle.series.specs.Scaled as whole
 use Rattle.series.specs.Ln.{half, one, two, ln_close, below_exponent, full_digits, ln}
-use Rattle.series.specs.Cases as cases
+use Rattle.series.proofs.Cases as cases
 use Rattle.series.specs.Exponents.{full_low, full_high, digits_most, answer_fits, answer_size, below_fits, below_size}
-use Rattle.binary64.specs.Meaning.{bits_back}
-use Rattle.between.specs.Between.{Between, fraction_between}
+use Rattle.binary64.proofs.Meaning.{bits_back}
+use Rattle.between.specs.Between.{Between}
+use Rattle.between.proofs.Between.{fraction_between}
 use Rattle.swing.specs.Period.{ratio}
 use Rattle.swing.specs.Ranges.{From1}
 use Rattle.decay.specs.Quotients.{ratio_is}

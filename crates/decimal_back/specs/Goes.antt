@@ -7,7 +7,8 @@ use Rattle.std.proofs.Math.Bool.{true, false}
 use native.Mathlib.Omega.{arith}
 use borrow.Author.Tests.{lt-ltb, le-ltb, le-leb, ne_eqb}
 use Rattle.std.proofs.Math.Dec.{leb}
-use Rattle.algebra.specs.Ring.{con, nxt, ◌:+◌, ◌:*◌, ◌≈◌, ◌⊩◌, ◌times◌≼◌, ring}
+use Rattle.algebra.specs.Ring.{con, nxt, ◌:+◌, ◌:*◌, ◌≈◌, ◌⊩◌, ◌times◌≼◌}
+use Rattle.algebra.proofs.Ring.{ring}
 use Rattle.digits.specs.Digits.{glyph_of, digits}
 use Rattle.decimal_scan.specs.declared.figures.Figures.{Figures}
 use Rattle.decimal_scan.specs.declared.scan.Scan.{Scan}

@@ -2,5 +2,3 @@ pub mod Count
 pub mod Goes
 pub mod Laid
 pub mod Same
-pub mod Value
-pub mod Back

@@ -14,7 +14,7 @@ use Rattle.decimal.specs.Decimal.{ones, decimal_of}
 use Rattle.decimal_scan.specs.Scan.{start_of, bytes_after, is_whole}
 use Rattle.decimal_scan.specs.Number.{text_value}
 use Rattle.decimal_read.specs.SaidLaws.{same_number}
-use Rattle.decimal_short.specs.Within.{ten_pos}
+use Rattle.decimal_short.proofs.Within.{ten_pos}
 use Rattle.decimal_text.specs.declared.shape.Shape.{Shape}
 use Rattle.decimal_text.specs.Shape.{whole_shape, point_shape, power_shape, shape_of, shape_text}
 use Rattle.decimal_text.specs.Text.{sign_text}

@@ -11,7 +11,8 @@ use borrow.Author.Tests.{lt-ltb, le-ltb, eqb-true, eqb-false}
 use Rattle.std.proofs.Math.Dec.{eqb}
 use Rattle.std.proofs.Math.Pow.{pow-add}
 use Rattle.algebra.specs.Order.{lt_or_le}
-use Rattle.algebra.specs.Ring.{con, ◌:+◌, ◌:*◌, ◌≈◌, ◌⊩◌, ◌times◌≼◌, ring}
+use Rattle.algebra.specs.Ring.{con, ◌:+◌, ◌:*◌, ◌≈◌, ◌⊩◌, ◌times◌≼◌}
+use Rattle.algebra.proofs.Ring.{ring}
 use Rattle.decimal_scan.specs.declared.figures.Figures.{Figures}
 use Rattle.decimal_scan.specs.Figures.{no_figures, first_of, grown_by, figures_after}
 

@@ -1,10 +1,7 @@
 pub mod Shortest
 pub mod Above
 pub mod Within
-pub mod Order
-pub mod Largest
 pub mod Seventeen
 pub mod Range
-pub mod Fewest
 pub mod Closest
 pub mod Examples

@@ -7,7 +7,7 @@ use native.Mathlib.Omega.{arith}
 use borrow.Author.Tests.{eq-eqb, ne_eqb}
 use lib.ListN.{length, set, length-set, length-append}
 use Rattle.digits.specs.Digits.{digits}
-use Rattle.digits.specs.DigitLaws.{digits_length}
+use Rattle.digits.proofs.DigitLaws.{digits_length}
 use Rattle.writing.specs.Decimal.{places_of, decimal}
 use Rattle.writing.specs.Places.{places_same}
 use Rattle.writing.specs.Written.{Put, Tried, tried_put, put_more, put_length, put_none, put_byte}

@@ -10,14 +10,14 @@ use native.Mathlib.Omega.{arith}
 use Rattle.std.proofs.Math.Dec.{ltb, leb}
 use Rattle.algebra.specs.Order.{lt_or_le}
 use Rattle.digits.specs.Digits.{digits}
-use Rattle.digits.specs.DigitLaws.{digits_length}
+use Rattle.digits.proofs.DigitLaws.{digits_length}
 use Rattle.writing.specs.Decimal.{places_of, decimal}
 use Rattle.writing.specs.Places.{places_some, places_hold, places_few}
 use Rattle.fives.specs.Powers.{five_of}
 use Rattle.fives.specs.Laws.{five_is}
 use Rattle.decimal.specs.Decimal.{ones}
-use Rattle.decimal_short.specs.Within.{ten_pos}
-use Rattle.decimal_short.specs.Largest.{ten_is}
+use Rattle.decimal_short.proofs.Within.{ten_pos}
+use Rattle.decimal_short.proofs.Largest.{ten_is}
 use Rattle.decimal_text.specs.declared.shape.Shape.{Shape}
 use Rattle.decimal_text.specs.Shape.{whole_shape, point_shape, power_shape, shape_of, places_text, power_text, shape_text}
 

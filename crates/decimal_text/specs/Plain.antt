@@ -10,7 +10,7 @@ use Rattle.std.specs.Float.Ieee.{binary64, up, down, odd, fits, is_nan, lt, ne, 
 use Rattle.std.specs.Float.Ieee.Bits.{of_bits-to_bits}
 use Rattle.std.specs.Float.Ieee.Compare.{nan_differs}
 use Rattle.rounding.specs.Cut.{infinity}
-use Rattle.rounding.specs.Value.{infinity_is}
+use Rattle.rounding.proofs.Value.{infinity_is}
 use Rattle.binary64.specs.Leaves.{absolute}
 use Rattle.binary64.specs.Tests.{zero_above, ne_itself, number_above}
 use Rattle.digits.specs.Digits.{digits, glyph_of}
@@ -18,8 +18,8 @@ use Rattle.writing.specs.Decimal.{places_of, decimal}
 use Rattle.decimal.specs.Decimal.{ones}
 use Rattle.decimal_short.specs.Shortest.{place_of, shortest}
 use Rattle.decimal_short.specs.Above.{above_told}
-use Rattle.decimal_short.specs.Range.{place_least, place_most}
-use Rattle.decimal_short.specs.Fewest.{seventeen_digits}
+use Rattle.decimal_short.proofs.Range.{place_least, place_most}
+use Rattle.decimal_short.proofs.Fewest.{seventeen_digits}
 use Rattle.decimal_text.specs.declared.shape.Shape.{Shape}
 use Rattle.decimal_text.specs.Shape.{whole_shape, shape_of, places_text, power_text, shape_text}
 use Rattle.decimal_text.specs.Text.{sign_text, size_text, text_of}

@@ -12,11 +12,11 @@ use Rattle.calls.specs.declared.Call.{Call}
 use Rattle.calls.specs.declared.Call.TheVariants.{Rc, Rf, Rd, Rg, Rj, Cel}
 use Rattle.answers.specs.Answers.{number, answer_of}
 use Rattle.units.specs.Statement.{InRange, TimesFour, Alike}
-use Rattle.units_rf.specs.Rc.{rc_scales}
-use Rattle.units_rf.specs.Rf.{rf_scales}
-use Rattle.units_rd.specs.Rd.{rd_scales}
-use Rattle.units_rg.specs.Rg.{rg_scales}
-use Rattle.units_rj.specs.Rj.{rj_scales}
+use Rattle.units_rf.proofs.Rc.{rc_scales}
+use Rattle.units_rf.proofs.Rf.{rf_scales}
+use Rattle.units_rd.proofs.Rd.{rd_scales}
+use Rattle.units_rg.proofs.Rg.{rg_scales}
+use Rattle.units_rj.proofs.Rj.{rj_scales}
 
 -- ---- the statement
 -- two arguments that belong together, by their patterns: both in range, and the second the first times 4 ^ u / 4 ^ d
@@ -51,27 +51,3 @@ down (Rd x y z) u d = 3 * u
 down (Rg x y z) u d = d
 down (Rj x y z p) u d = 3 * u
 down (Cel kc p a b) u d = 0
-
--- ---- THE THEOREM
-pub units_drop_out : (u d : ℕ) (c c' : Call) → Scaled u d c c' → Alike (up c u d) (down c u d) (answer_of c) (answer_of c')
-unfolding answer_of
-units_drop_out u d (Rc x y) (Rc x' y') (rc X Y) =
-    rc_scales u d (number x) (number y) (number x') (number y') X.first Y.first X.second Y.second X.factor
-    Y.factor
-units_drop_out u d (Rf x y z) (Rf x' y' z') (rf X Y Z) =
-    rf_scales u d (number x) (number y) (number z) (number x') (number y') (number z') X.first Y.first Z.first
-    X.second Y.second
-    Z.second X.factor Y.factor Z.factor
-units_drop_out u d (Rd x y z) (Rd x' y' z') (rd X Y Z) =
-    rd_scales u d X.first Y.first Z.first X.second Y.second Z.second X.factor Y.factor Z.factor
-units_drop_out u d (Rg x y z) (Rg x' y' z') (rg X Y Z) =
-    rg_scales u d X.first Y.first Z.first X.second Y.second Z.second X.factor Y.factor Z.factor
-units_drop_out u d (Rj x y z p) (Rj x' y' z' p') (rj X Y Z P plus) =
-    rj_scales u d (number x) (number y) (number z) (number p) (number x') (number y') (number z') (number p') X.first
-    Y.first Z.first
-    P.first X.second Y.second Z.second P.second plus X.factor Y.factor Z.factor P.factor
-
--- and of the functions: whatever two calls of `answer_of` answer, whose contract is r ≡ answer_of c
-pub called : (u d : ℕ) (c c' : Call) (r r' : Answer) → r ≡ answer_of c → r' ≡ answer_of c' → Scaled u d c c'
-    → Alike (up c u d) (down c u d) r r'
-called u d c c' r r' e e' s = subst₂ (Alike (up c u d) (down c u d)) (sym e) (sym e') (units_drop_out u d c c' s)

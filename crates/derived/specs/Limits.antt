@@ -17,22 +17,3 @@ reciprocal = bits 0x37F0_0000_0000_0001
 -- the largest f64, just under 2 ^ 1024
 abbrev pub greatest : Float
 greatest = bits 0x7FEF_FFFF_FFFF_FFFF
-
--- "the eighth root of the largest f64, taken as three rounded square roots"
-pub limit_is : root (root (root greatest)) ≡ limit
-unfolding root rounded value of_bits
-limit_is = refl
-
--- (1 over the limit)
-pub reciprocal_is : bits 0x3FF0_0000_0000_0000 ⊘ limit ≡ reciprocal
-unfolding div of_bits
-reciprocal_is = refl
-
--- "So 2^128 and 2^-128 are rescaled."
-pub rescaled_from : lt limit (bits 0x47F0_0000_0000_0000) ≡ true
-unfolding of_bits lt
-rescaled_from = refl
-
-pub rescaled_to : lt (bits 0x37F0_0000_0000_0000) reciprocal ≡ true
-unfolding of_bits lt
-rescaled_to = refl

@@ -1,4 +1,3 @@
 pub mod Verdict
-pub mod ByParts
 pub mod Measured
 pub mod VerdictLaws

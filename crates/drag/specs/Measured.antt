@@ -4,7 +4,7 @@ use Rattle.std.proofs.Common.{ap, ◌∙◌, arith, lt-ltb}
 use Rattle.std.specs.Float.{binary64}
 use Rattle.std.specs.Float.Ieee.{to_bits}
 use Rattle.rounding.specs.Cut.{infinity}
-use Rattle.binary64.specs.Meaning.{bits_back}
+use Rattle.binary64.proofs.Meaning.{bits_back}
 use Rattle.between.specs.Between.{Between}
 use Rattle.swing.specs.Ratios.{power}
 use Rattle.parted.specs.Parts.{measured}

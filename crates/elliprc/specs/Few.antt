@@ -5,7 +5,8 @@ use Rattle.binary64.specs.Operators.{◌⊘◌}
 use Rattle.root.specs.Root.{root}
 use Rattle.carlson.specs.Answer.{both_ways, wrapped_ways, closed_at}
 use Rattle.carlson_arguments.specs.Rescaled.{rescaled2_to}
-use Rattle.carlson.specs.Ways.{Within, counted, wider, rescaled_within, within_ways}
+use Rattle.carlson.specs.Ways.{Within}
+use Rattle.carlson.proofs.Ways.{counted, wider, rescaled_within, within_ways}
 use Rattle.elliprc.specs.Rc.{rc_found, over_root, rc_unchecked}
 
 pub rc_within : (x y : Float) → Within 0 1 (rc_unchecked x y).way

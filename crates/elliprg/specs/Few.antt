@@ -9,16 +9,17 @@ use Rattle.carlson.specs.Constants.{zero}
 use Rattle.carlson.specs.Common.{mean_cap}
 use Rattle.carlson.specs.Answer.{way_of, closed_at, carried_at, agm_at}
 use Rattle.carlson.specs.Loop.{capped_holds}
-use Rattle.carlson.specs.Only.{chosen}
+use Rattle.carlson.proofs.Only.{chosen}
 use Rattle.carlson_arguments.specs.Rescaled.{rescaled3_to}
-use Rattle.carlson.specs.Ways.{Within, Few, counted, wider, few_wider, rescaled_within}
+use Rattle.carlson.specs.Ways.{Within, Few}
+use Rattle.carlson.proofs.Ways.{counted, wider, few_wider, rescaled_within}
 use Rattle.carlson.specs.declared.answer.Answer.{Answer}
 use Rattle.carlson.specs.declared.answer.Answer.TheVariants.{Value, Refused}
 use Rattle.sorting.specs.Sorting.{largest_first}
 use Rattle.elliprc.specs.Few.{rc_within}
 use Rattle.rg_means.specs.Means.{rg_begin, rg_next, rg_together, rg_agm_found, rg_agm_spent, rg_agm_of}
 use Rattle.rg_joint.specs.Joint.{joint_cap}
-use Rattle.rg_joint.specs.Few.{joint_within}
+use Rattle.rg_joint.proofs.Few.{joint_within}
 use Rattle.elliprg.specs.Rg.{rg_equal, rg_zero, rg_two, rg_alone, rg_top, rg_low, rg_sorted, rg_steps, times_root, rg_unchecked}
 
 abbrev Steps : Answer → Type 0

@@ -1,2 +1,1 @@
 pub mod Rj
-pub mod Halves

@@ -112,14 +112,8 @@ ln_below_upper m e n = whole (2 * e) ⊠ T-upper third third_proper n ⊟ whole 
 abbrev pub gain : Quotient → Quotient
 gain a = record { num = a.num; den = 2 * a.den + a.num; pos = omega (arith, a.pos) }
 
-pub gain_proper : (a : Quotient) → (gain a).num < (gain a).den
-gain_proper a = omega (arith, a.pos)
-
 abbrev pub loss : (a : Quotient) → a.num < a.den → Quotient
 loss a h = record { num = a.num; den = 2 * a.den - a.num; pos = omega arith }
-
-pub loss_proper : (a : Quotient) (h : a.num < a.den) → (loss a h).num < (loss a h).den
-loss_proper a h = omega arith
 
 -- the ends of 2 T(s)
 unfoldable pub double_lower : Quotient → ℕ → Quotient

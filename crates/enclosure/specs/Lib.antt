@@ -11,15 +11,5 @@ pub mod Slope
 pub mod Values
 pub mod Atan
 pub mod Logarithm
-pub mod Constants
-pub mod Tiny
-pub mod Rise
 pub mod Addition
-pub mod Seeds
-pub mod Steep
-pub mod Below
-pub mod Ln
-pub mod Sizes
-pub mod Answers
 pub mod Rules
-pub mod Examples

@@ -1,7 +1,8 @@
 -- The order of quotients: sums, differences and products keep it. Assumes nothing.
 use Rattle.std.specs.Prelude.{ℕ, ◌+◌, ◌^◌, ◌≤◌, [], ◌∷◌}
 use Rattle.std.proofs.Common.{sym, le_of_mul-le-mul_right, le_of_eq, mul-le-mul_right, arith}
-use Rattle.algebra.specs.Ring.{◌:+◌, ◌:*◌, ◌≈◌, ◌⊩◌, ◌times◌≼◌, Law, by_ring, Order, by_below}
+use Rattle.algebra.specs.Ring.{◌:+◌, ◌:*◌, ◌≈◌, ◌⊩◌, ◌times◌≼◌, Law, Order}
+use Rattle.algebra.proofs.Ring.{by_ring, by_below}
 use Rattle.enclosure.specs.Quotient.{Quotient, ◌≼◌, parts, ◌⊞◌, ◌⊠◌}
 
 pub ≼_refl : {x : Quotient} → x ≼ x

@@ -2,3 +2,5 @@
 mod Over
 mod Moved
 mod Held
+pub mod ExactLaws
+pub mod Examples

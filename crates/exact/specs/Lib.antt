@@ -1,4 +1,3 @@
 pub mod Exact
 pub mod Steps
 pub mod ExactLaws
-pub mod Examples

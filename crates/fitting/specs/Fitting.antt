@@ -32,7 +32,7 @@ use Rattle.carlson.specs.Answer.{
   settled_late,
 }
 use Rattle.carlson.specs.Loop.{capped_holds}
-use Rattle.carlson.specs.Only.{chosen}
+use Rattle.carlson.proofs.Only.{chosen}
 use Rattle.carlson_arguments.specs.Rescaled.{rescaled2, rescaled3}
 use Rattle.carlson.specs.declared.answer.Found.{Found}
 use Rattle.carlson.specs.declared.answer.Answer.{Answer}

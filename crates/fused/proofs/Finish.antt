@@ -1,13 +1,14 @@
 -- From the windows to the f64s: the sum of the two windows is `fused`. Assumes nothing.
 use Rattle.std.proofs.Common.{◌≡◌, ℕ, ◌+◌, ◌-◌, ◌*◌, ◌%◌, ◌^◌, ◌<◌, ◌≤◌, Bool, leb, [], ◌∷◌, sym, refl, ◌∙◌, mul-le-mul, mul-pos, arith, pow_pos, pow-add}
 use lib.Ieee.{Float, unlike, binary64, sum, of_bits}
-use Rattle.algebra.specs.Ring.{con, ◌:*◌, ◌≈◌, ◌⊩◌, ◌times◌≼◌, ring}
+use Rattle.algebra.specs.Ring.{con, ◌:*◌, ◌≈◌, ◌⊩◌, ◌times◌≼◌}
+use Rattle.algebra.proofs.Ring.{ring}
 use Rattle.rounding.specs.Cut.{value}
 use Rattle.fused.specs.Fused.{times, fused}
 use Rattle.nearest.specs.Stands.{wide}
 use Rattle.fused.specs.Parts.{Scaled, Window}
 use Rattle.fused.specs.Signs.{sum_same}
-use Rattle.fused.specs.Laws.{fused_sum}
+use Rattle.fused.proofs.Laws.{fused_sum}
 use Rattle.fused.proofs.Pattern.{bits_value}
 
 -- ---- the windows

@@ -7,3 +7,5 @@ mod Unit
 mod Pattern
 mod Finish
 mod Zeros
+pub mod Examples
+pub mod Laws

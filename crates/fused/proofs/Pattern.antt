@@ -6,7 +6,7 @@ use lib.Ieee.Exact.{HasValue, odd_sign}
 use lib.Ieee.Bits.{of_bits-to_bits}
 use Rattle.algebra.specs.Order.{lt_or_le}
 use Rattle.rounding.specs.Cut.{value, infinity}
-use Rattle.rounding.specs.Value.{value_at, value_small}
+use Rattle.rounding.proofs.Value.{value_at, value_small}
 use Rattle.binary64.specs.Tests.{number}
 use Rattle.fused.specs.Fused.{fused}
 

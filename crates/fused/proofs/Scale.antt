@@ -3,7 +3,7 @@ use Rattle.std.proofs.Common.{◌≡◌, ℕ, ◌+◌, ◌-◌, ◌*◌, ◌/◌
 use lib.Count.{count_leading_zeros}
 use Rattle.algebra.specs.Order.{lt_or_le}
 use Rattle.rounding.specs.Cut.{infinity, value}
-use Rattle.rounding.specs.Value.{value_small, value_high}
+use Rattle.rounding.proofs.Value.{value_small, value_high}
 use Rattle.fused.specs.Parts.{Scaled}
 use Rattle.nearest.specs.Normal.{Normal, normal}
 

@@ -7,7 +7,7 @@ use lib.Ieee.Scale.{finite, round_same}
 use Rattle.binary64.specs.Tests.{number, Zero, a_zero, same_no_nan}
 use Rattle.fused.specs.Fused.{times, fused}
 use Rattle.fused.specs.Signs.{sum_plus, sum_more}
-use Rattle.fused.specs.Laws.{add_values, times_value}
+use Rattle.fused.proofs.Laws.{add_values, times_value}
 
 -- ---- not finite
 pub first_special : (a b c : Float) → finite a ≡ false → add binary64 (mul binary64 a b) c ≡ fused a b c

@@ -1,5 +1,4 @@
 pub mod Fused
-pub mod Examples
 pub mod Laws
 pub mod Signs
 pub mod Parts

@@ -11,9 +11,9 @@ use Rattle.std.specs.Float.Ieee.Bits.{of_bits-to_bits}
 use Rattle.std.specs.Float.Ieee.Digits.{size-lt, size_reaches}
 use Rattle.algebra.specs.Order.{lt_or_le}
 use Rattle.rounding.specs.Cut.{value}
-use Rattle.rounding.specs.Value.{value_at, value_small}
+use Rattle.rounding.proofs.Value.{value_at, value_small}
 use Rattle.scaling.specs.Units.{Is, bits, is_bits}
-use Rattle.scaling.specs.Last.{digits_of, multiple}
+use Rattle.scaling.proofs.Last.{digits_of, multiple}
 
 -- the pattern of n units, with the sign's bit not set
 unfoldable pub pattern : ℕ → ℕ

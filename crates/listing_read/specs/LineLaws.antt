@@ -4,7 +4,7 @@ use Rattle.std.specs.Prelude.{ℕ, zero, suc, ◌+◌, ◌*◌, ◌^◌, ◌≤�
 use Rattle.std.proofs.Common.{sym, ap, ◌∙◌, append_assoc, add-one, arith, eqb-true, eq-eqb, ne_eqb, ltb-true, ltb-false, lit<, lit≤, length-append, length-drop, drop_of_length-le, take-append-drop, drop-cons, drop-drop, take_all, take_at, length-take-le}
 use Rattle.std.proofs.Math.Seq.{drop-append-add, get_or-append_seam}
 use Rattle.digits.specs.Digits.{digits, number_from, word_text}
-use Rattle.digits.specs.DigitLaws.{digits_length, word_length, read_written, written_read}
+use Rattle.digits.proofs.DigitLaws.{digits_length, word_length, read_written, written_read}
 use Rattle.digits.specs.declared.Word.{Word}
 use Rattle.digits.specs.declared.Word.TheVariants.{Is, Not}
 use Rattle.calls.specs.Calls.{name_of, arguments_of, arity_of}

@@ -5,7 +5,7 @@ use Rattle.carlson.specs.declared.answer.Answer.{Answer}
 use Rattle.carlson.specs.declared.answer.Answer.TheVariants.{Value, Refused}
 use Rattle.writing.specs.Decimal.{decimal}
 use Rattle.writing.specs.Places.{places_most}
-use Rattle.digits.specs.DigitLaws.{digits_length, word_length}
+use Rattle.digits.proofs.DigitLaws.{digits_length, word_length}
 use Rattle.calls.specs.CallLaws.{name_length}
 use Rattle.calls.specs.declared.Call.{Call}
 use Rattle.carlson.specs.declared.answer.Found.{Found}

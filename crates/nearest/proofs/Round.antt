@@ -10,11 +10,12 @@ use native.Mathlib.Nat.{zero-add, mul-pos, mul-one, mod-lt, mul-lt-mul_of_pos_ri
 use native.Mathlib.Omega.{arith}
 use lib.Pow.{pow_pos, pow-add, split}
 use lib.Ieee.{Float, inf, binary64, nearest, round, neg, of_bits}
-use Rattle.algebra.specs.Ring.{con, ◌:+◌, ◌:*◌, ◌≈◌, ◌⊩◌, ◌times◌≼◌, ring}
+use Rattle.algebra.specs.Ring.{con, ◌:+◌, ◌:*◌, ◌≈◌, ◌⊩◌, ◌times◌≼◌}
+use Rattle.algebra.proofs.Ring.{ring}
 use Rattle.algebra.specs.Order.{Compared, compared, scaled_compare}
 use Rattle.rounding.specs.Cut.{infinity}
-use Rattle.rounding.specs.Value.{infinity_is}
-use Rattle.rounding.specs.Fraction.{pick, beyond, rounded_fraction}
+use Rattle.rounding.proofs.Value.{infinity_is}
+use Rattle.rounding.proofs.Fraction.{pick, beyond, rounded_fraction}
 use Rattle.rounding.specs.Jam.{Jam, Digits, jam_digits}
 use Rattle.nearest.proofs.Even.{near_half, quotient_small}
 use Rattle.nearest.specs.Signed.{round_sign}

@@ -8,7 +8,7 @@ use Rattle.std.specs.Float.Ieee.Fits.{and_l, and_r}
 use Rattle.std.specs.Float.Ieee.Scale.{finite}
 use Rattle.algebra.specs.Order.{lt_or_le}
 use Rattle.rounding.specs.Cut.{infinity}
-use Rattle.rounding.specs.Value.{infinity_is}
+use Rattle.rounding.proofs.Value.{infinity_is}
 use Rattle.rounding.specs.Sign.{bits_neg}
 use Rattle.binary64.specs.Tests.{bits_nan}
 use Rattle.distance.specs.Steps.{finite_pattern}
@@ -18,7 +18,8 @@ use Rattle.carlson.specs.declared.answer.Answer.TheVariants.{Value, Refused}
 use Rattle.calls.specs.declared.Call.{Call}
 use Rattle.calls.specs.declared.Call.TheVariants.{Rc, Rf, Rd, Rg, Rj, Cel}
 use Rattle.answers.specs.Answers.{answer_of}
-use Rattle.demands.specs.Total.{numbers_of, total}
+use Rattle.demands.specs.Total.{numbers_of}
+use Rattle.demands.proofs.Total.{total}
 use Rattle.fitting.specs.Fitting.{Fit, Fits, fitting}
 
 -- ---- the pattern of a finite f64

@@ -8,7 +8,7 @@ use Rattle.carlson.specs.declared.answer.Found.{Found}
 use Rattle.carlson.specs.declared.answer.Answer.{Answer}
 use Rattle.carlson.specs.declared.answer.Answer.TheVariants.{Value, Refused}
 use Rattle.digits.specs.Digits.{glyph_of, digits, word_text}
-use Rattle.digits.specs.DigitLaws.{digits_length, read_written}
+use Rattle.digits.proofs.DigitLaws.{digits_length, read_written}
 use Rattle.digits.specs.declared.Word.TheVariants.{Is, Not}
 use Rattle.writing.specs.Decimal.{places_of, decimal}
 use Rattle.writing.specs.Places.{places_most, places_some, places_hold}

@@ -26,12 +26,14 @@ use Rattle.listing_stream.specs.Replies.{answer_by, admitted, reply_to, reply_of
 use Rattle.listing_stream.specs.Stream.{header_text, replies_to, listing_of}
 use Rattle.unpack_stream.specs.Unpack.{lines_of}
 use Rattle.job_answers.specs.JobAnswers.{call_of_job}
-use Rattle.claim.specs.ClaimLaws.{Finite, own_meets}
+use Rattle.claim.specs.ClaimLaws.{Finite}
+use Rattle.claim.proofs.ClaimLaws.{own_meets}
 use Rattle.claim.specs.declared.rows.Checked.TheVariants.{Accepted}
 use Rattle.claim_read.specs.Line.{refused_word}
 use Rattle.claim_read.specs.FieldLaws.{Over}
 use Rattle.table.specs.Table.{row_meets, rows_from, table_of, check_of}
-use Rattle.table.specs.TableLaws.{own_words, own_accepted}
+use Rattle.table.specs.TableLaws.{own_words}
+use Rattle.table.proofs.TableLaws.{own_accepted}
 use Rattle.table_lines.specs.Lines.{is_header, without_header, line_claim, line_claims, check_lines}
 use Rattle.own_table.specs.OwnAnswers.{Sayable, answer_sayable}
 use Rattle.own_table.specs.OwnLine.{

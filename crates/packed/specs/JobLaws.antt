@@ -13,7 +13,8 @@ use Rattle.packed_number.specs.Numbers.{number_bytes, number_at}
 use Rattle.packed.specs.Jobs.{unknown_function, arity_of, argument_of, with_argument, argument_bytes, job_bytes, job_length}
 use Rattle.packed.specs.Reading.{begun, function_read, argument_read, argument_at, argument_after, job_at, read_at}
 use Rattle.packed.specs.LengthLaws.{number_least, job_length_sum}
-use Rattle.packed_number.specs.NumberLaws.{Bytes, Stands, number_at_back, number_at_bytes}
+use Rattle.packed_number.specs.NumberLaws.{Bytes, Stands}
+use Rattle.packed_number.proofs.NumberLaws.{number_at_back, number_at_bytes}
 use Rattle.packed_number.specs.declared.Number.{Number}
 use Rattle.packed_number.specs.declared.Number.TheVariants.{Whole, Refused as NoNumber}
 use Rattle.packed.specs.declared.jobs.Job.{Job}

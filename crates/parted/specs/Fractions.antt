@@ -6,7 +6,8 @@ use Rattle.std.proofs.Math.Path.{refl, ap, ap₂}
 use Rattle.std.proofs.Common.{sym, ◌∙◌, subst, mod-lt, div-add-mod', mul-pos, add-zero, eq-zero-or-pos, arith, eq-eqb, ne_eqb}
 use Rattle.std.proofs.Math.Logic.{inl, inr}
 use Rattle.std.proofs.Math.Nat.{mul-add-div_right, mul-add-mod_self_right, div-eq_of_lt, mod-eq_of_lt}
-use Rattle.algebra.specs.Ring.{con, ◌:+◌, ◌:*◌, ◌≈◌, ◌⊩◌, ◌times◌≼◌, ring}
+use Rattle.algebra.specs.Ring.{con, ◌:+◌, ◌:*◌, ◌≈◌, ◌⊩◌, ◌times◌≼◌}
+use Rattle.algebra.proofs.Ring.{ring}
 use Rattle.algebra.specs.Order.{Compared, compared, lt_compare, eq_compare, gt_compare, scaled_compare}
 use Rattle.rounding.specs.Jam.{Jam, jam_even}
 use Rattle.parted.specs.Parts.{side_of, part_of, parts_of}

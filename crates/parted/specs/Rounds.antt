@@ -11,10 +11,11 @@ use Rattle.std.specs.Float.Ieee.{binary64, fits, nearest}
 use Rattle.std.specs.Float.Ieee.Fits.{and_l, and_r}
 use Rattle.std.specs.Float.Ieee.Nearest.{closest}
 use Rattle.std.specs.Float.Ieee.Positive.{num, den, den_pos}
-use Rattle.algebra.specs.Ring.{con, nxt, ◌:*◌, ◌≈◌, ◌⊩◌, ◌times◌≼◌, below}
+use Rattle.algebra.specs.Ring.{con, nxt, ◌:*◌, ◌≈◌, ◌⊩◌, ◌times◌≼◌}
+use Rattle.algebra.proofs.Ring.{below}
 use Rattle.algebra.specs.Order.{lt_compare}
 use Rattle.rounding.specs.Cut.{value}
-use Rattle.rounding.specs.Value.{value_lt}
+use Rattle.rounding.proofs.Value.{value_lt}
 use Rattle.parted.specs.Parts.{side_of, part_of, parts_of, measured, parted_of, step_of, rounded_of}
 use Rattle.parted.specs.Sizes.{size_is}
 

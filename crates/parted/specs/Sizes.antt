@@ -8,10 +8,11 @@ use Rattle.std.specs.Float.{nan, inf, fin, binary64}
 use Rattle.std.specs.Float.Ieee.{fits, neg}
 use Rattle.std.specs.Float.Ieee.Bits.{of_bits-to_bits, to_bits-lt}
 use Rattle.std.specs.Float.Ieee.Positive.{num, den, den_pos, value→cross, first_pos}
-use Rattle.algebra.specs.Ring.{con, nxt, ◌:*◌, ◌≈◌, ◌⊩◌, ◌times◌≼◌, ring, below}
+use Rattle.algebra.specs.Ring.{con, nxt, ◌:*◌, ◌≈◌, ◌⊩◌, ◌times◌≼◌}
+use Rattle.algebra.proofs.Ring.{ring, below}
 use Rattle.algebra.specs.Order.{lt_or_le}
 use Rattle.rounding.specs.Cut.{value, infinity}
-use Rattle.rounding.specs.Value.{value_is, value_high, value_lt}
+use Rattle.rounding.proofs.Value.{value_is, value_high, value_lt}
 use Rattle.rounding.specs.Sign.{bits_neg}
 use Rattle.parted.specs.Parts.{parts_of, tiny_of}
 use Rattle.parted.specs.Fractions.{none, less, found, same_parts}

@@ -4,7 +4,7 @@ use Rattle.std.specs.Prelude.{◌≡◌, refl, List, length}
 use Rattle.std.proofs.Math.Nat.{le_refl}
 use Rattle.std.proofs.Common.{add-one, arith}
 use Rattle.std.proofs.Math.ListN.{length-append}
-use Rattle.digits.specs.DigitLaws.{digits_length}
+use Rattle.digits.proofs.DigitLaws.{digits_length}
 use Rattle.writing.specs.Decimal.{decimal}
 use Rattle.writing.specs.Places.{places_most}
 use Rattle.writing.specs.Written.{Put, Tried}

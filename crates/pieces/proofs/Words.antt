@@ -3,8 +3,9 @@ use Rattle.std.proofs.Common.{◌≡◌, ℕ, ◌+◌, ◌*◌, ◌/◌, ◌%◌
 use lib.Ieee.Fits.{and_r}
 use Rattle.algebra.specs.Order.{lt_or_le}
 use Rattle.enclosure.specs.Pieces.{Series, pieces, row, piece, offset, horner, value}
-use Rattle.enclosure.specs.Floors.{all_fit, horner_fits}
-use Rattle.enclosure.specs.Rows.{row_fits, offset_fits}
+use Rattle.enclosure.specs.Floors.{all_fit}
+use Rattle.enclosure.proofs.Floors.{horner_fits}
+use Rattle.enclosure.proofs.Rows.{row_fits, offset_fits}
 use Rattle.pieces_rows.specs.Row.{row_or_none}
 use Rattle.pieces.specs.Row.{value_or_zero, wrapped}
 

@@ -1,2 +1,3 @@
 -- `Table`: the constant table, entry by entry.
 mod Table
+pub mod Examples

@@ -4,10 +4,12 @@ use native.Mathlib.Nat.{two-pow-succ}
 use lib.Ieee.{Float, nan, inf, fin, binary64, up, down, of_bits}
 use lib.Ieee.Fits.{down_pos}
 use lib.Ieee.Exact.{HasValue}
-use Rattle.algebra.specs.Ring.{◌:*◌, ◌≈◌, ◌⊩◌, ◌times◌≼◌, ring}
+use Rattle.algebra.specs.Ring.{◌:*◌, ◌≈◌, ◌⊩◌, ◌times◌≼◌}
+use Rattle.algebra.proofs.Ring.{ring}
 use Rattle.rounding.specs.Cut.{Cut, infinity, value, passed, reached, rounded}
-use Rattle.rounding.specs.Value.{value_lt, value_is}
-use Rattle.rounding.specs.Laws.{Number, middle, lt_passed, gt_passed, unreached, rounded_at}
+use Rattle.rounding.proofs.Value.{value_lt, value_is}
+use Rattle.rounding.specs.Laws.{Number, middle}
+use Rattle.rounding.proofs.Laws.{lt_passed, gt_passed, unreached, rounded_at}
 use Rattle.root.specs.Parts.{four, Scaled}
 use Rattle.power.specs.Power.{power_of, power}
 use Rattle.power.specs.Laws.{power_number, same_power}

@@ -2,7 +2,7 @@
 use Rattle.std.proofs.Common.{◌≡◌, zero, suc, ◌≤◌, true, false, T, sym, refl, ap, ◌∙◌, true≢false}
 use lib.Ieee.{Float, nan, inf, fin, binary64, fits, lt, eq, of_bits, to_bits}
 use Rattle.rounding.specs.Cut.{infinity}
-use Rattle.rounding.specs.Value.{infinity_is}
+use Rattle.rounding.proofs.Value.{infinity_is}
 use Rattle.binary64.specs.Tests.{zero_above, Zero, a_zero, is_zero, zero_is, above_all, number_above}
 use Rattle.power.specs.Power.{power}
 

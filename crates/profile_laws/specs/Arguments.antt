@@ -8,12 +8,12 @@ use Rattle.std.specs.Float.Ieee.{fits, is_nan, lt, eq, neg, of_bits}
 use Rattle.std.specs.Float.Ieee.Scale.{finite}
 use Rattle.scaling.specs.Units.{Is, unique, neg_units}
 use Rattle.scaling.specs.One.{sign}
-use Rattle.scaling.specs.Plain.{whole_units_of}
-use Rattle.scaling.specs.Tests.{zero_is}
+use Rattle.scaling.proofs.Plain.{whole_units_of}
+use Rattle.scaling.proofs.Tests.{zero_is}
 use Rattle.carlson.specs.Constants.{zero}
-use Rattle.units.specs.Arguments.{no_units_of}
+use Rattle.units.proofs.Arguments.{no_units_of}
 use Rattle.rg_order.specs.Plain.{Plain}
-use Rattle.rg_order.specs.PlainLaws.{told_apart}
+use Rattle.rg_order.proofs.PlainLaws.{told_apart}
 use Rattle.profile_arguments.specs.Arguments.{plus_zero, sized}
 
 -- an f64, NaN included

@@ -9,7 +9,8 @@ use Rattle.binary64.specs.Leaves.{minimum}
 use Rattle.carlson.specs.Constants.{zero}
 use Rattle.carlson_arguments.specs.Checks.{any_nan2, any_nan3, any_nan4, below3, zeros_of3}
 use Rattle.sorting.specs.declared.Triple.{Triple}
-use Rattle.rg_order.specs.Seen.{at, smaller_below, below3_any}
+use Rattle.rg_order.specs.Seen.{at}
+use Rattle.rg_order.proofs.Seen.{smaller_below, below3_any}
 use Rattle.profile_arguments.specs.Arguments.{plus_zero, sized, sized2, sized3, sized4}
 use Rattle.profile_laws.specs.Arguments.{F64, nan_kept, below_kept, zero_kept, sized_kept}
 

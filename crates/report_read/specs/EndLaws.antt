@@ -8,7 +8,7 @@ use native.Mathlib.Omega.{arith}
 use borrow.Author.Tests.{lt-ltb, ne_eqb}
 use Rattle.exact.specs.Exact.{turn, below_zero, size_held}
 use Rattle.digits.specs.Digits.{digit_of, glyph_of, digits}
-use Rattle.digits.specs.DigitLaws.{digit_of_glyph}
+use Rattle.digits.proofs.DigitLaws.{digit_of_glyph}
 use Rattle.writing.specs.Decimal.{places_of, decimal}
 use Rattle.writing.specs.Places.{places_hold}
 use Rattle.unpack_stream.specs.Text.{letter_of, name_text}

@@ -5,7 +5,7 @@ use Rattle.std.specs.Float.{binary64}
 use Rattle.std.specs.Float.Ieee.{to_bits}
 use Rattle.exact.specs.Exact.{below_zero, size_held, rounded_held}
 use Rattle.digits.specs.Digits.{digits}
-use Rattle.digits.specs.DigitLaws.{digits_length}
+use Rattle.digits.proofs.DigitLaws.{digits_length}
 use Rattle.writing.specs.Decimal.{decimal}
 use Rattle.writing.specs.Places.{places_most}
 use Rattle.unpack_stream.specs.Text.{letter_of, name_text}

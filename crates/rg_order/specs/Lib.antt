@@ -1,4 +1,2 @@
 pub mod Plain
-pub mod PlainLaws
 pub mod Seen
-pub mod AnyOrder

@@ -3,11 +3,12 @@
 use Rattle.std.specs.Prelude.{ℕ, zero, suc, ◌+◌, ◌*◌, ◌≤◌, ◌≡◌, Float}
 use Rattle.std.proofs.Common.{arith}
 use Rattle.carlson.specs.Answer.{taylor_at}
-use Rattle.carlson.specs.Ways.{Few, counted, few_wider}
+use Rattle.carlson.specs.Ways.{Few}
+use Rattle.carlson.proofs.Ways.{counted, few_wider}
 use Rattle.carlson.specs.declared.answer.Answer.{Answer}
 use Rattle.rf_duplicate.specs.Duplicate.{rf_cap}
 use Rattle.elliprd.specs.Rd.{over_scale}
-use Rattle.elliprd.specs.Few.{over_scale_few}
+use Rattle.elliprd.proofs.Few.{over_scale_few}
 use Rattle.rj_positive.specs.Duplicate.{rj_cap}
 use Rattle.rj_positive.specs.Few.{positive_few}
 use Rattle.rj_negative.specs.declared.reduction.Reduced.{Reduced}

@@ -6,7 +6,7 @@ use Rattle.binary64.specs.Operators.{◌⊘◌}
 use Rattle.carlson.specs.Constants.{zero as zero_above}
 use Rattle.carlson_arguments.specs.Rescaling.{scale_of4, rescales4}
 use Rattle.carlson.specs.Answer.{taylor_at}
-use Rattle.carlson.specs.Only.{asked}
+use Rattle.carlson.proofs.Only.{asked}
 use Rattle.carlson.specs.declared.answer.Answer.{Answer}
 use Rattle.carlson.specs.declared.answer.Answer.TheVariants.{Value}
 use Rattle.sorting.specs.Sorting.{rising}

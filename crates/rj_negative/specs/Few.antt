@@ -3,14 +3,15 @@
 use Rattle.std.specs.Prelude.{ℕ, ◌+◌, ◌^◌, ◌<◌, ◌≡◌, refl}
 use Rattle.std.proofs.Common.{ap, ◌∙◌, arith}
 use Rattle.carlson.specs.Answer.{both_ways, wrapped_ways, reduction_at}
-use Rattle.carlson.specs.Ways.{Within, Few, wider, both_within, within_ways}
+use Rattle.carlson.specs.Ways.{Within, Few}
+use Rattle.carlson.proofs.Ways.{wider, both_within, within_ways}
 use Rattle.carlson.specs.declared.answer.Way.{Way}
 use Rattle.carlson.specs.declared.answer.Answer.{Answer}
 use Rattle.carlson.specs.declared.answer.Answer.TheVariants.{Value, Refused}
 use Rattle.elliprc.specs.Few.{rc_within}
 use Rattle.rf_duplicate.specs.Duplicate.{rf_cap}
 use Rattle.elliprf.specs.Rf.{rf_unchecked}
-use Rattle.elliprf.specs.Few.{rf_within}
+use Rattle.elliprf.proofs.Few.{rf_within}
 use Rattle.rj_negative.specs.declared.reduction.Reduced.{Reduced}
 use Rattle.rj_negative.specs.Reduction.{reduced_rc, reduced_value, reduced_found, reduced_answer, wrapped_found, wrapped_answer}
 

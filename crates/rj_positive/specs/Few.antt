@@ -7,14 +7,15 @@ use Rattle.binary64.specs.Leaves.{maximum}
 use Rattle.root.specs.Root.{root}
 use Rattle.carlson.specs.Answer.{closed_at, carried_at, duplication_over}
 use Rattle.carlson.specs.Loop.{capped_keeps}
-use Rattle.carlson.specs.Only.{chosen}
-use Rattle.carlson.specs.Ways.{Within, Few, counted, wider, few_wider, both_within}
+use Rattle.carlson.proofs.Only.{chosen}
+use Rattle.carlson.specs.Ways.{Within, Few}
+use Rattle.carlson.proofs.Ways.{counted, wider, few_wider, both_within}
 use Rattle.carlson.specs.declared.answer.Answer.{Answer}
 use Rattle.elliprc.specs.Few.{rc_within}
 use Rattle.elliprd.specs.Rd.{rd_unchecked}
-use Rattle.elliprd.specs.Few.{rd_few}
+use Rattle.elliprd.proofs.Few.{rd_few}
 use Rattle.rj_term.specs.Term.{rj_term, rj_rescalings}
-use Rattle.rj_term.specs.Few.{term_few}
+use Rattle.rj_term.proofs.Few.{term_few}
 use Rattle.rj_term.specs.declared.term.Roots.{Roots}
 use Rattle.rj_positive.specs.Duplicate.{
   rj_mean,

@@ -1,6 +1,7 @@
 -- n * 2 ^ 52 against c * (c + 1), by products of the halves h and l of c = h * 2 ^ 26 + l. Assumes nothing.
 use Rattle.std.proofs.Common.{◌≡◌, ℕ, ◌+◌, ◌-◌, ◌*◌, ◌/◌, ◌%◌, ◌^◌, ◌<◌, ◌≤◌, ltb, ap, ◌∙◌, subst, mul-le-mul, arith, pow_mono, pow-add}
-use Rattle.algebra.specs.Ring.{con, ◌:+◌, ◌:*◌, ◌≈◌, ring}
+use Rattle.algebra.specs.Ring.{con, ◌:+◌, ◌:*◌, ◌≈◌}
+use Rattle.algebra.proofs.Ring.{ring}
 use Rattle.algebra.specs.Order.{same_ltb}
 use Rattle.root.specs.Parts.{RootDigits}
 

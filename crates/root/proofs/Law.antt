@@ -4,13 +4,15 @@ use Rattle.std.proofs.Common.{◌≡◌, ℕ, zero, suc, ◌+◌, ◌-◌, ◌*�
 use lib.Ieee.{Float, nan, inf, fin, binary64, up, down, of_bits}
 use lib.Ieee.Fits.{down_pos}
 use lib.Ieee.Exact.{HasValue}
-use Rattle.algebra.specs.Ring.{con, nxt, ◌:+◌, ◌:*◌, ◌≈◌, ◌⊩◌, ◌times◌≼◌, ring, below}
+use Rattle.algebra.specs.Ring.{con, nxt, ◌:+◌, ◌:*◌, ◌≈◌, ◌⊩◌, ◌times◌≼◌}
+use Rattle.algebra.proofs.Ring.{ring, below}
 use Rattle.algebra.specs.Order.{lt_or_le, lt_compare, gt_compare}
 use Rattle.rounding.specs.Cut.{infinity, value, rounded}
-use Rattle.rounding.specs.Value.{value_at, value_lt, value_is}
-use Rattle.rounding.specs.Laws.{middle, rounded_between}
+use Rattle.rounding.proofs.Value.{value_at, value_lt, value_is}
+use Rattle.rounding.specs.Laws.{middle}
+use Rattle.rounding.proofs.Laws.{rounded_between}
 use Rattle.root.specs.Root.{root_of, root}
-use Rattle.root.specs.Laws.{root_number, by_squares}
+use Rattle.root.proofs.Laws.{root_number, by_squares}
 use Rattle.root.specs.Parts.{four, Scaled, RootDigits}
 
 -- ---- the digits of the root: 53 of them

@@ -5,3 +5,6 @@ mod Halves
 mod Upper
 mod Scale
 mod Special
+pub mod Examples
+pub mod Laws
+pub mod Together

@@ -1,7 +1,7 @@
 -- The value of a pattern as n * 4 ^ y. Assumes nothing.
 use Rattle.std.proofs.Common.{◌≡◌, ℕ, zero, suc, ◌+◌, ◌-◌, ◌*◌, ◌/◌, ◌%◌, ◌^◌, ◌<◌, ◌≤◌, sym, refl, ap, ◌∙◌, le_trans, le_of_eq, mul-le-mul_right, mul_assoc, one-mul, mul-one, not-le_of_lt, arith, lit≤, pow-add}
 use Rattle.rounding.specs.Cut.{value}
-use Rattle.rounding.specs.Value.{value_small, value_high}
+use Rattle.rounding.proofs.Value.{value_small, value_high}
 use Rattle.root.specs.Parts.{four, Scaled}
 
 -- ---- a normal number: m * 2 ^ e units, where n is m * 2 ^ k and the exponent is even

@@ -2,7 +2,8 @@
 -- T those of the number at the scale of that upper word, and t is C / 2 ^ 53. Assumes nothing.
 use Rattle.std.proofs.Common.{◌≡◌, ℕ, ◌+◌, ◌-◌, ◌*◌, ◌/◌, ◌%◌, ◌^◌, ◌<◌, ◌≤◌, [], ◌∷◌, sym, ap, ◌∙◌, subst, inl, inr, mul-le-mul, lt_of_mul-lt-mul_right, le-div_iff_mul-le, div-mul-le_self, le_of_mul-le-mul_right, arith}
 use native.Mathlib.Nat.{lt-div-mul-add}
-use Rattle.algebra.specs.Ring.{con, nxt, ◌:+◌, ◌:*◌, ◌≈◌, ◌⊩◌, ◌times◌≼◌, below}
+use Rattle.algebra.specs.Ring.{con, nxt, ◌:+◌, ◌:*◌, ◌≈◌, ◌⊩◌, ◌times◌≼◌}
+use Rattle.algebra.proofs.Ring.{below}
 use Rattle.algebra.specs.Order.{lt_or_le}
 use lib.Ieee.{binary64, of_bits}
 use Rattle.rounding.specs.Cut.{infinity}

@@ -19,51 +19,16 @@ numbers4 x y z p = eq (x ⊕ y ⊕ z ⊕ p) (x ⊕ y ⊕ z ⊕ p)
 abbrev pub Number : Float → Type 0
 Number x = T (not (is_nan x))
 
-itself : (x : Float) → eq x x ≡ true → Number x
-unfolding eq is_nan
-itself nan h = true≢false (sym h)
-itself (inf s) h = tt
-itself (fin s m e) h = tt
-
-first : (x y : Float) → Number (x ⊕ y) → Number x
-unfolding add is_nan
-first nan y h = h
-first (inf s) y h = tt
-first (fin s m e) y h = tt
-
-second : (x y : Float) → Number (x ⊕ y) → Number y
-unfolding add is_nan
-second nan nan h = h
-second (inf s) nan h = h
-second (fin s m e) nan h = h
-second x (inf t) h = tt
-second x (fin t n d) h = tt
-
 pub record Numbers3 (x y z : Float) : Type 0 where
   pub one : Number x
   pub two : Number y
   pub three : Number z
-
-pub numbers3_told : (x y z : Float) → numbers3 x y z ≡ true → Numbers3 x y z
-unfolding numbers3
-numbers3_told x y z h =
-    let s = itself (x ⊕ y ⊕ z) h in
-    let t = first (x ⊕ y) z s in
-    record { one = first x y t; two = second x y t; three = second (x ⊕ y) z s }
 
 pub record Numbers4 (x y z p : Float) : Type 0 where
   pub one : Number x
   pub two : Number y
   pub three : Number z
   pub four : Number p
-
-pub numbers4_told : (x y z p : Float) → numbers4 x y z p ≡ true → Numbers4 x y z p
-unfolding numbers4
-numbers4_told x y z p h =
-    let s = itself (x ⊕ y ⊕ z ⊕ p) h in
-    let r = first (x ⊕ y ⊕ z) p s in
-    let t = first (x ⊕ y) z r in
-    record { one = first x y t; two = second x y t; three = second (x ⊕ y) z r; four = second (x ⊕ y ⊕ z) p s }
 
 -- what `certain` tells of a number's pattern and a root's
 abbrev pub Rooted : ℕ → ℕ → Type 0
@@ -72,11 +37,3 @@ Rooted b s = from_bits binary64 s ≡ root (from_bits binary64 b)
 -- and of three numbers' patterns and three f64s
 abbrev pub Rooted3 : ℕ → ℕ → ℕ → Float → Float → Float → Type 0
 Rooted3 a b c x y z = Rooted a (to_bits binary64 x) × (Rooted b (to_bits binary64 y) × Rooted c (to_bits binary64 z))
-
--- of the patterns of two f64s it was told that one is the other's root: so it is of the f64s
-pub root_told : (x s : Float) → fits binary64 x ≡ true → fits binary64 s ≡ true
-    → from_bits binary64 (to_bits binary64 s) ≡ root (from_bits binary64 (to_bits binary64 x)) → s ≡ root x
-root_told x s f g h =
-    let F : T (fits binary64 x) = subst T (sym f) tt in
-    let G : T (fits binary64 s) = subst T (sym g) tt in
-    sym (of_bits-to_bits binary64 s G) ∙ h ∙ ap root (of_bits-to_bits binary64 x F)

@@ -1,5 +1,4 @@
 pub mod Cut
-pub mod Value
 pub mod Laws
 pub mod Fraction
 pub mod Jam

@@ -9,7 +9,7 @@ use Rattle.carlson.specs.Constants.{zero as +0}
 use Rattle.carlson.specs.Common.{mean_cap}
 use Rattle.carlson.specs.Answer.{closed_at, carried_at, agm_at, rescaled_at}
 use Rattle.carlson.specs.Loop.{capped_both}
-use Rattle.carlson.specs.Only.{chosen, chosen_both}
+use Rattle.carlson.proofs.Only.{chosen, chosen_both}
 use Rattle.carlson_arguments.specs.Rescaled.{rescaled3_both}
 use Rattle.carlson.specs.Ways.{Within}
 use Rattle.carlson.specs.declared.answer.Found.{Found}
@@ -20,10 +20,10 @@ use Rattle.elliprc.specs.Few.{rc_within}
 use Rattle.elliprd.specs.Means.{sums_of, rd_together, rd_agm_found, rd_agm_spent, rd_agm_start, rd_agm_of}
 use Rattle.rd_duplicate.specs.Duplicate.{rd_cap, rd_duplication}
 use Rattle.elliprd.specs.Rd.{rd_equal, rd_zero, rd_general, rd_ordered, rd_steps, over_scale, rd_unchecked}
-use Rattle.elliprd.specs.Few.{rd_duplicated}
+use Rattle.elliprd.proofs.Few.{rd_duplicated}
 use Rattle.rg_means.specs.Means.{rg_begin, rg_next, rg_together, rg_agm_found, rg_agm_spent, rg_agm_of}
 use Rattle.rg_joint.specs.Joint.{joint_cap, rg_joint}
-use Rattle.rg_joint.specs.Few.{joint_within}
+use Rattle.rg_joint.proofs.Few.{joint_within}
 use Rattle.elliprg.specs.Rg.{rg_equal, rg_zero, rg_two, rg_alone, rg_top, rg_low, rg_sorted, rg_steps, times_root, rg_unchecked}
 use Rattle.rounds.specs.Inside.{
   rounds_in,

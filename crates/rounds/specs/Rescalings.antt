@@ -9,17 +9,18 @@ use Rattle.carlson.specs.Constants.{zero as +0}
 use Rattle.carlson_arguments.specs.Checks.{any_nan2, any_nan3, any_nan4, any_infinite2, any_infinite3, any_infinite4, below3, zeros_of3}
 use Rattle.carlson.specs.Answer.{infinite_at, loop_at, settled, settled_late}
 use Rattle.carlson.specs.Loop.{capped_holds}
-use Rattle.carlson.specs.Only.{chosen}
-use Rattle.carlson.specs.Ways.{Within, Few, counted}
+use Rattle.carlson.proofs.Only.{chosen}
+use Rattle.carlson.specs.Ways.{Within, Few}
+use Rattle.carlson.proofs.Ways.{counted}
 use Rattle.carlson.specs.declared.answer.Found.{Found}
 use Rattle.carlson.specs.declared.answer.Answer.{Answer}
 use Rattle.carlson.specs.declared.answer.Answer.TheVariants.{Value, Refused}
 use Rattle.elliprc.specs.Rc.{rc_unchecked, rc}
 use Rattle.elliprc.specs.Few.{rc_within}
 use Rattle.elliprf.specs.Rf.{rf_unchecked, rf}
-use Rattle.elliprf.specs.Few.{rf_within}
+use Rattle.elliprf.proofs.Few.{rf_within}
 use Rattle.elliprd.specs.Rd.{rd_unchecked, rd_settled, rd}
-use Rattle.elliprd.specs.Few.{rd_few}
+use Rattle.elliprd.proofs.Few.{rd_few}
 use Rattle.elliprg.specs.Rg.{rg_unchecked, rg_settled, rg}
 use Rattle.elliprg.specs.Few.{rg_few}
 use Rattle.rj_calls.specs.Few.{run_few}

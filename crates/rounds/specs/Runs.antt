@@ -5,14 +5,14 @@ use Rattle.std.specs.Float.Ieee.{le, eq}
 use Rattle.binary64.specs.Leaves.{maximum}
 use Rattle.carlson.specs.Constants.{zero as +0}
 use Rattle.carlson.specs.Answer.{closed_at, carried_at, taylor_at, reduction_at, both_ways}
-use Rattle.carlson.specs.Only.{chosen_both}
+use Rattle.carlson.proofs.Only.{chosen_both}
 use Rattle.carlson_arguments.specs.Rescaling.{scale_of4}
-use Rattle.carlson.specs.Ways.{both_within}
+use Rattle.carlson.proofs.Ways.{both_within}
 use Rattle.carlson.specs.declared.answer.Answer.{Answer}
 use Rattle.carlson.specs.declared.answer.Answer.TheVariants.{Value, Refused}
 use Rattle.elliprc.specs.Few.{rc_within}
 use Rattle.rf_duplicate.specs.Duplicate.{rf_cap}
-use Rattle.elliprf.specs.Few.{rf_within}
+use Rattle.elliprf.proofs.Few.{rf_within}
 use Rattle.elliprd.specs.Rd.{over_scale, rd_unchecked}
 use Rattle.rj_positive.specs.Duplicate.{rj_cap, rj_duplication}
 use Rattle.rj_positive.specs.Positive.{well_apart, rj_all, rj_three, rj_two, rj_last, rj_pair, rj_cases, rj_positive}

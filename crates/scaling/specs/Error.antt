@@ -12,7 +12,8 @@ use Rattle.std.specs.Float.Ieee.Digits.{size_reaches}
 use Rattle.std.specs.Float.Ieee.Fits.{nearest-le}
 use Rattle.std.specs.Float.Ieee.Nearest.{closest, nearest-ge}
 use Rattle.std.specs.Float.Ieee.Order.{drop}
-use Rattle.algebra.specs.Ring.{nxt, ◌:+◌, ◌:*◌, ◌≈◌, ◌⊩◌, ◌times◌≼◌, ring, below}
+use Rattle.algebra.specs.Ring.{nxt, ◌:+◌, ◌:*◌, ◌≈◌, ◌⊩◌, ◌times◌≼◌}
+use Rattle.algebra.proofs.Ring.{ring, below}
 use Rattle.scaling.specs.Near.{near, digits, size_above}
 
 module _ (f : Format) (n d : ℕ) (D : 0 < d) (normal : 2 ^ (prec f - 1) * d ≤ n) where

@@ -5,7 +5,8 @@ use Rattle.std.proofs.Common.{sym, ap, ◌∙◌, inl, inr, le_trans, le_of_eq, 
 use Rattle.std.proofs.Math.Nat.{le_of_mul-le-mul_left}
 use Rattle.std.specs.Float.{Format}
 use Rattle.std.specs.Float.Ieee.{prec}
-use Rattle.algebra.specs.Ring.{con, nxt, ◌:*◌, ◌≈◌, ◌⊩◌, ◌times◌≼◌, Order, by_below}
+use Rattle.algebra.specs.Ring.{con, nxt, ◌:*◌, ◌≈◌, ◌⊩◌, ◌times◌≼◌, Order}
+use Rattle.algebra.proofs.Ring.{by_below}
 use Rattle.scaling.specs.Near.{near, near_exact, either}
 use Rattle.scaling.specs.Error.{near_not_less, near_not_more}
 

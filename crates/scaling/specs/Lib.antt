@@ -3,7 +3,6 @@ pub mod Cross
 pub mod Units
 pub mod Kind
 pub mod Last
-pub mod Within
 pub mod Two
 pub mod One
 pub mod Tests
@@ -17,7 +16,6 @@ pub mod Mean
 pub mod Lead
 pub mod Every
 pub mod Signs
-pub mod Pick
 pub mod Gap
 pub mod Fused
 pub mod Nothing
@@ -25,7 +23,5 @@ pub mod Signed
 pub mod Distinct
 pub mod Half
 pub mod Maybe
-pub mod Swap
 pub mod Still
 pub mod Nan
-pub mod Same

@@ -5,7 +5,8 @@
 use Rattle.std.specs.Prelude.{◌≡◌, ℕ, suc, ◌+◌, ◌-◌, ◌*◌, ◌≤◌, ◌<◌, [], ◌∷◌}
 use Rattle.std.proofs.Common.{subst, le_trans, le_of_eq, mul-pos, arith}
 use Rattle.std.proofs.Math.Nat.{mul-sub, le_of_mul-le-mul_left}
-use Rattle.algebra.specs.Ring.{con, nxt, ◌:+◌, ◌:*◌, ◌≈◌, ◌⊩◌, ◌times◌≼◌, ring, below}
+use Rattle.algebra.specs.Ring.{con, nxt, ◌:+◌, ◌:*◌, ◌≈◌, ◌⊩◌, ◌times◌≼◌}
+use Rattle.algebra.proofs.Ring.{ring, below}
 
 -- each rounding takes at most a part in T away (`near_not_less`); three of them at most four parts
 pub mean_not_less : (T x y w s v t a : ℕ) → 4 ≤ T → T * (x + y) ≤ suc T * s → T * w ≤ suc T * v → T * (s + v) ≤ suc T * t

@@ -15,7 +15,8 @@ use Rattle.std.specs.Float.Ieee.Fits.{kept-lt, nearest-le, two, two-le_pos}
 use Rattle.std.specs.Float.Ieee.Nearest.{closest, closest_mono, nearest-ge, div_mono}
 use Rattle.std.specs.Float.Ieee.Order.{drop, kept}
 use Rattle.std.specs.Float.Ieee.Scale.{grid, grid_scale, normal_of_fraction}
-use Rattle.algebra.specs.Ring.{con, ◌:*◌, ◌≈◌, ◌⊩◌, ◌times◌≼◌, ring, below}
+use Rattle.algebra.specs.Ring.{con, ◌:*◌, ◌≈◌, ◌⊩◌, ◌times◌≼◌}
+use Rattle.algebra.proofs.Ring.{ring, below}
 
 unfoldable pub near : Format → ℕ → ℕ → ℕ
 unfolding size

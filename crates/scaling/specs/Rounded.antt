@@ -13,9 +13,10 @@ use Rattle.std.specs.Float.Ieee.{of_bits}
 use Rattle.std.specs.Float.Ieee.Bits.{of_bits-fits}
 use Rattle.algebra.specs.Order.{lt_or_le, Compared, compared, lt_compare}
 use Rattle.rounding.specs.Cut.{Cut, value, infinity, nearer, passed, reached, rounded}
-use Rattle.rounding.specs.Value.{value_high, value_at, value_up, value_lt, value_is}
-use Rattle.rounding.specs.Laws.{Number, middle, found, found_reached, found_next, found_at, not_lower, all_before, under, reach}
-use Rattle.rounding.specs.Laws.{reached_suc, unreached, lt_passed}
+use Rattle.rounding.proofs.Value.{value_high, value_at, value_up, value_lt, value_is}
+use Rattle.rounding.specs.Laws.{Number, middle, found}
+use Rattle.rounding.proofs.Laws.{found_reached, found_next, found_at, not_lower, all_before, under, reach}
+use Rattle.rounding.proofs.Laws.{reached_suc, unreached, lt_passed}
 use Rattle.scaling.specs.Units.{Is}
 
 -- v rounded once, in units

@@ -16,7 +16,8 @@ use Rattle.std.specs.Float.Ieee.Positive.{first_pos}
 use Rattle.std.specs.Float.Ieee.Exact.{HasValue, units_val}
 use Rattle.std.specs.Float.Ieee.Order.{drop, kept}
 use Rattle.std.specs.Float.Ieee.Scale.{overflow}
-use Rattle.algebra.specs.Ring.{◌:*◌, ◌≈◌, ◌⊩◌, ◌times◌≼◌, ring}
+use Rattle.algebra.specs.Ring.{◌:*◌, ◌≈◌, ◌⊩◌, ◌times◌≼◌}
+use Rattle.algebra.proofs.Ring.{ring}
 use Rattle.scaling.specs.Near.{near, near_same}
 use Rattle.scaling.specs.Cross.{add_n, add_s, below_cross, level_cross, add_n_cross, add_s_cross}
 

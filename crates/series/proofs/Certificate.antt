@@ -2,7 +2,8 @@
 use Rattle.std.proofs.Common.{◌≡◌, ℕ, ◌+◌, ◌*◌, ◌/◌, ◌%◌, ◌^◌, ◌<◌, [], sym, ap, ◌∙◌, ap₂, add-zero, div-add-mod', pow_pos}
 use lib.Arith.{digits_div}
 use lib.Ieee.Nearest.{div_same}
-use Rattle.algebra.specs.Ring.{con, ◌:*◌, ◌≈◌, ring}
+use Rattle.algebra.specs.Ring.{con, ◌:*◌, ◌≈◌}
+use Rattle.algebra.proofs.Ring.{ring}
 
 -- the upper word of p * 2 ^ 62
 upper : (p : ℕ) → p * 2 ^ 62 / 2 ^ 64 ≡ p / 4

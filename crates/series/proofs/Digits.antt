@@ -2,7 +2,8 @@
 -- nothing.
 use Rattle.std.proofs.Common.{◌≡◌, ℕ, ◌+◌, ◌-◌, ◌*◌, ◌/◌, ◌%◌, ◌^◌, ◌<◌, ◌≤◌, [], ◌∷◌, sym, ap, ◌∙◌, mod-lt, div-lt_iff_lt-mul, mul-le-mul, div-add-mod', le_of_mul-le-mul_right, arith}
 use lib.Arith.{digits_div}
-use Rattle.algebra.specs.Ring.{con, ◌:+◌, ◌:*◌, ◌≈◌, ◌⊩◌, ◌times◌≼◌, ring}
+use Rattle.algebra.specs.Ring.{con, ◌:+◌, ◌:*◌, ◌≈◌, ◌⊩◌, ◌times◌≼◌}
+use Rattle.algebra.proofs.Ring.{ring}
 use Rattle.series.specs.Quotient.{Divided, Nearer}
 
 -- (u is the upper part and one more, g what was put on top of d)

@@ -7,3 +7,9 @@ mod Patterns
 mod Products
 mod Seeds
 mod Zeros
+pub mod Arguments
+pub mod Cases
+pub mod Ends
+pub mod Examples
+pub mod Small
+pub mod Within

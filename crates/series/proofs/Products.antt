@@ -2,7 +2,8 @@
 use Rattle.std.proofs.Common.{◌≡◌, ℕ, ◌+◌, ◌-◌, ◌*◌, ◌/◌, ◌^◌, ◌≤◌, [], sym, ap, ◌∙◌, le_trans, mul-le-mul_right, mul-le-mul, arith, pow_pos, pow_mono, pow-add}
 use native.Mathlib.Nat.{div-div-eq-div-mul, div-le_of_le-mul}
 use lib.Ieee.Nearest.{div_same}
-use Rattle.algebra.specs.Ring.{con, ◌:*◌, ◌≈◌, ring}
+use Rattle.algebra.specs.Ring.{con, ◌:*◌, ◌≈◌}
+use Rattle.algebra.proofs.Ring.{ring}
 use Rattle.enclosure.specs.Rules.{square, front, seed_square}
 
 -- ---- a product with one factor doubled

@@ -1,13 +1,14 @@
 -- The seeds of ln_1p and ln, as the code divides, and what `t_sum` asks of them. Assumes nothing.
 use Rattle.std.proofs.Common.{◌≡◌, ℕ, ◌+◌, ◌-◌, ◌*◌, ◌/◌, ◌^◌, ◌<◌, ◌≤◌, Bool, true, false, cond, [], sym, refl, ap, ◌∙◌, subst, le_trans, lt_of_lt_of_le, div-lt_iff_lt-mul, div-le_self, arith, pow_mono}
 use lib.Ieee.Nearest.{div_same}
-use Rattle.algebra.specs.Ring.{con, ◌:*◌, ◌≈◌, ring}
+use Rattle.algebra.specs.Ring.{con, ◌:*◌, ◌≈◌}
+use Rattle.algebra.proofs.Ring.{ring}
 use Rattle.enclosure.specs.Quotient.{Quotient, parts}
 use Rattle.enclosure.specs.Enclosure.{argument_of_ln, gain, loss}
 use Rattle.enclosure.specs.Rules.{T-answer, part, gain_seed, loss_seed, ln_seed, inverse_seed}
 use Rattle.enclosure.specs.Logarithm.{Seed}
-use Rattle.enclosure.specs.Seeds.{gain_seeds, loss_seeds, ln_seeds, beyond, inverse_seeds}
-use Rattle.enclosure.specs.Sizes.{seed_inside, T-size, T-fits, gain_size, loss_size}
+use Rattle.enclosure.proofs.Seeds.{gain_seeds, loss_seeds, ln_seeds, beyond, inverse_seeds}
+use Rattle.enclosure.proofs.Sizes.{seed_inside, T-size, T-fits, gain_size, loss_size}
 use Rattle.series.specs.Ln1p.{seed}
 use Rattle.series.specs.Ranges.{Seeded, Exponent, Multiple, Close}
 

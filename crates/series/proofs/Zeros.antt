@@ -6,7 +6,8 @@ use lib.Count.{count_leading_zeros, leading_length}
 use lib.Ieee.{size}
 use lib.Ieee.Digits.{size-lt, size-le}
 use lib.Ieee.Nearest.{div_same}
-use Rattle.algebra.specs.Ring.{◌:*◌, ◌≈◌, ◌⊩◌, ◌times◌≼◌, ring}
+use Rattle.algebra.specs.Ring.{◌:*◌, ◌≈◌, ◌⊩◌, ◌times◌≼◌}
+use Rattle.algebra.proofs.Ring.{ring}
 use Rattle.algebra.specs.Order.{lt_or_le}
 use Rattle.enclosure.specs.Rules.{T-answer, ln_two, gain_answer, loss_answer}
 use Rattle.series.specs.Ln.{close_answer}

@@ -7,7 +7,7 @@ use Rattle.std.specs.Float.Ieee.{size}
 use Rattle.std.specs.Float.Ieee.Digits.{size-lt, size_reaches, size-le}
 use Rattle.algebra.specs.Order.{lt_or_le}
 use Rattle.enclosure.specs.Rules.{ln_answer, ln_below_answer}
-use Rattle.enclosure.specs.Sizes.{ln_size, ln_fits, ln_below_size, ln_below_fits}
+use Rattle.enclosure.proofs.Sizes.{ln_size, ln_fits, ln_below_size, ln_below_fits}
 use Rattle.series.specs.Ranges.{Exponent}
 
 -- ---- a number above zero

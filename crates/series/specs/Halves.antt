@@ -8,14 +8,15 @@ use Rattle.std.specs.Float.{binary64}
 use Rattle.std.specs.Float.Ieee.{round, sub}
 use Rattle.std.specs.Float.Ieee.Exact.{HasValue, round_exact}
 use Rattle.std.specs.Float.Ieee.Scale.{round_same}
-use Rattle.algebra.specs.Ring.{◌:+◌, ◌:*◌, ◌≈◌, ◌⊩◌, ring}
+use Rattle.algebra.specs.Ring.{◌:+◌, ◌:*◌, ◌≈◌, ◌⊩◌}
+use Rattle.algebra.proofs.Ring.{ring}
 use Rattle.rounding.specs.Cut.{value, infinity}
-use Rattle.rounding.specs.Value.{value_at, value_is}
+use Rattle.rounding.proofs.Value.{value_at, value_is}
 use Rattle.rounding.specs.Sign.{bits_neg}
 use Rattle.binary64.specs.Operators.{◌⊕◌, ◌⊖◌}
-use Rattle.distance.specs.OrderLaws.{opposite_value}
+use Rattle.distance.proofs.OrderLaws.{opposite_value}
 use Rattle.fused.specs.Signs.{sum_plus, sum_more}
-use Rattle.fused.specs.Laws.{add_values}
+use Rattle.fused.proofs.Laws.{add_values}
 
 beq_same : (s : Bool) → beq s s ≡ true
 beq_same true = refl

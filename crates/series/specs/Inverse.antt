@@ -5,8 +5,8 @@ use Rattle.std.proofs.Math.Nat.{div-le_of_le-mul, div-div-eq-div-mul, pow-succ'}
 use Rattle.std.specs.Float.Ieee.Nearest.{div_same}
 use Rattle.enclosure.specs.Quotient.{Quotient, parts}
 use Rattle.enclosure.specs.Rules.{atan_answer, half_pi, steep_answer}
-use Rattle.enclosure.specs.Sizes.{steep_size}
-use Rattle.enclosure.specs.Steep.{inverse_most}
+use Rattle.enclosure.proofs.Sizes.{steep_size}
+use Rattle.enclosure.proofs.Steep.{inverse_most}
 
 module _ (m e : ℕ) (low : 2 ^ 52 ≤ m) where
   pub inverse_is : 2 ^ 61 * 2 ^ 62 / (m * 512) ≡ 2 ^ 114 / m

@@ -4,16 +4,11 @@ pub mod Ln
 pub mod Ln1p
 pub mod Near
 pub mod Names
-pub mod Within
 pub mod Ends
 pub mod Quotient
 pub mod Ranges
 pub mod Exponents
-pub mod Cases
 pub mod Scaled
 pub mod Halves
 pub mod Inverse
 pub mod Rounded
-pub mod Arguments
-pub mod Small
-pub mod Examples

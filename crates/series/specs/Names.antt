@@ -9,7 +9,7 @@ use Rattle.std.specs.Float.Ieee.Bits.{of_bits-to_bits, to_bits-lt}
 use Rattle.algebra.specs.Order.{lt_or_le}
 use Rattle.rounding.specs.Cut.{infinity}
 use Rattle.binary64.specs.Tests.{number_bits}
-use Rattle.binary64.specs.Meaning.{bits_back}
+use Rattle.binary64.proofs.Meaning.{bits_back}
 use Rattle.series.specs.Near.{signed}
 
 pub signed_bits : (s a : ℕ) → s ≤ 1 → a < infinity → a + s * 2 ^ 63 ≡ to_bits binary64 (signed s a)

@@ -9,10 +9,10 @@ use Rattle.std.specs.Float.Ieee.{size, nearest, round}
 use Rattle.std.specs.Float.Ieee.Digits.{size-lt}
 use Rattle.algebra.specs.Order.{lt_or_le, Compared, compared, scaled_compare}
 use Rattle.rounding.specs.Cut.{infinity, value}
-use Rattle.rounding.specs.Value.{value_at}
+use Rattle.rounding.proofs.Value.{value_at}
 use Rattle.enclosure.specs.Quotient.{Quotient, ◌≼◌, parts}
 use Rattle.enclosure.specs.Enclosure.{Within}
-use Rattle.enclosure.specs.Answers.{within_same, within_rounded}
+use Rattle.enclosure.proofs.Answers.{within_same, within_rounded}
 use Rattle.series.specs.Near.{last_place, Near}
 use Rattle.series.specs.Scaled as whole
 

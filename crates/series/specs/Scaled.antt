@@ -9,7 +9,7 @@ use Rattle.std.specs.Float.Ieee.Fits.{nearest-le}
 use Rattle.std.specs.Float.Ieee.Nearest.{nearest-ge}
 use Rattle.algebra.specs.Order.{lt_or_le, Compared, compared}
 use Rattle.rounding.specs.Cut.{infinity}
-use Rattle.rounding.specs.Fraction.{pick, rounded_fraction}
+use Rattle.rounding.proofs.Fraction.{pick, rounded_fraction}
 use Rattle.rounding.specs.Sign.{round_neg, bits_neg}
 
 -- the sign's bit is the sign

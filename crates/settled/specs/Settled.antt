@@ -83,37 +83,3 @@ table =
     ∷ RJ three two two minus_one (is Taylor zero)
     ∷ RJ one one one minus_infinity (is Infinite zero)
     ∷ []
-
--- ---- the statement
--- what has to compute: the entries down the roads that the rows take, the leaves, and IEEE 754's operations
-pub sixteen : All table
-unfolding rf rf_unchecked rf_steps rf_equal rf_zero
-    rc rc_unchecked rc_found rc_steps rc_cases rc_at_equal
-    rd rd_unchecked rd_steps rd_ordered rd_equal rd_settled
-    rg rg_unchecked rg_steps rg_sorted rg_low rg_alone rg_settled fall_xy fall_xz rise_yz largest_first
-    rj rj_signed rj_rest rj_unchecked rj_run rj_settled plan_of plan_near plan_scaled plan_unscaled rj_positive rj_all rising rise_xy
-    near_zero taylor_of cubic_of quadratic_of error_of linear_of deltas_of distant largest_of
-    rescaling2 rescaling3 closed_at taylor_at infinite_at settled settled_late absolute maximum minimum root rounded value fused
-    of_bits add sub mul div neg lt le eq is_nan
-sixteen = (
-  refl,
-  (
-    refl,
-    (
-      refl,
-      (
-        refl,
-        (
-          refl,
-          (
-            refl,
-            (
-              refl,
-              (refl, (refl, (refl, (refl, (refl, (refl, (refl, (refl, (refl, tt))))))))),
-            ),
-          ),
-        ),
-      ),
-    ),
-  ),
-)

@@ -5,7 +5,7 @@ use Rattle.std.proofs.Math.Nat.{min-le_left}
 use Rattle.std.specs.Float.{nan, inf, fin, binary64}
 use Rattle.std.specs.Float.Ieee.{fits, lt, of_bits}
 use Rattle.rounding.specs.Cut.{infinity}
-use Rattle.rounding.specs.Value.{infinity_is}
+use Rattle.rounding.proofs.Value.{infinity_is}
 use Rattle.binary64.specs.Tests.{number_above}
 use Rattle.decimal_text.specs.Text.{size_text, text_of}
 use Rattle.decimal_text.specs.Plain.{plain_shape, sign_length, plain_length}

@@ -8,14 +8,3 @@ use Rattle.swing.specs.Period.{within}
 pub record From1 (n most : ℕ) : Type 0 where
   pub least : 1 ≤ n
   pub largest : n ≤ most
-
-pub in_within : (n most : ℕ) → within n most ≡ true → From1 n most
-unfolding within
-in_within n most e =
-    let t : T (leb 1 n && leb n most) = subst T (sym e) tt in
-    record { least = leb→le 1 n (and_l (leb 1 n) (leb n most) t); largest = leb→le n most (and_r (leb 1 n) (leb n most) t) }
-
-pub within_from : (n most : ℕ) → From1 n most → within n most ≡ true
-unfolding within
-within_from n most r = is_true (leb 1 n && leb n most)
-    (and_i (leb 1 n) (leb n most) (le→leb 1 n r.least) (le→leb n most r.largest))

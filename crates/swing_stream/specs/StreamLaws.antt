@@ -6,8 +6,8 @@ use Rattle.writing.specs.Fed.{Ran, quiet, and_ran, run}
 use Rattle.writing.specs.Input.{last_line, lines_from}
 use Rattle.swing_read.specs.Reading.{line_of}
 use Rattle.millimetres.specs.Measured.{byte_measured, bytes_measured, at_end, measured_line, unread}
-use Rattle.millimetres.specs.MeasuredLaws.{measured_last}
-use Rattle.millimetres.specs.Begun.{line_measured, lengths_unread, plain_unread}
+use Rattle.millimetres.proofs.MeasuredLaws.{measured_last}
+use Rattle.millimetres.proofs.Begun.{line_measured, lengths_unread, plain_unread}
 use Rattle.millimetres.specs.declared.Measured.{Measured}
 use Rattle.swing_stream.specs.Lines.{line_start, fresh, takes, taken, noted, swing_said, steps_after, steps_said, after_line}
 use Rattle.swing_stream.specs.Lines.{said_to}

@@ -8,7 +8,8 @@ use native.Mathlib.Omega.{arith}
 use lib.Pow.{pow_pos, pow-add, pow_mono}
 use lib.Ieee.{nearest}
 use lib.Ieee.Nearest.{closest}
-use Rattle.algebra.specs.Ring.{◌:*◌, ◌≈◌, ring}
+use Rattle.algebra.specs.Ring.{◌:*◌, ◌≈◌}
+use Rattle.algebra.proofs.Ring.{ring}
 use Rattle.algebra.specs.Order.{scaled_compare}
 
 module _ (X A B hi lo : ℕ) (pos : 0 < A) (is : hi * (A * B) + lo ≡ X) where

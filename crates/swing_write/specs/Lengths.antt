@@ -1,7 +1,7 @@
 -- How long the texts are. Assumes nothing.
 use Rattle.std.specs.Prelude.{ℕ, ◌/◌, ◌≤◌, length}
 use Rattle.std.proofs.Common.{length-append, arith}
-use Rattle.digits.specs.DigitLaws.{digits_length}
+use Rattle.digits.proofs.DigitLaws.{digits_length}
 use Rattle.writing.specs.Decimal.{decimal}
 use Rattle.writing.specs.Places.{places_most}
 use Rattle.carlson.specs.declared.answer.Found.{Found}

@@ -24,7 +24,7 @@ use Rattle.packed_number.specs.declared.Number.TheVariants.{Whole, Refused as No
 use Rattle.packed.specs.declared.jobs.Job.{Job}
 use Rattle.packed.specs.declared.read.Read.{Read}
 use Rattle.packed.specs.declared.read.Read.TheVariants.{Found, Nothing, Refused}
-use Rattle.carlson.specs.Only.{chosen}
+use Rattle.carlson.proofs.Only.{chosen}
 
 -- one of the three, or none
 abbrev Few : ℕ → Type 0

@@ -7,7 +7,7 @@ use Rattle.std.proofs.Math.ListN.{get_or-append}
 use Rattle.std.proofs.Math.Seq.{drop_at}
 use Rattle.limbs.specs.Value.{limbs_of, length_limbs}
 use Rattle.exact.specs.Exact.{held_sum, finite_pattern, value_added, sums_joined}
-use Rattle.exact.specs.ExactLaws.{words_added, words_joined_lem}
+use Rattle.exact.proofs.ExactLaws.{words_added, words_joined_lem}
 use Rattle.tally.specs.Tally.{larger, block_added, word_joined, block_joined}
 use Rattle.tally.specs.Meaning.{calls_of, refused_of, rounds_of, most_of, values_of, word_of, words_from, block_of}
 use Rattle.tally.specs.WordLaws.{word_after, which, word_after_lem, sum_after, block_length_lem, by_parts}

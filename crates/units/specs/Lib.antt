@@ -1,7 +1,6 @@
 pub mod Statement
 pub mod Kinds
 pub mod Arguments
-pub mod Checks
 pub mod Limits
 pub mod Runs
 pub mod Answers

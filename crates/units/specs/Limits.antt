@@ -10,8 +10,9 @@ use Rattle.binary64.specs.Leaves.{absolute, maximum}
 use Rattle.scaling.specs.Units.{Is, lt_units}
 use Rattle.scaling.specs.Kind.{In}
 use Rattle.scaling.specs.Two.{Two}
-use Rattle.scaling.specs.One.{lit_ok, lit_is, abs_units, maximum_units}
-use Rattle.scaling.specs.Tests.{zero_is}
+use Rattle.scaling.specs.One.{lit_ok}
+use Rattle.scaling.proofs.One.{lit_is, abs_units, maximum_units}
+use Rattle.scaling.proofs.Tests.{zero_is}
 use Rattle.derived.specs.Limits.{limit, reciprocal}
 use Rattle.carlson.specs.Constants.{zero}
 use Rattle.carlson_arguments.specs.Rescaling.{scale_of2, scale_of3, scale_of4, beyond_limits, rescaling2, rescaling3}

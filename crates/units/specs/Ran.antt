@@ -2,7 +2,7 @@
 -- them.
 use Rattle.std.specs.Prelude.{ℕ, T}
 use Rattle.scaling.specs.Kind.{Kind, within}
-use Rattle.scaling.specs.One.{widen_two}
+use Rattle.scaling.proofs.One.{widen_two}
 use Rattle.carlson.specs.declared.answer.Found.{Found}
 use Rattle.carlson.specs.declared.answer.Answer.{Answer}
 use Rattle.carlson.specs.declared.answer.Answer.TheVariants.{Value, Refused}

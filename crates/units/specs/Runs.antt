@@ -8,7 +8,7 @@ use Rattle.std.proofs.Math.Bool.{true, false}
 use Rattle.std.specs.Float.{nan, binary64}
 use Rattle.scaling.specs.Kind.{Kind, within}
 use Rattle.scaling.specs.Two.{Two}
-use Rattle.scaling.specs.One.{widen_two}
+use Rattle.scaling.proofs.One.{widen_two}
 use Rattle.carlson.specs.Answer.{way_of, closed_at, carried_at, agm_at, duplication_at, duplication_over, joint_at}
 use Rattle.carlson.specs.Loop.{capped}
 use Rattle.carlson.specs.declared.answer.Road.{Road}

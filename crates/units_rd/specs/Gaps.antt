@@ -9,8 +9,10 @@ use Rattle.scaling.specs.Cross.{add_n, add_s, add_s_cross}
 use Rattle.scaling.specs.Mean.{above_mean}
 use Rattle.scaling.specs.Units.{neg_units}
 use Rattle.scaling.specs.Kind.{sum_k, sum_ok, within}
-use Rattle.scaling.specs.Two.{Two, sum_two, summed}
-use Rattle.scaling.specs.One.{widen_two, neg_two, sub_two}
+use Rattle.scaling.specs.Two.{Two}
+use Rattle.scaling.proofs.Two.{sum_two, summed}
+use Rattle.scaling.proofs.One.{neg_two, sub_two}
+use Rattle.scaling.proofs.One.{widen_two}
 use Rattle.scaling.specs.Nothing.{Nothing, skip_last, skip_last_units}
 use Rattle.scaling.specs.Signed.{above}
 use Rattle.units_rd.specs.Lead.{low_side, high_side}

@@ -9,7 +9,8 @@ use Rattle.std.proofs.Math.Pow.{pow-lt}
 use Rattle.std.specs.Float.{Format}
 use Rattle.std.specs.Float.Ieee.{prec, low}
 use Rattle.std.specs.Float.Ieee.Digits.{back}
-use Rattle.algebra.specs.Ring.{con, ◌:+◌, ◌:*◌, ◌≈◌, ◌⊩◌, ◌times◌≼◌, Order, by_below}
+use Rattle.algebra.specs.Ring.{con, ◌:+◌, ◌:*◌, ◌≈◌, ◌⊩◌, ◌times◌≼◌, Order}
+use Rattle.algebra.proofs.Ring.{by_below}
 use Rattle.scaling.specs.Near.{near, digits, near_mono, near_exact, either}
 use Rattle.scaling.specs.Last.{Digits}
 

@@ -4,7 +4,4 @@ pub mod Gaps
 pub mod Step
 pub mod Start
 pub mod Series
-pub mod Loop
 pub mod Means
-pub mod Steps
-pub mod Rd

@@ -7,14 +7,18 @@ use Rattle.std.specs.Float.Ieee.{low, of_bits}
 use Rattle.binary64.specs.Operators.{◌⊕◌, bits}
 use Rattle.carlson.specs.Constants.{three}
 use Rattle.rd_duplicate.specs.Duplicate.{rd_mean}
-use Rattle.algebra.specs.Ring.{con, ◌:*◌, ◌≈◌, ring}
+use Rattle.algebra.specs.Ring.{con, ◌:*◌, ◌≈◌}
+use Rattle.algebra.proofs.Ring.{ring}
 use Rattle.scaling.specs.Near.{near, near_same, near_exact, either}
 use Rattle.scaling.specs.Cross.{add_n}
 use Rattle.scaling.specs.Mean.{mean_not_less}
 use Rattle.scaling.specs.Error.{near_not_less, near_not_more}
-use Rattle.scaling.specs.Kind.{Kind, last, floor_le, mul_k, mul_ok, div_k, div_ok, plus_k, plus_ok, within}
-use Rattle.scaling.specs.Two.{Two, mul_two, div_two, plus_two, summed}
-use Rattle.scaling.specs.One.{lit_two, lit_ok, widen_two}
+use Rattle.scaling.specs.Kind.{Kind, last, mul_k, mul_ok, div_k, div_ok, plus_k, plus_ok, within}
+use Rattle.scaling.proofs.Kind.{floor_le}
+use Rattle.scaling.specs.Two.{Two}
+use Rattle.scaling.proofs.Two.{mul_two, div_two, plus_two, summed}
+use Rattle.scaling.specs.One.{lit_ok}
+use Rattle.scaling.proofs.One.{lit_two, widen_two}
 use Rattle.scaling.specs.Nothing.{Nothing, skip_first, skip_last, skip_first_units, skip_last_units}
 
 -- ---- how far a whole number is off when it is rounded: 2 ^ -52 of it

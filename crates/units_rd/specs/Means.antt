@@ -13,11 +13,16 @@ use Rattle.carlson.specs.Loop.{capped}
 use Rattle.elliprd.specs.Means.{sums_of, rd_mean_value, rd_agm_start, rd_together, rd_agm_found, rd_agm_spent, rd_agm_of}
 use Rattle.elliprd.specs.declared.means.Sums.{Sums}
 use Rattle.scaling.specs.Kind.{Kind, last, mul_k, mul_ok, div_k, div_ok, plus_k, plus_ok, sum_k, sum_ok, within, same_k}
-use Rattle.scaling.specs.Two.{Two, mul_two, div_two, plus_two, sum_two}
-use Rattle.scaling.specs.Tests.{le_two, zero_is}
-use Rattle.scaling.specs.One.{lit_two, lit_ok, widen_two, abs_two, sub_two}
-use Rattle.scaling.specs.Root.{root_k, root_ok, root_two}
-use Rattle.scaling.specs.Distinct.{distinct_k, distinct_two}
+use Rattle.scaling.specs.Two.{Two}
+use Rattle.scaling.proofs.Two.{mul_two, div_two, plus_two, sum_two}
+use Rattle.scaling.proofs.Tests.{le_two, zero_is}
+use Rattle.scaling.specs.One.{lit_ok}
+use Rattle.scaling.proofs.One.{sub_two}
+use Rattle.scaling.proofs.One.{lit_two, widen_two, abs_two}
+use Rattle.scaling.specs.Root.{root_k, root_ok}
+use Rattle.scaling.proofs.Root.{root_two}
+use Rattle.scaling.specs.Distinct.{distinct_k}
+use Rattle.scaling.proofs.Distinct.{distinct_two}
 use Rattle.scaling.specs.Nothing.{nothing_two}
 use Rattle.scaling.specs.Every.{all, every}
 use Rattle.units.specs.Runs.{mean, loop_two}

@@ -4,7 +4,8 @@ use Rattle.std.proofs.Math.Path.{refl}
 use Rattle.std.proofs.Common.{sym, zero-le, le_trans, le_of_eq, mul-le-mul_right, zero-lt-suc, arith, lit≤, lit<, pow_pos}
 use Rattle.std.proofs.Math.Nat.{le_refl}
 use Rattle.std.specs.Float.Ieee.{binary64, low, of_bits, unlike}
-use Rattle.algebra.specs.Ring.{con, ◌:*◌, ◌≈◌, ◌⊩◌, ◌times◌≼◌, Order, by_below}
+use Rattle.algebra.specs.Ring.{con, ◌:*◌, ◌≈◌, ◌⊩◌, ◌times◌≼◌, Order}
+use Rattle.algebra.proofs.Ring.{by_below}
 use Rattle.binary64.specs.Leaves.{maximum}
 use Rattle.binary64.specs.Operators.{◌⊕◌, ◌⊖◌, ◌⊗◌, ◌⊘◌, bits}
 use Rattle.root.specs.Root.{root}
@@ -13,15 +14,21 @@ use Rattle.carlson.specs.Common.{lambda_of}
 use Rattle.rd_duplicate.specs.Duplicate.{rd_mean, rd_start, rd_begin, rd_moved, rd_step}
 use Rattle.scaling.specs.Near.{near, near_mono}
 use Rattle.scaling.specs.Kind.{Kind, last, mul_k, mul_ok, div_k, div_ok, within}
-use Rattle.scaling.specs.Last.{Digits, digits_of}
-use Rattle.scaling.specs.Two.{Two, mul_two, div_two}
-use Rattle.scaling.specs.Tests.{zero_is}
-use Rattle.scaling.specs.One.{lit_two, lit_ok, lit_n, widen_two}
-use Rattle.scaling.specs.Root.{root_k, root_ok, root_two}
-use Rattle.scaling.specs.Nothing.{Nothing, no_product_first, no_product_last, no_sum, skip_first, skip_last, root_nothing}
+use Rattle.scaling.specs.Last.{Digits}
+use Rattle.scaling.proofs.Last.{digits_of}
+use Rattle.scaling.specs.Two.{Two}
+use Rattle.scaling.proofs.Two.{mul_two, div_two}
+use Rattle.scaling.proofs.Tests.{zero_is}
+use Rattle.scaling.specs.One.{lit_ok, lit_n}
+use Rattle.scaling.proofs.One.{lit_two, widen_two}
+use Rattle.scaling.specs.Root.{root_k, root_ok}
+use Rattle.scaling.proofs.Root.{root_two}
+use Rattle.scaling.specs.Nothing.{Nothing, no_product_last, skip_first, skip_last}
+use Rattle.scaling.proofs.Nothing.{no_product_first, no_sum, root_nothing}
 use Rattle.scaling.specs.Nothing.{nothing_two}
-use Rattle.scaling.specs.Signed.{above, Larger, larger_two}
-use Rattle.scaling.specs.Lead.{shifted}
+use Rattle.scaling.specs.Signed.{above}
+use Rattle.scaling.proofs.Signed.{Larger, larger_two}
+use Rattle.scaling.proofs.Lead.{shifted}
 use Rattle.units_rd.specs.Mean.{arg_k, mean_k, Arg, none, some, some?, Mean, mean}
 use Rattle.units_rd.specs.Gaps.{Gap, gap}
 use Rattle.units_rd.specs.Step.{lambda_k, sums_k, Kept, Inv, quarter_two, roots_two, lambda_two, moved}

@@ -12,13 +12,18 @@ use Rattle.rd_duplicate.specs.Duplicate.{rd_moved, rd_step}
 use Rattle.rd_duplicate.specs.declared.duplicate.Round.{Round}
 use Rattle.scaling.specs.Near.{near, near_mono, near_zero_lem}
 use Rattle.scaling.specs.Cross.{add_n}
-use Rattle.scaling.specs.Kind.{Kind, In, last, floor_le, near_le, mul_k, mul_ok, div_k, div_ok, plus_k, plus_ok, within, same_k}
-use Rattle.scaling.specs.Last.{Digits, digits_of}
-use Rattle.scaling.specs.Two.{Two, mul_two, div_two, plus_two, summed}
-use Rattle.scaling.specs.One.{lit_two, lit_ok, widen_two}
-use Rattle.scaling.specs.Root.{root_k, root_ok, root_two}
+use Rattle.scaling.specs.Kind.{Kind, In, last, mul_k, mul_ok, div_k, div_ok, plus_k, plus_ok, within, same_k}
+use Rattle.scaling.proofs.Kind.{floor_le, near_le}
+use Rattle.scaling.specs.Last.{Digits}
+use Rattle.scaling.proofs.Last.{digits_of}
+use Rattle.scaling.specs.Two.{Two}
+use Rattle.scaling.proofs.Two.{mul_two, div_two, plus_two, summed}
+use Rattle.scaling.specs.One.{lit_ok}
+use Rattle.scaling.proofs.One.{lit_two, widen_two}
+use Rattle.scaling.specs.Root.{root_k, root_ok}
+use Rattle.scaling.proofs.Root.{root_two}
 use Rattle.scaling.specs.Signed.{above}
-use Rattle.scaling.specs.Lead.{on_grid, quarter}
+use Rattle.scaling.proofs.Lead.{on_grid, quarter}
 use Rattle.scaling.specs.Every.{all, every}
 use Rattle.units_rd.specs.Lead.{lead_kept, mean_kept}
 use Rattle.units_rd.specs.Mean.{mean_k}

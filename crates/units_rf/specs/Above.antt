@@ -11,10 +11,12 @@ use Rattle.binary64.specs.Operators.{◌⊖◌}
 use Rattle.root.specs.Root.{root}
 use Rattle.scaling.specs.Near.{near, near_mono, near_exact, near_whole, size_above, either}
 use Rattle.scaling.specs.Units.{Is}
-use Rattle.scaling.specs.Same.{same_units}
-use Rattle.scaling.specs.Kind.{near_le}
-use Rattle.scaling.specs.Last.{Digits, digits_of}
-use Rattle.scaling.specs.Root.{root_units, root_mono, root_at, root_scale, root_value}
+use Rattle.scaling.proofs.Same.{same_units}
+use Rattle.scaling.proofs.Kind.{near_le}
+use Rattle.scaling.specs.Last.{Digits}
+use Rattle.scaling.proofs.Last.{digits_of}
+use Rattle.scaling.specs.Root.{root_units}
+use Rattle.scaling.proofs.Root.{root_mono, root_at, root_scale, root_value}
 
 -- ---- rounding takes a fifth away at most: three digits are kept
 near_part : (n : ℕ) → 2 ^ 2 ≤ n → 4 * n ≤ 5 * near binary64 n 1

@@ -17,15 +17,21 @@ use Rattle.series.specs.Ln.{ln}
 use Rattle.scaling.specs.Near.{near}
 use Rattle.scaling.specs.Cross.{add_n}
 use Rattle.scaling.specs.Units.{Is, lt_units, eq_units}
-use Rattle.scaling.specs.Kind.{Kind, last, floor_le, mul_k, mul_ok, div_k, div_ok, plus_k, plus_ok, within}
-use Rattle.scaling.specs.Last.{digits_of}
-use Rattle.scaling.specs.Two.{Two, mul_two, div_two, plus_two, summed, lt_two}
-use Rattle.scaling.specs.One.{lit_is, lit_two, lit_ok, widen_two}
-use Rattle.scaling.specs.Tests.{eq_two}
-use Rattle.scaling.specs.Leaf.{gap_k, gap_ok, gap_two, gap_units, leaf_two}
-use Rattle.scaling.specs.Root.{root_k, root_ok, root_two}
-use Rattle.scaling.specs.Gap.{raise_k, raise_two, ratio_least}
-use Rattle.scaling.specs.Pick.{choose}
+use Rattle.scaling.specs.Kind.{Kind, last, mul_k, mul_ok, div_k, div_ok, plus_k, plus_ok, within}
+use Rattle.scaling.proofs.Kind.{floor_le}
+use Rattle.scaling.proofs.Last.{digits_of}
+use Rattle.scaling.specs.Two.{Two}
+use Rattle.scaling.proofs.Two.{mul_two, div_two, plus_two, summed, lt_two}
+use Rattle.scaling.specs.One.{lit_ok}
+use Rattle.scaling.proofs.One.{lit_is, lit_two, widen_two}
+use Rattle.scaling.proofs.Tests.{eq_two}
+use Rattle.scaling.specs.Leaf.{gap_k, gap_ok}
+use Rattle.scaling.proofs.Leaf.{gap_two, gap_units, leaf_two}
+use Rattle.scaling.specs.Root.{root_k, root_ok}
+use Rattle.scaling.proofs.Root.{root_two}
+use Rattle.scaling.specs.Gap.{raise_k}
+use Rattle.scaling.proofs.Gap.{raise_two, ratio_least}
+use Rattle.scaling.proofs.Pick.{choose}
 use Rattle.carlson.specs.Constants.{zero, two, half, half_pi}
 use Rattle.rc_cases.specs.Cases.{rc_at_zero, rc_at_equal, rc_by_atan, rc_by_ln1p, rc_by_ln, rc_cases}
 use Rattle.units.specs.Runs.{Fair}

@@ -10,10 +10,12 @@ use Rattle.series.specs.Atan.{atan}
 use Rattle.series.specs.Ln.{ln}
 use Rattle.series.specs.Ln1p.{ln_1p}
 use Rattle.scaling.specs.Units.{Is}
-use Rattle.scaling.specs.Kind.{Kind, last, floor_le}
+use Rattle.scaling.specs.Kind.{Kind, last}
+use Rattle.scaling.proofs.Kind.{floor_le}
 use Rattle.scaling.specs.Leaf.{Leaf, Value}
 use Rattle.leaf_bounds.specs.Rounded.{Powers}
-use Rattle.leaf_bounds.specs.Leaves.{low, atan_between, ln_between, spread_between}
+use Rattle.leaf_bounds.specs.Leaves.{low}
+use Rattle.leaf_bounds.proofs.Leaves.{atan_between, ln_between, spread_between}
 use Rattle.leaf_bounds.specs.Leaves as bounds
 
 -- ln(1 + a) - ln(1 - a)

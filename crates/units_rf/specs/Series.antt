@@ -5,9 +5,13 @@ use Rattle.std.specs.Float.{binary64}
 use Rattle.binary64.specs.Operators.{◌⊕◌, ◌⊘◌, bits}
 use Rattle.root.specs.Root.{root}
 use Rattle.scaling.specs.Kind.{Kind, last, mul_k, mul_ok, div_k, div_ok, plus_k, plus_ok, sum_k, sum_ok, nudge_k, nudge_ok, within}
-use Rattle.scaling.specs.Two.{Two, mul_two, div_two, plus_two, sum_two, nudge_two}
-use Rattle.scaling.specs.One.{lit_two, lit_ok, widen_two, neg_two, sub_two}
-use Rattle.scaling.specs.Root.{root_k, root_ok, root_two}
+use Rattle.scaling.specs.Two.{Two}
+use Rattle.scaling.proofs.Two.{mul_two, div_two, plus_two, sum_two, nudge_two}
+use Rattle.scaling.specs.One.{lit_ok}
+use Rattle.scaling.proofs.One.{neg_two, sub_two}
+use Rattle.scaling.proofs.One.{lit_two, widen_two}
+use Rattle.scaling.specs.Root.{root_k, root_ok}
+use Rattle.scaling.proofs.Root.{root_two}
 use Rattle.carlson.specs.Constants.{one, three, four}
 use Rattle.carlson.specs.Common.{lambda_of}
 use Rattle.rf_duplicate.specs.Duplicate.{mean_of, rf_factor}

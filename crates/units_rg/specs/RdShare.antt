@@ -14,14 +14,14 @@ use Rattle.rg_joint.specs.Joint.{rd_begun, rd_moved, rd_ended, rd_next}
 use Rattle.rg_joint.specs.declared.joint.RdPart.{RdPart}
 use Rattle.scaling.specs.Kind.{within}
 use Rattle.scaling.specs.Two.{Two}
-use Rattle.scaling.specs.One.{widen_two}
-use Rattle.scaling.specs.Pick.{choose}
+use Rattle.scaling.proofs.One.{widen_two}
+use Rattle.scaling.proofs.Pick.{choose}
 use Rattle.units.specs.Runs.{Fair}
 use Rattle.units_rd.specs.Mean.{arg_k, some}
 use Rattle.units_rd.specs.Step.{step_inv}
 use Rattle.units_rd.specs.Start.{begun}
 use Rattle.units_rd.specs.Series.{value_k}
-use Rattle.units_rd.specs.Loop.{I, value_two, same_test}
+use Rattle.units_rd.proofs.Loop.{I, value_two, same_test}
 use Rattle.units_rg.specs.RfShare.{moved}
 
 -- a share with the arguments beside it is a state of RD's loop

@@ -17,11 +17,12 @@ use Rattle.rf_duplicate.specs.declared.duplicate.Round.{Round}
 use Rattle.rg_joint.specs.Joint.{rf_begun, rf_moved, rf_ended, rf_next}
 use Rattle.rg_joint.specs.declared.joint.RfPart.{RfPart}
 use Rattle.scaling.specs.Two.{Two}
-use Rattle.scaling.specs.Pick.{choose}
+use Rattle.scaling.proofs.Pick.{choose}
 use Rattle.units.specs.Kinds.{mean_k}
 use Rattle.units.specs.Runs.{Fair}
 use Rattle.units_rf.specs.Rc.{result_k}
-use Rattle.units_rf.specs.Rounds.{gap_k, Inv, pass, test, series_two, begin}
+use Rattle.units_rf.specs.Rounds.{gap_k, Inv}
+use Rattle.units_rf.proofs.Rounds.{pass, test, series_two, begin}
 
 -- a share with the arguments beside it is a state of RF's loop
 abbrev state : RfPart → Float → Float → Float → Round

@@ -6,14 +6,15 @@ use Rattle.std.proofs.Math.Dec.{not_T}
 use Rattle.std.specs.Float.{binary64}
 use Rattle.std.specs.Float.Ieee.{lt, eq, below}
 use Rattle.scaling.specs.Units.{lt_units}
-use Rattle.scaling.specs.Two.{lt_two}
-use Rattle.scaling.specs.Tests.{zero_is, no_units}
-use Rattle.scaling.specs.Signs.{plus}
-use Rattle.scaling.specs.Pick.{choose}
+use Rattle.scaling.proofs.Two.{lt_two}
+use Rattle.scaling.proofs.Tests.{zero_is, no_units}
+use Rattle.scaling.proofs.Signs.{plus}
+use Rattle.scaling.proofs.Pick.{choose}
 use Rattle.carlson.specs.Constants.{zero}
 use Rattle.sorting.specs.Sorting.{fall_xy, fall_xz, rise_yz, largest_first}
 use Rattle.sorting.specs.declared.Triple.{Triple}
-use Rattle.units.specs.Arguments.{Argument, no_units_of}
+use Rattle.units.specs.Arguments.{Argument}
+use Rattle.units.proofs.Arguments.{no_units_of}
 
 -- ---- of two that are not below zero: what a comparison says of zeros
 nothing_below : (s t : Bool) (m n : ℕ) → n ≡ 0 → T (not (below s m false 0)) → T (below s m t n) → ⊥

@@ -7,8 +7,10 @@ use Rattle.std.proofs.Common.{sym, ap, ◌∙◌, le_trans, le_of_eq, le_of_lt, 
 use Rattle.std.proofs.Math.Nat.{le_of_mul-le-mul_left}
 use Rattle.std.specs.Float.Ieee.{size}
 use Rattle.std.specs.Float.Ieee.Digits.{size-lt, size_reaches, size-le}
-use Rattle.algebra.specs.Ring.{con, ◌:+◌, ◌:*◌, ◌≈◌, ◌⊩◌, ◌times◌≼◌, Order, Law, by_below, by_ring}
-use Rattle.scaling.specs.Root.{root_units, root_mono, root_at, positive_size}
+use Rattle.algebra.specs.Ring.{con, ◌:+◌, ◌:*◌, ◌≈◌, ◌⊩◌, ◌times◌≼◌, Order, Law}
+use Rattle.algebra.proofs.Ring.{by_below, by_ring}
+use Rattle.scaling.specs.Root.{root_units}
+use Rattle.scaling.proofs.Root.{root_mono, root_at, positive_size}
 
 -- ---- a root's square is its number, up to a factor of four
 pub root_square : (n : ℕ) → 0 < n → n < 2 ^ 1200 → n * 2 ^ 1074 ≤ 4 * (root_units n * root_units n)

@@ -21,23 +21,31 @@ use Rattle.carlson.specs.declared.answer.Found.{Found}
 use Rattle.elliprc.specs.Rc.{rc_unchecked}
 use Rattle.polynomial.specs.Polynomial.{horner}
 use Rattle.rj_term.specs.Helper.{hundredth, three_halves, Outside, AtHalf, by_atan1p, by_logs1p, by_rc1p, by_ln1p, rc1p}
-use Rattle.rj_term.specs.Borders.{past, to_atan, to_logs, atan_reached, logs_reached, ln_reached_from_rj}
-use Rattle.scaling.specs.Kind.{Kind, last, floor_le, mul_k, mul_ok, div_k, div_ok, plus_k, plus_ok, nudge_k, nudge_ok, within}
+use Rattle.rj_term.specs.Borders.{past, to_atan, to_logs}
+use Rattle.rj_term.proofs.Borders.{atan_reached, logs_reached, ln_reached_from_rj}
+use Rattle.scaling.specs.Kind.{Kind, last, mul_k, mul_ok, div_k, div_ok, plus_k, plus_ok, nudge_k, nudge_ok, within}
+use Rattle.scaling.proofs.Kind.{floor_le}
 use Rattle.scaling.specs.Units.{Is, lt_units}
-use Rattle.scaling.specs.Two.{Two, mul_two, div_two, plus_two}
-use Rattle.scaling.specs.Tests.{zero_is}
-use Rattle.scaling.specs.One.{lit_two, lit_ok, lit_is, widen_two, clip_two, clip_k, neg_two, abs_units}
-use Rattle.scaling.specs.Leaf.{leaf_two}
-use Rattle.scaling.specs.Root.{root_k, root_ok, root_two}
-use Rattle.scaling.specs.Still.{flat_two, still_two, recast_two}
+use Rattle.scaling.specs.Two.{Two}
+use Rattle.scaling.proofs.Two.{mul_two, div_two, plus_two}
+use Rattle.scaling.proofs.Tests.{zero_is}
+use Rattle.scaling.specs.One.{lit_ok, clip_k}
+use Rattle.scaling.proofs.One.{neg_two}
+use Rattle.scaling.proofs.One.{lit_two, lit_is, widen_two, clip_two, abs_units}
+use Rattle.scaling.proofs.Leaf.{leaf_two}
+use Rattle.scaling.specs.Root.{root_k, root_ok}
+use Rattle.scaling.proofs.Root.{root_two}
+use Rattle.scaling.specs.Still.{flat_two}
+use Rattle.scaling.proofs.Still.{still_two, recast_two}
 use Rattle.scaling.specs.Nan.{mul_nan}
-use Rattle.scaling.specs.Swap.{nudge_last_two}
-use Rattle.scaling.specs.Pick.{choose}
-use Rattle.scaling.specs.Plain.{le_units}
+use Rattle.scaling.proofs.Swap.{nudge_last_two}
+use Rattle.scaling.proofs.Pick.{choose}
+use Rattle.scaling.proofs.Plain.{le_units}
 use Rattle.units.specs.Runs.{Fair}
-use Rattle.units.specs.Arguments.{Argument, no_units_of}
+use Rattle.units.specs.Arguments.{Argument}
+use Rattle.units.proofs.Arguments.{no_units_of}
 use Rattle.units_rf.specs.Leaves.{ratio_k, leaf_k, spread, atan_leaf, ln_leaf, spread_leaf}
-use Rattle.units_rf.specs.Rc.{unchecked_fair}
+use Rattle.units_rf.proofs.Rc.{unchecked_fair}
 use Rattle.units_rj.specs.Polynomial.{tiny_k, horner_two}
 
 -- ---- kinds: y, and what comes of it

@@ -9,4 +9,3 @@ pub mod Start
 pub mod Series
 pub mod Loop
 pub mod Positive
-pub mod Rj

@@ -21,17 +21,23 @@ use Rattle.carlson.specs.Answer.{closed_at}
 use Rattle.elliprc.specs.Rc.{rc_found, rc_unchecked}
 use Rattle.rc_cases.specs.Cases.{rc_at_equal, rc_by_atan, rc_by_ln1p, rc_by_ln, rc_cases, rc_steps}
 use Rattle.algebra.specs.Order.{lt_or_le}
-use Rattle.scaling.specs.Kind.{Kind, last, floor_le, mul_k, mul_ok, div_k, div_ok, plus_k, plus_ok, nudge_k, nudge_ok, within}
+use Rattle.scaling.specs.Kind.{Kind, last, mul_k, mul_ok, div_k, div_ok, plus_k, plus_ok, nudge_k, nudge_ok, within}
+use Rattle.scaling.proofs.Kind.{floor_le}
 use Rattle.scaling.specs.Units.{Is, lt_units, eq_units}
-use Rattle.scaling.specs.Two.{Two, mul_two, div_two, plus_two, nudge_two}
-use Rattle.scaling.specs.Tests.{zero_is}
+use Rattle.scaling.specs.Two.{Two}
+use Rattle.scaling.proofs.Two.{mul_two, div_two, plus_two, nudge_two}
+use Rattle.scaling.proofs.Tests.{zero_is}
 use Rattle.scaling.specs.Near.{near}
-use Rattle.scaling.specs.One.{lit_two, constant_two, lit_ok, lit_is, widen_two, neg_two, abs_units, maximum_units}
-use Rattle.scaling.specs.Leaf.{leaf_two, gap_k, gap_ok, gap_two}
-use Rattle.scaling.specs.Pick.{choose}
+use Rattle.scaling.specs.One.{lit_ok}
+use Rattle.scaling.proofs.One.{constant_two, neg_two}
+use Rattle.scaling.proofs.One.{lit_two, lit_is, widen_two, abs_units, maximum_units}
+use Rattle.scaling.specs.Leaf.{gap_k, gap_ok}
+use Rattle.scaling.proofs.Leaf.{leaf_two, gap_two}
+use Rattle.scaling.proofs.Pick.{choose}
 use Rattle.scaling.specs.Nan.{mul_nan, nan_div}
-use Rattle.scaling.specs.Root.{root_k, root_ok, root_two}
-use Rattle.scaling.specs.Still.{recast_two}
+use Rattle.scaling.specs.Root.{root_k, root_ok}
+use Rattle.scaling.proofs.Root.{root_two}
+use Rattle.scaling.proofs.Still.{recast_two}
 use Rattle.units.specs.Limits.{Size, within_limits}
 use Rattle.units.specs.Runs.{Fair}
 use Rattle.units_rf.specs.Leaves.{ratio_k, leaf_k, spread, atan_leaf, ln_leaf, spread_leaf}

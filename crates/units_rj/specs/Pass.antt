@@ -7,12 +7,15 @@ use Rattle.std.specs.Float.Ieee.{low}
 use Rattle.binary64.specs.Operators.{◌⊕◌}
 use Rattle.root.specs.Root.{root}
 use Rattle.scaling.specs.Units.{Is}
-use Rattle.scaling.specs.Same.{same_units}
-use Rattle.scaling.specs.Kind.{Kind, last, floor_le, plus_k, plus_ok, within}
+use Rattle.scaling.proofs.Same.{same_units}
+use Rattle.scaling.specs.Kind.{Kind, last, plus_k, plus_ok, within}
+use Rattle.scaling.proofs.Kind.{floor_le}
 use Rattle.scaling.specs.Two.{Two}
-use Rattle.scaling.specs.Root.{root_units, root_value}
-use Rattle.scaling.specs.Nothing.{root_nothing}
-use Rattle.scaling.specs.Maybe.{Maybe, none, some, some?, units, units', solid?, add_maybe, add_some, add_law, Sum}
+use Rattle.scaling.specs.Root.{root_units}
+use Rattle.scaling.proofs.Root.{root_value}
+use Rattle.scaling.proofs.Nothing.{root_nothing}
+use Rattle.scaling.specs.Maybe.{Maybe, none, some, some?, units, units', solid?, Sum}
+use Rattle.scaling.proofs.Maybe.{add_maybe, add_some, add_law}
 use Rattle.units_rd.specs.Mean.{mean_k}
 use Rattle.units_rd.specs.Step.{roots_k, roots_two}
 use Rattle.units_rj.specs.Bound.{root_square, pair_square}

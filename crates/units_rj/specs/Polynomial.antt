@@ -4,9 +4,11 @@ use Rattle.std.specs.Float.{binary64}
 use Rattle.std.specs.Float.Ieee.{of_int, div}
 use Rattle.polynomial.specs.Polynomial.{coefficient, down, horner}
 use Rattle.scaling.specs.Kind.{Kind, last, mul_k, mul_ok, sum_k, sum_ok, nudge_k, nudge_ok, within}
-use Rattle.scaling.specs.Two.{Two, mul_two, sum_two}
-use Rattle.scaling.specs.One.{lit_two, lit_ok, widen_two}
-use Rattle.scaling.specs.Swap.{nudge_last_two}
+use Rattle.scaling.specs.Two.{Two}
+use Rattle.scaling.proofs.Two.{mul_two, sum_two}
+use Rattle.scaling.specs.One.{lit_ok}
+use Rattle.scaling.proofs.One.{lit_two, widen_two}
+use Rattle.scaling.proofs.Swap.{nudge_last_two}
 
 -- up to 1/64 in size
 abbrev pub tiny_k : Kind

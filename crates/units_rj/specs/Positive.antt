@@ -19,21 +19,28 @@ use Rattle.rj_positive.specs.Duplicate.{rj_duplication}
 use Rattle.rj_positive.specs.Positive.{well_apart, rj_all, rj_three, rj_two, rj_last, rj_pair, rj_cases, rj_positive}
 use Rattle.scaling.specs.Kind.{Kind, last, mul_k, mul_ok, div_k, div_ok, sum_k, sum_ok, within}
 use Rattle.scaling.specs.Units.{eq_units}
-use Rattle.scaling.specs.Two.{Two, mul_two, div_two, lt_two}
-use Rattle.scaling.specs.Tests.{eq_two, le_two}
-use Rattle.scaling.specs.One.{lit_two, lit_ok, widen_two, sub_two}
-use Rattle.scaling.specs.Pick.{choose, smaller_two, larger_two}
-use Rattle.scaling.specs.Root.{root_k, root_ok, root_two}
-use Rattle.scaling.specs.Distinct.{distinct_k, distinct_two}
+use Rattle.scaling.specs.Two.{Two}
+use Rattle.scaling.proofs.Two.{mul_two, div_two, lt_two}
+use Rattle.scaling.proofs.Tests.{eq_two, le_two}
+use Rattle.scaling.specs.One.{lit_ok}
+use Rattle.scaling.proofs.One.{sub_two}
+use Rattle.scaling.proofs.One.{lit_two, widen_two}
+use Rattle.scaling.proofs.Pick.{choose, smaller_two, larger_two}
+use Rattle.scaling.specs.Root.{root_k, root_ok}
+use Rattle.scaling.proofs.Root.{root_two}
+use Rattle.scaling.specs.Distinct.{distinct_k}
+use Rattle.scaling.proofs.Distinct.{distinct_two}
 use Rattle.scaling.specs.Nan.{nan_sub, sub_nan, mul_nan, nan_div}
-use Rattle.units.specs.Arguments.{Argument, above, distinct}
+use Rattle.units.specs.Arguments.{Argument}
+use Rattle.units.proofs.Arguments.{above, distinct}
 use Rattle.units.specs.Runs.{Fair, closed, carried, same_way}
 use Rattle.units.specs.Ran.{Ran, refusal, result, wider_same}
-use Rattle.units_rf.specs.Rc.{result_k, rc_same, unchecked_fair}
+use Rattle.units_rf.specs.Rc.{result_k}
+use Rattle.units_rf.proofs.Rc.{rc_same, unchecked_fair}
 use Rattle.units_rd.specs.Mean.{arg_k}
 use Rattle.units_rd.specs.Means.{agm_k}
-use Rattle.units_rd.specs.Steps.{arg_of, arg_some, equal_zero}
-use Rattle.units_rd.specs.Rd.{unchecked_ran}
+use Rattle.units_rd.proofs.Steps.{arg_of, arg_some, equal_zero}
+use Rattle.units_rd.proofs.Rd.{unchecked_ran}
 use Rattle.units_rj.specs.Start.{at_most_one}
 use Rattle.units_rj.specs.Loop.{duplication_two}
 

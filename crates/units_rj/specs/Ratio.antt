@@ -9,19 +9,24 @@ use Rattle.std.proofs.Math.Dec.{T, lit<}
 use Rattle.std.proofs.Math.Pow.{pow-lt}
 use Rattle.std.specs.Float.Ieee.{binary64, le, of_bits}
 use Rattle.std.specs.Float.Ieee.Scale.{overflow}
-use Rattle.algebra.specs.Ring.{con, ◌:*◌, ◌≈◌, ◌⊩◌, ◌times◌≼◌, Law, Order, by_ring, by_below}
+use Rattle.algebra.specs.Ring.{con, ◌:*◌, ◌≈◌, ◌⊩◌, ◌times◌≼◌, Law, Order}
+use Rattle.algebra.proofs.Ring.{by_ring, by_below}
 use Rattle.binary64.specs.Operators.{◌⊕◌, ◌⊗◌, ◌⊘◌, bits}
 use Rattle.root.specs.Root.{root}
 use Rattle.carlson.specs.Constants.{two}
 use Rattle.scaling.specs.Near.{near, digits, near_mono, near_exact}
 use Rattle.scaling.specs.Units.{Is}
 use Rattle.scaling.specs.Half.{half_less, half_more}
-use Rattle.scaling.specs.Kind.{Kind, last, floor_le, mul_k, mul_ok, div_k, div_ok, plus_k, plus_ok, within}
-use Rattle.scaling.specs.Two.{Two, mul_two, div_two}
-use Rattle.scaling.specs.One.{lit_two, lit_ok, lit_is, widen_two, clip_two, clip_k}
-use Rattle.scaling.specs.Plain.{units_le}
-use Rattle.scaling.specs.Maybe.{Maybe, none, some, some?, units, units', solid?, normal?, mul_maybe, mul_law, add_maybe, add_some}
-use Rattle.scaling.specs.Maybe.{add_law}
+use Rattle.scaling.specs.Kind.{Kind, last, mul_k, mul_ok, div_k, div_ok, plus_k, plus_ok, within}
+use Rattle.scaling.proofs.Kind.{floor_le}
+use Rattle.scaling.specs.Two.{Two}
+use Rattle.scaling.proofs.Two.{mul_two, div_two}
+use Rattle.scaling.specs.One.{lit_ok, clip_k}
+use Rattle.scaling.proofs.One.{lit_two, lit_is, widen_two, clip_two}
+use Rattle.scaling.proofs.Plain.{units_le}
+use Rattle.scaling.specs.Maybe.{Maybe, none, some, some?, units, units', solid?, normal?}
+use Rattle.scaling.proofs.Maybe.{mul_maybe, mul_law, add_maybe, add_some}
+use Rattle.scaling.proofs.Maybe.{add_law}
 use Rattle.units_rd.specs.Mean.{mean_k}
 use Rattle.units_rd.specs.Step.{roots_two}
 use Rattle.units_rj.specs.Bound.{of_three, ratio_bound, middle_bound}

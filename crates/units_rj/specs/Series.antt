@@ -9,7 +9,8 @@ use Rattle.std.proofs.Math.Dec.{T}
 use Rattle.std.proofs.Math.Pow.{pow-lt}
 use Rattle.std.specs.Float.{nan, binary64}
 use Rattle.std.specs.Float.Ieee.{lt, below, of_bits}
-use Rattle.algebra.specs.Ring.{con, ◌:*◌, ◌≈◌, ◌⊩◌, ◌times◌≼◌, Order, by_below}
+use Rattle.algebra.specs.Ring.{con, ◌:*◌, ◌≈◌, ◌⊩◌, ◌times◌≼◌, Order}
+use Rattle.algebra.proofs.Ring.{by_below}
 use Rattle.binary64.specs.Leaves.{absolute}
 use Rattle.binary64.specs.Operators.{◌⊕◌, ◌⊖◌, ◌⊗◌, bits}
 use Rattle.carlson.specs.Constants.{two, three, four}
@@ -18,18 +19,25 @@ use Rattle.rj_positive.specs.declared.duplicate.Round.{Round}
 use Rattle.scaling.specs.Near.{near, digits, near_mono, near_exact}
 use Rattle.scaling.specs.Units.{lt_units}
 use Rattle.scaling.specs.Half.{half_less}
-use Rattle.scaling.specs.Kind.{Kind, In, last, floor_le, mul_k, mul_ok, div_k, div_ok, plus_k, plus_ok, sum_k, sum_ok, within}
-use Rattle.scaling.specs.Last.{Digits, digits_of}
-use Rattle.scaling.specs.Two.{Two, mul_two, div_two, plus_two, sum_two, lt_two}
-use Rattle.scaling.specs.One.{lit_two, lit_ok, lit_n, widen_two, clip_two, clip_k, abs_two, neg_two, sub_two}
-use Rattle.scaling.specs.Power.{power_k, power_ok, power_two}
-use Rattle.scaling.specs.Signed.{larger_two}
-use Rattle.scaling.specs.Lead.{shifted}
+use Rattle.scaling.specs.Kind.{Kind, In, last, mul_k, mul_ok, div_k, div_ok, plus_k, plus_ok, sum_k, sum_ok, within}
+use Rattle.scaling.proofs.Kind.{floor_le}
+use Rattle.scaling.specs.Last.{Digits}
+use Rattle.scaling.proofs.Last.{digits_of}
+use Rattle.scaling.specs.Two.{Two}
+use Rattle.scaling.proofs.Two.{mul_two, div_two, plus_two, sum_two, lt_two}
+use Rattle.scaling.specs.One.{lit_ok, lit_n, clip_k}
+use Rattle.scaling.proofs.One.{neg_two, sub_two}
+use Rattle.scaling.proofs.One.{lit_two, widen_two, clip_two, abs_two}
+use Rattle.scaling.specs.Power.{power_k, power_ok}
+use Rattle.scaling.proofs.Power.{power_two}
+use Rattle.scaling.proofs.Signed.{larger_two}
+use Rattle.scaling.proofs.Lead.{shifted}
 use Rattle.scaling.specs.Nan.{mul_nan, add_nan}
 use Rattle.units.specs.Runs.{Fair}
 use Rattle.units_rd.specs.Lead.{part}
 use Rattle.units_rd.specs.Mean.{mean_k, gap_k}
-use Rattle.units_rd.specs.Series.{factor_k, third_two}
+use Rattle.units_rd.specs.Series.{factor_k}
+use Rattle.units_rd.proofs.Series.{third_two}
 use Rattle.units_rj.specs.Pass.{l, l_pos}
 use Rattle.units_rj.specs.Step.{fourth_k, any_fourth_k, sums_k, any_fourth, any_sums}
 

@@ -8,7 +8,8 @@ use Rattle.std.proofs.Math.Bool.{◌||◌}
 use Rattle.std.proofs.Math.Dec.{T, lit<}
 use Rattle.std.specs.Float.Ieee.{binary64, sub, of_bits}
 use Rattle.std.specs.Float.Ieee.Scale.{overflow}
-use Rattle.algebra.specs.Ring.{con, ◌:*◌, ◌≈◌, ◌⊩◌, ◌times◌≼◌, Order, by_below}
+use Rattle.algebra.specs.Ring.{con, ◌:*◌, ◌≈◌, ◌⊩◌, ◌times◌≼◌, Order}
+use Rattle.algebra.proofs.Ring.{by_below}
 use Rattle.binary64.specs.Operators.{◌⊕◌, ◌⊖◌, ◌⊗◌, ◌⊘◌, bits}
 use Rattle.root.specs.Root.{root}
 use Rattle.carlson.specs.Constants.{one, two, four}
@@ -18,15 +19,23 @@ use Rattle.scaling.specs.Near.{near, near_zero_lem}
 use Rattle.scaling.specs.Cross.{add_n}
 use Rattle.scaling.specs.Units.{neg_units}
 use Rattle.scaling.specs.Half.{half_more}
-use Rattle.scaling.specs.Kind.{Kind, In, last, floor_le, near_le, mul_k, mul_ok, div_k, div_ok, plus_k, plus_ok, sum_k, sum_ok, within}
-use Rattle.scaling.specs.Last.{Digits, digits_of}
-use Rattle.scaling.specs.Two.{Two, mul_two, div_two, plus_two, sum_two, summed}
-use Rattle.scaling.specs.Tests.{zero_is}
-use Rattle.scaling.specs.One.{lit_two, lit_ok, widen_two, sub_two, neg_two}
-use Rattle.scaling.specs.Root.{root_k, root_ok, root_two}
-use Rattle.scaling.specs.Nothing.{Nothing, root_nothing, nothing_two, skip_last, skip_last_units}
-use Rattle.scaling.specs.Lead.{on_grid, quarter}
-use Rattle.scaling.specs.Maybe.{Maybe, force, solid?, mul_maybe, mul_some, add_maybe, add_some, add_law}
+use Rattle.scaling.specs.Kind.{Kind, In, last, mul_k, mul_ok, div_k, div_ok, plus_k, plus_ok, sum_k, sum_ok, within}
+use Rattle.scaling.proofs.Kind.{floor_le, near_le}
+use Rattle.scaling.specs.Last.{Digits}
+use Rattle.scaling.proofs.Last.{digits_of}
+use Rattle.scaling.specs.Two.{Two}
+use Rattle.scaling.proofs.Two.{mul_two, div_two, plus_two, sum_two, summed}
+use Rattle.scaling.proofs.Tests.{zero_is}
+use Rattle.scaling.specs.One.{lit_ok}
+use Rattle.scaling.proofs.One.{sub_two, neg_two}
+use Rattle.scaling.proofs.One.{lit_two, widen_two}
+use Rattle.scaling.specs.Root.{root_k, root_ok}
+use Rattle.scaling.proofs.Root.{root_two}
+use Rattle.scaling.specs.Nothing.{Nothing, nothing_two, skip_last, skip_last_units}
+use Rattle.scaling.proofs.Nothing.{root_nothing}
+use Rattle.scaling.proofs.Lead.{on_grid, quarter}
+use Rattle.scaling.specs.Maybe.{Maybe, solid?}
+use Rattle.scaling.proofs.Maybe.{force, mul_maybe, mul_some, add_maybe, add_some, add_law}
 use Rattle.scaling.specs.Maybe as maybe
 use Rattle.units_rd.specs.Mean.{arg_k, mean_k, gap_k, Arg, none, some, some?, units, units'}
 use Rattle.units_rd.specs.Step.{lambda_k}

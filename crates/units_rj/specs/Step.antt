@@ -5,7 +5,8 @@ use Rattle.std.proofs.Common.{sym, ap, ◌∙◌, subst, inl, inr, le_trans, le_
 use Rattle.std.proofs.Math.Nat.{le_of_mul-le-mul_left}
 use Rattle.std.specs.Float.Ieee.{binary64, neg, lt, le, low, of_bits}
 use Rattle.std.specs.Float.Ieee.Fits.{and_l, and_r}
-use Rattle.algebra.specs.Ring.{con, ◌:*◌, ◌≈◌, ◌⊩◌, ◌times◌≼◌, Order, by_below}
+use Rattle.algebra.specs.Ring.{con, ◌:*◌, ◌≈◌, ◌⊩◌, ◌times◌≼◌, Order}
+use Rattle.algebra.proofs.Ring.{by_below}
 use Rattle.binary64.specs.Operators.{◌⊕◌, ◌⊗◌, ◌⊘◌, bits}
 use Rattle.root.specs.Root.{root}
 use Rattle.carlson.specs.Constants.{one, four, half}
@@ -18,15 +19,20 @@ use Rattle.rj_positive.specs.Duplicate.{rj_denominator, rj_ratio, rj_moved, rj_w
 use Rattle.rj_positive.specs.declared.duplicate.Round.{Round}
 use Rattle.rj_term.specs.declared.term.Roots.{Roots}
 use Rattle.scaling.specs.Near.{near, near_same, near_zero_lem}
-use Rattle.scaling.specs.Kind.{Kind, In, and₃, last, floor_le, mul_k, mul_ok, div_k, div_ok, plus_k, plus_ok, within, same_k}
-use Rattle.scaling.specs.Last.{Digits, digits_of}
-use Rattle.scaling.specs.Two.{Two, mul_two, div_two, plus_two, summed}
-use Rattle.scaling.specs.Tests.{same_float}
-use Rattle.scaling.specs.One.{lit_two, lit_ok, widen_two}
+use Rattle.scaling.specs.Kind.{Kind, In, last, mul_k, mul_ok, div_k, div_ok, plus_k, plus_ok, within, same_k}
+use Rattle.scaling.proofs.Kind.{and₃, floor_le}
+use Rattle.scaling.specs.Last.{Digits}
+use Rattle.scaling.proofs.Last.{digits_of}
+use Rattle.scaling.specs.Two.{Two}
+use Rattle.scaling.proofs.Two.{mul_two, div_two, plus_two, summed}
+use Rattle.scaling.proofs.Tests.{same_float}
+use Rattle.scaling.specs.One.{lit_ok}
+use Rattle.scaling.proofs.One.{lit_two, widen_two}
 use Rattle.scaling.specs.Every.{all, every}
-use Rattle.scaling.specs.Pick.{choose}
+use Rattle.scaling.proofs.Pick.{choose}
 use Rattle.scaling.specs.Nan.{mul_nan, add_nan, nan_add}
-use Rattle.scaling.specs.Maybe.{Maybe, none, some, some?, units, units', force}
+use Rattle.scaling.specs.Maybe.{Maybe, none, some, some?, units, units'}
+use Rattle.scaling.proofs.Maybe.{force}
 use Rattle.units.specs.Runs.{Fair}
 use Rattle.units_rd.specs.Lead.{part}
 use Rattle.units_rd.specs.Mean.{mean_k}

@@ -9,7 +9,7 @@ use lib.ListN.{length, take, length-append}
 use lib.Seq.{take_all, length-take-le}
 use Rattle.algebra.specs.Order.{lt_or_le}
 use Rattle.digits.specs.Digits.{word_text}
-use Rattle.digits.specs.DigitLaws.{word_length}
+use Rattle.digits.proofs.DigitLaws.{word_length}
 use Rattle.packed_number.specs.Numbers.{list_cut}
 use Rattle.packed.specs.Jobs.{arity_of, argument_of}
 use Rattle.packed.specs.Reading.{read_at}

@@ -1,7 +1,7 @@
 -- `rj_by_sign` meets its contract: on its own sign each entry is RJ. Assumes nothing.
 use mathlib.Core.Path.{◌∙◌}
 use Rattle.sorting.specs.Order.{lt_once}
-use Rattle.elliprj.specs.Halves.{rj_positive_is, rj_negative_is}
+use Rattle.elliprj.proofs.Halves.{rj_positive_is, rj_negative_is}
 use Rattle.answers.proofs.rj_by_sign.Statement.{statement}
 use Rattle.answers.proofs.rj_by_sign.Tie as tie
 

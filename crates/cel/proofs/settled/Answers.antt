@@ -1,7 +1,7 @@
 -- `settled` meets its contract, its test is the definition's: what was found, put together of its fields, is the same. Assumes
 -- nothing.
 use mathlib.Core.Path.{sym, ◌∙◌}
-use Rattle.carlson.specs.AnswerLaws.{handed_itself}
+use Rattle.carlson.proofs.AnswerLaws.{handed_itself}
 use Rattle.cel.specs.Cel.{cel_settled}
 use Rattle.cel.proofs.settled.Goals as goal
 

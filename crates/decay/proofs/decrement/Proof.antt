@@ -3,7 +3,8 @@ use Prim.Native.Nat.{ℕ, ◌^◌}
 use mathlib.Core.Path.{◌≡◌, sym, ◌∙◌}
 use mathlib.Core.Bool.{Bool, true}
 use Rattle.swing.specs.Period.{within}
-use Rattle.swing.specs.Ranges.{From1, in_within}
+use Rattle.swing.specs.Ranges.{From1}
+use Rattle.swing.proofs.Ranges.{in_within}
 use Rattle.decay.specs.Decrement.{decay_of}
 use Rattle.decay.proofs.decrement.Statement.{statement}
 use Rattle.decay.proofs.decrement.Tie as tie

@@ -2,7 +2,7 @@
 -- checked. Assumes nothing.
 use mathlib.Core.Path.{◌≡◌, refl, sym, ap, ap₂, ◌∙◌}
 use mathlib.Core.Bool.{◌&&◌}
-use Rattle.carlson.specs.AnswerLaws.{handed_itself}
+use Rattle.carlson.proofs.AnswerLaws.{handed_itself}
 use Rattle.carlson.specs.declared.answer.Answer.TheVariants.{Value}
 use Rattle.elliprd.proofs.Within.{Apart, apart_told, stands}
 use Rattle.elliprd.proofs.elliprd.Statement.{statement}

@@ -5,9 +5,10 @@ use mathlib.Core.Bool.{true}
 use lib.Ieee.{Float}
 use Rattle.carlson.specs.Constants.{no_result}
 use Rattle.carlson.specs.Answer.{settled}
-use Rattle.carlson.specs.AnswerLaws.{handed_itself}
+use Rattle.carlson.proofs.AnswerLaws.{handed_itself}
 use Rattle.carlson.specs.declared.answer.Found.{Found}
-use Rattle.carlson_arguments.specs.Door.{moderate3, inside3, no_nan3, none_below3, no_zeros3, none_infinite3, unscaled3}
+use Rattle.carlson_arguments.specs.Door.{moderate3}
+use Rattle.carlson_arguments.proofs.Door.{inside3, no_nan3, none_below3, no_zeros3, none_infinite3, unscaled3}
 use Rattle.elliprc.specs.Rc.{over_root}
 use Rattle.elliprf.specs.Rf.{rf_steps, rf_unchecked, rf}
 use Rattle.elliprf.proofs.elliprf.Statement.{statement}

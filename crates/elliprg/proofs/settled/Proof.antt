@@ -1,7 +1,7 @@
 -- `settled` meets its contract, case by case: what was found, put together of its fields, is the same. Assumes nothing.
 use mathlib.Core.Path.{sym, ◌∙◌}
 use borrow.Author.Rules.{rules}
-use Rattle.carlson.specs.AnswerLaws.{handed_itself}
+use Rattle.carlson.proofs.AnswerLaws.{handed_itself}
 use Rattle.elliprg.specs.Rg.{rg_settled}
 use Rattle.elliprg.proofs.settled.Statement.{statement}
 use Rattle.elliprg.proofs.settled.Tie as tie

@@ -5,18 +5,8 @@ use mathlib.Core.Path.{◌≡◌, refl, ◌∙◌}
 use native.Mathlib.Omega.{arith}
 use lib.ListN.{length, get_or, drop}
 use Rattle.packed_number.specs.Numbers.{number_from, number_at}
-use Rattle.packed_number.specs.Groups.{
-  tenth,
-  weight_more,
-  last_fits,
-  next_fits,
-  value_more,
-  read_cut,
-  read_last,
-  read_more,
-  read_tenth,
-  read_beyond,
-}
+use Rattle.packed_number.specs.Groups.{tenth}
+use Rattle.packed_number.proofs.Groups.{weight_more, last_fits, next_fits, value_more, read_cut, read_last, read_more, read_tenth, read_beyond}
 use Rattle.packed_number.proofs.number_at.Goals as goal
 use Rattle.packed_number.proofs.number_at.Goals.{Else-b-lt128}
 

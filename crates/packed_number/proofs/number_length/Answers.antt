@@ -5,7 +5,7 @@ use mathlib.Core.Path.{◌≡◌, ap}
 use native.Mathlib.Omega.{arith}
 use lib.ListN.{length}
 use Rattle.packed_number.specs.Numbers.{groups_of, number_bytes}
-use Rattle.packed_number.specs.Groups.{groups_last, groups_more, groups_tenth}
+use Rattle.packed_number.proofs.Groups.{groups_last, groups_more, groups_tenth}
 use Rattle.packed_number.proofs.number_length.Goals as goal
 
 pub loop-left-init : goal.loop-left-init

@@ -4,7 +4,7 @@ use mathlib.Core.Path.{◌≡◌, ap}
 use native.Mathlib.Omega.{arith}
 use lib.ListN.{length}
 use Rattle.packed_number.specs.Numbers.{groups_of, number_bytes}
-use Rattle.packed_number.specs.Groups.{groups_last, groups_more, groups_tenth}
+use Rattle.packed_number.proofs.Groups.{groups_last, groups_more, groups_tenth}
 use Rattle.packed_number.proofs.number_length.Given as goal
 
 abbrev pub invariant-loop-left : goal.invariant-loop-left

@@ -1,7 +1,7 @@
 -- What stays so in the loop, and what goes down.
 use Rattle.std.proofs.Common.{◌≡◌, ◌-◌, ◌≤◌, length, drop, sym, ap, ◌∙◌, arith}
 use Rattle.steplog.specs.Steps.{log_from, log_all, steps_of}
-use Rattle.steplog.specs.StepLaws.{log_next, log_last, log_steps, steps_taken}
+use Rattle.steplog.proofs.StepLaws.{log_next, log_last, log_steps, steps_taken}
 use Rattle.steplog.specs.declared.Log.{Log}
 use Rattle.steplog.proofs.advance.Given as goal
 

@@ -2,7 +2,7 @@
 use Prim.Native.Nat.{ℕ, ◌<◌}
 use mathlib.Core.Path.{sym, subst}
 use native.Mathlib.Omega.{arith}
-use Rattle.decimal_short.specs.Within.{ten_pos}
+use Rattle.decimal_short.proofs.Within.{ten_pos}
 use Rattle.decimal_text.specs.Shape.{point_shape}
 use Rattle.decimal_text.specs.Bounds.{none_whole, all_part}
 use Rattle.decimal_text.proofs.shape.point.Goals as goal

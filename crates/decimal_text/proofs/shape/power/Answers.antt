@@ -2,7 +2,7 @@
 use Prim.Native.Nat.{ℕ, ◌<◌}
 use mathlib.Core.Path.{sym, subst}
 use borrow.Author.Rules.{rules}
-use Rattle.decimal_short.specs.Within.{ten_pos}
+use Rattle.decimal_short.proofs.Within.{ten_pos}
 use Rattle.decimal_text.specs.Shape.{power_shape}
 use Rattle.decimal_text.proofs.shape.power.Goals as goal
 

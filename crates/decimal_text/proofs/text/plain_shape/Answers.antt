@@ -9,8 +9,8 @@ use Rattle.rounding.specs.Cut.{infinity}
 use Rattle.binary64.specs.Tests.{zero_above}
 use Rattle.decimal_short.specs.Shortest.{place_of, shortest}
 use Rattle.decimal_short.specs.Above.{above_told}
-use Rattle.decimal_short.specs.Fewest.{seventeen_digits}
-use Rattle.decimal_short.specs.Range.{place_most}
+use Rattle.decimal_short.proofs.Fewest.{seventeen_digits}
+use Rattle.decimal_short.proofs.Range.{place_most}
 use Rattle.decimal_write.specs.declared.short.Short.{Short}
 use Rattle.decimal_write.specs.Short.{short_of}
 use Rattle.decimal_text.specs.declared.shape.Shape.{Shape}

@@ -4,9 +4,10 @@ use mathlib.Core.Path.{◌≡◌, sym, ap, ◌∙◌}
 use native.Mathlib.Nat.{pow-succ'}
 use native.Mathlib.Omega.{arith}
 use borrow.Author.Rules.{rules}
-use Rattle.algebra.specs.Ring.{con, ◌:*◌, ◌≈◌, ring}
+use Rattle.algebra.specs.Ring.{con, ◌:*◌, ◌≈◌}
+use Rattle.algebra.proofs.Ring.{ring}
 use Rattle.rounding.specs.Cut.{value}
-use Rattle.rounding.specs.Value.{value_small, value_high}
+use Rattle.rounding.proofs.Value.{value_small, value_high}
 use Rattle.decimal_write.proofs.parts.parts_of.Goals as goal
 
 low : (b : ℕ) → b < 2 ^ 52 → b * 2 ≡ value b * 2

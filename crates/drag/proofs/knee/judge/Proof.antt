@@ -1,6 +1,7 @@
 -- `judge` meets its contract: what the swing answers, weighed. Assumes nothing.
 use mathlib.Core.Path.{sym, subst}
-use Rattle.swing.specs.Bounded.{Bounded, period_bounded}
+use Rattle.swing.specs.Bounded.{Bounded}
+use Rattle.swing.proofs.Bounded.{period_bounded}
 use Rattle.drag.specs.Verdict.{drag_of}
 use Rattle.drag.proofs.knee.judge.Statement.{statement}
 use Rattle.drag.proofs.knee.judge.Tie as tie

@@ -10,7 +10,7 @@ use Rattle.parted.specs.declared.parts.Parts.{Parts}
 use Rattle.parted.specs.Parts.{parts_of, measured, parted_of, rounded_of}
 use Rattle.parted.specs.Rounds.{few}
 use Rattle.drag.specs.Verdict.{passes, quicker, excess, weighed, ahead_of, apart_of}
-use Rattle.drag.specs.ByParts.{within_limit, ahead_is, excess_is}
+use Rattle.drag.proofs.ByParts.{within_limit, ahead_is, excess_is}
 use Rattle.drag.proofs.nanoseconds.weigh.Statement.{statement}
 use Rattle.drag.proofs.nanoseconds.weigh.Tie as tie
 

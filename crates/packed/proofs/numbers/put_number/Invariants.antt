@@ -7,7 +7,7 @@ use lib.ListN.{length, length-set}
 use lib.Seq.{sets}
 use Rattle.packed_number.specs.Numbers.{groups_of, number_bytes}
 use Rattle.packed.specs.LengthLaws.{groups_some}
-use Rattle.packed_number.specs.Groups.{groups_last, groups_more, groups_tenth, rest_less, one_bit}
+use Rattle.packed_number.proofs.Groups.{groups_last, groups_more, groups_tenth, rest_less, one_bit}
 use Rattle.packed.proofs.numbers.put_number.Given as goal
 
 abbrev pub invariant-loop-left : goal.invariant-loop-left

@@ -1,6 +1,7 @@
 -- `scaled` meets its contract: the word stands for the two words of the product. Assumes nothing.
 use Rattle.std.proofs.Common.{◌≡◌, ℕ, ◌+◌, ◌-◌, ◌*◌, ◌/◌, ◌%◌, ◌^◌, ◌<◌, ◌≤◌, [], ◌∷◌, ap, ◌∙◌, le_of_lt, mod-lt, arith, pow_pos, pow-add, rules}
-use Rattle.algebra.specs.Ring.{con, ◌:*◌, ◌≈◌, ◌⊩◌, ◌times◌≼◌, below}
+use Rattle.algebra.specs.Ring.{con, ◌:*◌, ◌≈◌, ◌⊩◌, ◌times◌≼◌}
+use Rattle.algebra.proofs.Ring.{below}
 use Rattle.nearest.specs.Stands.{stuck}
 use Rattle.nearest.specs.Shift.{jam_flag}
 use Rattle.parted.specs.Parts.{parts_of}

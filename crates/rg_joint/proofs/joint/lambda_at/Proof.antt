@@ -2,7 +2,8 @@
 use mathlib.Core.Path.{◌≡◌, sym, ◌∙◌}
 use lib.Ieee.{Float}
 use Rattle.root.specs.Root.{root}
-use Rattle.root.specs.Together.{Numbers3, numbers3_told, root_told}
+use Rattle.root.specs.Together.{Numbers3}
+use Rattle.root.proofs.Together.{numbers3_told, root_told}
 use Rattle.carlson.specs.Common.{lambda_with}
 use Rattle.rg_joint.proofs.joint.lambda_at.Statement.{statement}
 use Rattle.rg_joint.proofs.joint.lambda_at.Tie as tie

@@ -6,7 +6,8 @@ use lib.Ieee.Fits.{and_i}
 use Rattle.binary64.specs.Leaves.{absolute}
 use Rattle.carlson.specs.Constants.{zero, one, half}
 use Rattle.rj_term.specs.Helper.{hundredth, rc1p}
-use Rattle.rj_term.specs.Borders.{past, atan_reached, logs_reached, rc_reached_from_rj, ln_reached_from_rj}
+use Rattle.rj_term.specs.Borders.{past}
+use Rattle.rj_term.proofs.Borders.{atan_reached, logs_reached, rc_reached_from_rj, ln_reached_from_rj}
 use Rattle.rj_term.proofs.helper.elliprc1p.Statement.{statement}
 use Rattle.rj_term.proofs.helper.elliprc1p.Tie as tie
 

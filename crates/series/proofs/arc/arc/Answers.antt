@@ -2,7 +2,7 @@
 use Rattle.std.proofs.Common.{◌≡◌, ℕ, ◌*◌, ◌/◌, ◌^◌, ◌≤◌, ap, ◌∙◌, arith, rules, lt-ltb}
 use Rattle.enclosure.specs.Pieces.{euler, pieces, piece, value}
 use Rattle.enclosure.specs.Rules.{square, share, front, atan_answer}
-use Rattle.enclosure.specs.Sizes.{share_small, share_inside, front_fits}
+use Rattle.enclosure.proofs.Sizes.{share_small, share_inside, front_fits}
 use Rattle.pieces.specs.Row.{value_or_zero}
 use Rattle.series.proofs.Products.{doubled, square_is, square_small, front_is}
 use Rattle.series.proofs.arc.arc.Goals as goal

@@ -4,7 +4,7 @@ use lib.Ieee.{binary64, round, div, of_bits}
 use Rattle.enclosure.specs.Pieces.{value, row, numerators}
 use Rattle.enclosure.specs.Rules.{atan_answer, half_pi}
 use Rattle.series.specs.Scaled.{with_sign}
-use Rattle.series.specs.Cases.{atan_tiny, atan_below_one, atan_at_one, atan_above_one, atan_far, atan_none}
+use Rattle.series.proofs.Cases.{atan_tiny, atan_below_one, atan_at_one, atan_above_one, atan_far, atan_none}
 use Rattle.series.proofs.Patterns.{signed_number}
 use Rattle.series.proofs.arc.atan.Goals as goal
 

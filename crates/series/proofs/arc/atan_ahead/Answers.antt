@@ -2,7 +2,7 @@
 use Rattle.std.proofs.Common.{◌≡◌, ℕ, suc, ◌+◌, ◌-◌, ◌%◌, ◌^◌, ◌<◌, ◌≤◌, refl, ◌∙◌, arith, rules}
 use Rattle.binary64.specs.Tests.{above_no_nan}
 use Rattle.series.specs.Atan.{tiny, one, far}
-use Rattle.series.specs.Cases.{atan_plain_below, atan_plain_above}
+use Rattle.series.proofs.Cases.{atan_plain_below, atan_plain_above}
 use Rattle.series.proofs.Patterns.{both_ends}
 use Rattle.series.proofs.arc.atan_ahead.Goals as goal
 

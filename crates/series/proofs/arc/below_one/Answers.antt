@@ -2,7 +2,7 @@
 use Rattle.std.proofs.Common.{ℕ, ◌+◌, ◌-◌, ◌*◌, ◌^◌, ◌≤◌, eqb, ap, ◌∙◌, arith, rules}
 use lib.Ieee.{binary64, round}
 use Rattle.enclosure.specs.Rules.{atan_answer}
-use Rattle.enclosure.specs.Sizes.{atan_size}
+use Rattle.enclosure.proofs.Sizes.{atan_size}
 use Rattle.series.specs.Pattern.{field, digits}
 use Rattle.series.proofs.arc.below_one.Goals as goal
 

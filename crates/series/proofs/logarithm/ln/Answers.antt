@@ -1,7 +1,7 @@
 -- `series::logarithm::ln` meets its contract, case by case. Assumes nothing.
 use Rattle.std.proofs.Common.{T, sym, ◌∙◌, subst, arith, rules}
 use lib.Ieee.{div, of_bits, nan_bits}
-use Rattle.series.specs.Cases.{ln_under, ln_from, ln_infinity, ln_minus_zero, ln_past, ln_range}
+use Rattle.series.proofs.Cases.{ln_under, ln_from, ln_infinity, ln_minus_zero, ln_past, ln_range}
 use Rattle.series.proofs.logarithm.ln.Goals as goal
 
 pub returns-then-b-lt-TWO : goal.returns-then-b-lt-TWO

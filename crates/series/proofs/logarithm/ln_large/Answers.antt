@@ -3,7 +3,7 @@ use Rattle.std.proofs.Common.{◌≡◌, ℕ, ◌+◌, ◌-◌, ◌%◌, ◌^◌
 use Rattle.rounding.specs.Cut.{infinity}
 use Rattle.binary64.specs.Tests.{above_no_nan}
 use Rattle.series.specs.Ln.{two}
-use Rattle.series.specs.Cases.{ln_from, ln_range}
+use Rattle.series.proofs.Cases.{ln_from, ln_range}
 use Rattle.series.proofs.Patterns.{both_ends}
 use Rattle.series.proofs.logarithm.ln_large.Goals as goal
 

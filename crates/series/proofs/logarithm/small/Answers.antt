@@ -3,7 +3,7 @@ use Rattle.std.proofs.Common.{◌≡◌, ℕ, ◌+◌, ◌-◌, ◌*◌, ◌%◌
 use lib.Count.{count_leading_zeros}
 use lib.Ieee.{of_bits, nan_bits, size}
 use Rattle.series.specs.Ln.{ln_below_half, below_exponent, full_digits}
-use Rattle.series.specs.Cases as cases
+use Rattle.series.proofs.Cases as cases
 use Rattle.series.proofs.Zeros.{zeros, shift_least, shift_most, shifted_is}
 use Rattle.series.proofs.logarithm.small.Goals as goal
 

@@ -1,7 +1,7 @@
 -- `series::one_plus::ln_1p` meets its contract, case by case. Assumes nothing.
 use Rattle.std.proofs.Common.{◌∙◌, arith, rules}
 use lib.Ieee.{div, of_bits}
-use Rattle.series.specs.Cases.{ln_1p_tiny, ln_1p_small, ln_1p_none, ln_1p_range, up_to_one}
+use Rattle.series.proofs.Cases.{ln_1p_tiny, ln_1p_small, ln_1p_none, ln_1p_range, up_to_one}
 use Rattle.series.proofs.one_plus.ln_1p.Goals as goal
 
 pub returns-then-a-lt-TINY : goal.returns-then-a-lt-TINY

@@ -4,7 +4,7 @@ use lib.Count.{count_leading_zeros}
 use lib.Ieee.{binary64, size, round}
 use lib.Ieee.Digits.{size-lt}
 use Rattle.enclosure.specs.Rules.{T-answer, multiple}
-use Rattle.enclosure.specs.Sizes.{multiple_size, multiple_fits}
+use Rattle.enclosure.proofs.Sizes.{multiple_size, multiple_fits}
 use Rattle.series.specs.Ranges.{Seeded, Multiple}
 use Rattle.series.specs.Exponents.{size_half}
 use Rattle.series.proofs.Zeros.{zeros_least, zeros_most, scale_is, first_is, second_is}

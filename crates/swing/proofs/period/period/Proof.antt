@@ -6,8 +6,9 @@ use native.Mathlib.Omega.{arith}
 use Rattle.carlson.specs.declared.answer.Answer.{Answer}
 use Rattle.swing.specs.Period.{within, period_of, swing_numbers}
 use Rattle.carlson.specs.Only.{Only, Finite}
-use Rattle.swing.specs.Ranges.{From1, in_within}
-use Rattle.swing.specs.Bounded.{period_only}
+use Rattle.swing.specs.Ranges.{From1}
+use Rattle.swing.proofs.Ranges.{in_within}
+use Rattle.swing.proofs.Bounded.{period_only}
 use Rattle.swing.proofs.period.period.Statement.{statement}
 use Rattle.swing.proofs.period.period.Tie as tie
 

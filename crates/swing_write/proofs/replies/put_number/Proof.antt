@@ -4,7 +4,7 @@ use mathlib.Core.List.{List}
 use native.Mathlib.Omega.{arith}
 use borrow.Author.Rules.{rules}
 use lib.ListN.{length, set}
-use Rattle.digits.specs.DigitLaws.{digits_length}
+use Rattle.digits.proofs.DigitLaws.{digits_length}
 use Rattle.writing.specs.Decimal.{decimal}
 use Rattle.writing.specs.Places.{places_most}
 use Rattle.writing.specs.Written.{Put, Tried, tried_put, put_more, put_byte}

@@ -6,7 +6,8 @@ use borrow.Author.Rules.{rules}
 use Rattle.writing.specs.Written.{Put, there, tried_there, tried_lacking}
 use Rattle.carlson.specs.declared.answer.Answer.{Answer}
 use Rattle.swing.specs.Period.{period_of}
-use Rattle.swing.specs.Bounded.{Bounded, period_bounded}
+use Rattle.swing.specs.Bounded.{Bounded}
+use Rattle.swing.proofs.Bounded.{period_bounded}
 use Rattle.swing_write.specs.Replies.{swing_text}
 use Rattle.swing_write.proofs.replies.put_swing.Statement.{statement}
 use Rattle.swing_write.proofs.replies.put_swing.Tie as tie

@@ -9,11 +9,13 @@ use lib.Pow.{pow_pos, pow-add}
 use lib.Ieee.{Float, binary64, to_bits}
 use lib.Ieee.Nearest.{closest, closest_same}
 use lib.Ieee.Positive.{num, den, den_pos, value→cross}
-use Rattle.algebra.specs.Ring.{◌:*◌, ◌≈◌, ◌⊩◌, ◌times◌≼◌, ring}
+use Rattle.algebra.specs.Ring.{◌:*◌, ◌≈◌, ◌⊩◌, ◌times◌≼◌}
+use Rattle.algebra.proofs.Ring.{ring}
 use Rattle.rounding.specs.Cut.{value, infinity}
-use Rattle.rounding.specs.Value.{value_high}
-use Rattle.binary64.specs.Meaning.{bits_back}
-use Rattle.between.specs.Between.{Between, whole_units_of, has_value}
+use Rattle.rounding.proofs.Value.{value_high}
+use Rattle.binary64.proofs.Meaning.{bits_back}
+use Rattle.between.specs.Between.{Between}
+use Rattle.between.proofs.Between.{whole_units_of, has_value}
 use Rattle.swing.specs.Ratios.{power}
 use Rattle.swing_write.specs.Replies.{ticks_of}
 use Rattle.swing_write.proofs.seconds.ticks.Statement.{statement}

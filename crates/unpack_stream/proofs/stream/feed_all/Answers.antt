@@ -1,15 +1,14 @@
 -- `feed_all` meets its contract. The invariant: what was fed so far is the beginning of the bytes, and no refusal ended it.
 -- Assumes nothing.
 use Prim.Native.Nat.{ℕ, ◌+◌, ◌-◌, ◌*◌, ◌^◌, ◌≤◌, ◌<◌}
-use mathlib.Core.Path.{◌≡◌, refl, sym, ap, ◌∙◌}
+use mathlib.Core.Path.{◌≡◌, refl, ap, ◌∙◌}
 use mathlib.Core.Bool.{Bool, false, cond}
 use mathlib.Core.List.{List, [], ◌∷◌}
 use native.Mathlib.Omega.{arith}
 use lib.ListN.{length, take, drop, length-drop}
 use lib.Seq.{take-length, length-take-le}
 use Rattle.writing.specs.Fed.{quiet, and_ran, run}
-use Rattle.writing.specs.FedLaws.{Upto, upto_none, upto_part, upto_all, upto_stop}
-use Rattle.writing.specs.Written.{put_length}
+use Rattle.writing.specs.FedLaws.{upto_none, upto_part, upto_stop}
 use Rattle.unpack_stream.specs.Text.{line_room}
 use Rattle.unpack_stream.specs.Unpack.{Held, holding, unpack_byte, unpack_from, held_length, state_of, Unpacks, Turns}
 use Rattle.unpack_stream.specs.declared.stream.Progress.{Progress}
@@ -58,8 +57,8 @@ turned bytes held out₀ middle half after out i all r e u t =
 turn : (c : After-turn-turned)
     → (
     let a = c.args in
-    Fed-to a.bytes.now (take a.n a.held.now) a.out.now c.turn-turned.result.next c.turn-turned.new.out.1.0
-    c.turn-turned.new.out.1.1.1.0 (both c.loop-i.all c.turn-turned.result.fed))
+    Fed-to a.bytes.now (take a.n a.held.now) a.out.now c.turn-turned.result.next c.turn-turned.new.held
+    c.turn-turned.new.out (both c.loop-i.all c.turn-turned.result.fed))
 turn c =
     let l = c.loop-i in
     turned _ _ _ l.held _ _ _ _ l.all c.turn-turned.result l.invariant.3 l.invariant.4 c.turn-turned.ensures
@@ -81,7 +80,7 @@ overflow_add-all c =
 
 pub returns-then-all : goal.returns-then-all
 returns-then-all c =
-    let bytes = c.args.bytes.now in let t = c.turn-turned.ensures in let u = turn (goal.at.returns-then-all c).After-turn-turned in record { unpacks = rw (take-length bytes) at (upto_stop u (length bytes) t.inside c.if-all.true); held_le_held_length = t.few; used_bound = omega (arith, t.inside, u.used_most); }
+    let bytes = c.args.bytes.now in let t = c.turn-turned.ensures in let u = turn (goal.at.returns-then-all c).After-turn-turned in record { unpacks = rw (take-length bytes) at (upto_stop u (length bytes) t.inside c.if-all.true); held_le_held_length = t.few; used_bound = omega (arith, t.inside, u.used_most) }
 
 pub loop-i-preserved : goal.loop-i-preserved
 loop-i-preserved c =
@@ -89,7 +88,7 @@ loop-i-preserved c =
     let t = c.turn-turned.ensures in (
       t.inside,
       t.few,
-      c.turn-turned.auto.out.1.0 ∙ l.invariant.2,
+      c.turn-turned.auto.held ∙ l.invariant.2,
       c.if-all.false,
       turn (goal.at.loop-i-preserved c).After-turn-turned,
     )

@@ -1,19 +1,13 @@
 -- What stays so in the loop, and what goes down.
-use Prim.Native.Nat.{ℕ, ◌+◌, ◌-◌, ◌*◌, ◌^◌, ◌≤◌, ◌<◌}
-use mathlib.Core.Path.{◌≡◌, refl, sym, ap, ◌∙◌}
-use mathlib.Core.Bool.{Bool, false, cond}
-use mathlib.Core.List.{List, [], ◌∷◌}
-use native.Mathlib.Omega.{arith}
-use lib.ListN.{length, take, drop, length-drop}
-use lib.Seq.{take-length, length-take-le}
-use Rattle.writing.specs.Fed.{quiet, and_ran, run}
-use Rattle.writing.specs.FedLaws.{Upto, upto_none, upto_part, upto_all, upto_stop}
-use Rattle.writing.specs.Written.{put_length}
+use Prim.Native.Nat.{ℕ, ◌-◌, ◌≤◌}
+use mathlib.Core.Path.{◌≡◌}
+use mathlib.Core.Bool.{false}
+use mathlib.Core.List.{List}
+use lib.ListN.{length, take}
+use Rattle.writing.specs.FedLaws.{Upto}
 use Rattle.unpack_stream.specs.Text.{line_room}
-use Rattle.unpack_stream.specs.Unpack.{Held, holding, unpack_byte, unpack_from, held_length, state_of, Unpacks, Turns}
+use Rattle.unpack_stream.specs.Unpack.{holding, unpack_byte, held_length, state_of}
 use Rattle.unpack_stream.specs.declared.stream.Progress.{Progress}
-use Rattle.unpack_stream.specs.declared.stream.Turned.{Turned}
-use Rattle.unpack_stream.proofs.Lines.{byte_short}
 use Rattle.unpack_stream.proofs.stream.feed_all.Given as goal
 
 -- the first i bytes were fed, from what was held, and brought it there
@@ -30,4 +24,3 @@ invariant-loop-i l =
 abbrev pub decreases-loop-i : goal.decreases-loop-i
 decreases-loop-i l =
     length l.bytes - l.i
-

@@ -3,7 +3,6 @@ use Prim.Native.Nat.{ℕ, ◌≤◌}
 use mathlib.Core.Path.{◌≡◌, sym, ap, subst, ◌∙◌}
 use mathlib.Core.List.{List, [], ◌∷◌, ◌++◌}
 use native.Mathlib.Omega.{arith}
-use borrow.Author.Rules.{rules}
 use lib.ListN.{length, take, set, length-set}
 use lib.Seq.{length-take-le, take-take}
 use Rattle.writing.specs.Parts.{held_more}
@@ -26,11 +25,10 @@ held l after before out n b m at r e few a p f k =
 
 -- what is held after the byte
 most : (c : After-push-m) → (c.push-m.result ≤ held_length) × (length c.push-m.new.held ≡ held_length)
-most c =
-    (
-      pushed_most c.args.n held_length c.push-m.result c.requires.n_le_held_length (rw c.requires.held_len at c.push-m.ensures.1),
-      ap length c.push-m.ensures.0 ∙ simp length-set c.requires.held_len,
-    )
+most c = (
+  pushed_most c.args.n held_length c.push-m.result c.requires.n_le_held_length (rw c.requires.held_len at c.push-m.ensures.1),
+  ap length c.push-m.ensures.0 ∙ simp length-set c.requires.held_len,
+)
 
 pub slice_bounds-tried-end : goal.slice_bounds-tried-end
 slice_bounds-tried-end c =
@@ -42,8 +40,11 @@ slice_bounds-tried-end-2 c =
 
 pub returns : goal.returns
 returns c =
-    record { unpacks = (held s.args.held.now _ _ _ s.args.n _ _ _ _ s.requires.0 s.requires.1.0 c.push.ensures.0 c.push.ensures.1
-    c.tried.ensures.unpacks
-    c.tried.ensures.held_in_bounds).0; held_le_held_length = (held s.args.held.now _ _ _ s.args.n _ _ _ _ s.requires.0 s.requires.1.0 c.push.ensures.0 c.push.ensures.1
-    c.tried.ensures.unpacks
-    c.tried.ensures.held_in_bounds).1; }
+    record {
+      unpacks = (held c.args.held.now _ _ _ c.args.n _ _ _ _ c.requires.held_len c.requires.n_le_held_length c.push-m.ensures.0 c.push-m.ensures.1
+          c.tried.ensures.unpacks
+          c.tried.ensures.held_in_bounds).0;
+      held_le_held_length = (held c.args.held.now _ _ _ c.args.n _ _ _ _ c.requires.held_len c.requires.n_le_held_length c.push-m.ensures.0 c.push-m.ensures.1
+          c.tried.ensures.unpacks
+          c.tried.ensures.held_in_bounds).1;
+    }

@@ -4,7 +4,6 @@ use mathlib.Core.Path.{◌≡◌, refl, sym, ◌∙◌}
 use mathlib.Core.Bool.{true, false}
 use mathlib.Core.List.{List}
 use native.Mathlib.Omega.{arith}
-use borrow.Author.Rules.{rules}
 use borrow.Author.Tests.{eq-eqb, ne_eqb}
 use lib.ListN.{length}
 use lib.Seq.{take-length}
@@ -44,16 +43,16 @@ module _ (r : Read) (h before : List ℕ) (at : ℕ) where
 
 pub returns-then-n-eq-LIST_CUT : goal.returns-then-n-eq-LIST_CUT
 returns-then-n-eq-LIST_CUT c =
-    record { unpacks = (cut _ _ _ _ _ _ c.waiting-then-n-eq-LIST_CUT.ensures (sym c.read_job.ensures ∙ c.in-Refused.is) c.if-n-eq-LIST_CUT.true).0; held_in_bounds = (cut _ _ _ _ _ _ c.waiting-then-n-eq-LIST_CUT.ensures (sym c.read_job.ensures ∙ c.in-Refused.is) c.if-n-eq-LIST_CUT.true).1; }
+    record { unpacks = (cut _ c.args.held.now c.args.out.now c.args.used _ _ c.waiting-then-n-eq-LIST_CUT.ensures (sym c.read_job.ensures ∙ c.in-Refused.is) c.if-n-eq-LIST_CUT.true).0; held_in_bounds = (cut _ c.args.held.now c.args.out.now c.args.used _ _ c.waiting-then-n-eq-LIST_CUT.ensures (sym c.read_job.ensures ∙ c.in-Refused.is) c.if-n-eq-LIST_CUT.true).1 }
 
 pub returns-in-Found : goal.returns-in-Found
 returns-in-Found c =
-    record { unpacks = found _ _ _ _ _ _ _ (sym c.read_job.ensures ∙ c.in-Found.is) c.put_job_text.ensures; held_in_bounds = omega arith; }
+    record { unpacks = found _ _ _ _ _ _ _ (sym c.read_job.ensures ∙ c.in-Found.is) c.put_job_text.ensures; held_in_bounds = omega arith }
 
 pub returns-in-Nothing : goal.returns-in-Nothing
 returns-in-Nothing c =
-    record { unpacks = (none _ _ _ _ _ c.waiting.ensures (sym c.read_job.ensures ∙ c.in-Nothing.is)).0; held_in_bounds = (none _ _ _ _ _ c.waiting.ensures (sym c.read_job.ensures ∙ c.in-Nothing.is)).1; }
+    record { unpacks = (none _ c.args.held.now c.args.out.now c.args.used _ c.waiting.ensures (sym c.read_job.ensures ∙ c.in-Nothing.is)).0; held_in_bounds = (none _ c.args.held.now c.args.out.now c.args.used _ c.waiting.ensures (sym c.read_job.ensures ∙ c.in-Nothing.is)).1 }
 
 pub returns-else-n-eq-LIST_CUT : goal.returns-else-n-eq-LIST_CUT
 returns-else-n-eq-LIST_CUT c =
-    record { unpacks = bad _ _ _ _ _ (sym c.read_job.ensures ∙ c.in-Refused.is) c.if-n-eq-LIST_CUT.false; held_in_bounds = omega arith; }
+    record { unpacks = bad _ _ _ _ _ (sym c.read_job.ensures ∙ c.in-Refused.is) c.if-n-eq-LIST_CUT.false; held_in_bounds = omega arith }

@@ -4,7 +4,6 @@ use mathlib.Core.Path.{◌≡◌, refl, sym, ap, ◌∙◌}
 use mathlib.Core.Bool.{Bool, true, false, cond}
 use mathlib.Core.List.{List, [], ◌∷◌}
 use native.Mathlib.Omega.{arith}
-use borrow.Author.Rules.{rules}
 use borrow.Author.Tests.{eqb-true}
 use lib.Dec.{eqb}
 use lib.ListN.{length, get_or, take, drop, length-append, length-drop}
@@ -12,7 +11,8 @@ use lib.Seq.{drop-cons, take_at}
 use Rattle.packed.specs.Jobs.{job_bytes, job_length}
 use Rattle.packed.specs.LengthLaws.{job_some}
 use Rattle.packed.specs.Reading.{read_at}
-use Rattle.packed_number.specs.NumberLaws.{Bytes, bytes_drop}
+use Rattle.packed_number.specs.NumberLaws.{Bytes}
+use Rattle.packed_number.proofs.NumberLaws.{bytes_drop}
 use Rattle.packed.specs.JobLaws.{Is, read_is}
 use Rattle.packed.specs.declared.read.Got.{Got}
 use Rattle.packed.specs.declared.read.Read.TheVariants.{Found, Nothing}
@@ -23,7 +23,7 @@ use Rattle.unpack_stream.specs.Unpack.{holding, unpack_byte, ahead_at, held_leng
 use Rattle.unpack_stream.specs.WholeLaws.{bytes_front, job_run}
 use Rattle.unpack_stream.specs.declared.stream.Progress.{Progress}
 use Rattle.unpack_stream.proofs.stream.turn.Goals as goal
-use Rattle.unpack_stream.proofs.stream.turn.Goals.{After-ahead, In-Found-2}
+use Rattle.unpack_stream.proofs.stream.turn.Goals.{After-ahead}
 
 -- ---- one byte
 one_byte : (l : List ℕ) (i : ℕ) → i < length l → take (i + 1 - i) (drop i l) ≡ get_or l i 0 ∷ []
@@ -96,19 +96,14 @@ module _ (bytes : List ℕ) (i n : ℕ) (got : Got) (good : (k : ℕ) → get_or
 good : (c : After-ahead) (k : ℕ) → get_or c.args.bytes.now k 0 < 256
 good c k = omega (arith, c.type_inv.bytes k)
 
-found : (c : In-Found-2) → (
-    
-    ahead_at c.args.bytes.now c.args.i c.args.n ≡ Found c.in-Found.got)
-found c = sym c.ahead.ensures ∙ c.in-Found.is
-
 pub returns-in_default : goal.returns-in_default
 returns-in_default c =
     steps _ _ _ _ _ _ _ _ c.requires.i_in_bounds c.step.ensures.unpacks c.step.ensures.held_le_held_length
 
 pub overflow_sub-result : goal.overflow_sub-result
 overflow_sub-result c =
-    omega (arith, (long _ _ _ _ (good (goal.at.overflow_sub-result c).After-ahead) (found (goal.at.overflow_sub-result c).In-Found-2)).0)
+    omega (arith, (long _ _ _ _ (good (goal.at.overflow_sub-result c).After-ahead) (sym c.ahead.ensures ∙ c.in-Found.is)).0)
 
 pub returns : goal.returns
 returns c =
-    leaps _ _ _ _ (good (goal.at.returns c).After-ahead) (found (goal.at.returns c).In-Found-2) _ _ _ _ _ _ c.put_job_text.ensures
+    leaps _ _ _ _ (good (goal.at.returns c).After-ahead) (sym c.ahead.ensures ∙ c.in-Found.is) _ _ _ _ _ _ c.put_job_text.ensures

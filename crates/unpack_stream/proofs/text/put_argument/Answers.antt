@@ -8,7 +8,7 @@ use lib.ListN.{length, set, length-set}
 use Rattle.digits.specs.Digits.{digits, word_text}
 use Rattle.packed.specs.Jobs.{arity_of, argument_of}
 use Rattle.packed.specs.declared.jobs.Job.{Job}
-use Rattle.writing.specs.Written.{Put, Tried, tried_put, put_none, put_byte, put_more, put_length}
+use Rattle.writing.specs.Written.{Put, Tried, tried_put, put_none, put_byte, put_more}
 use Rattle.unpack_stream.specs.Text.{argument_text, argument_room}
 use Rattle.unpack_stream.proofs.text.put_argument.Goals as goal
 

@@ -1,9 +1,5 @@
 -- `put_job_text` meets its contract: a run after a run is one run. Assumes nothing.
-use Prim.Native.Nat.{◌<◌}
-use mathlib.Core.Path.{◌≡◌, ◌∙◌}
-use mathlib.Core.List.{[]}
 use native.Mathlib.Omega.{arith}
-use lib.ListN.{length, length-set}
 use Rattle.writing.specs.Written.{put_more, put_length, put_byte}
 use Rattle.unpack_stream.specs.Text.{job_text}
 use Rattle.unpack_stream.proofs.Lines.{argument_most, name_most}
@@ -95,7 +91,26 @@ bounds-out-four c =
 
 pub overflow_add-result : goal.overflow_add-result
 overflow_add-result c =
-    omega (arith, room (goal.at.overflow_add-result c).After-slice_known-6-1)
+    let j = c.args.job in
+    omega (
+      arith,
+      c.requires,
+      c.put_name-name.ensures.place,
+      put_length c.put_name-name.ensures,
+      c.put_argument-one.ensures.place,
+      put_length c.put_argument-one.ensures,
+      c.put_argument-two.ensures.place,
+      put_length c.put_argument-two.ensures,
+      c.put_argument-three.ensures.place,
+      put_length c.put_argument-three.ensures,
+      c.put_argument-four.ensures.place,
+      put_length c.put_argument-four.ensures,
+      name_most j.function,
+      argument_most j 0,
+      argument_most j 1,
+      argument_most j 2,
+      argument_most j 3,
+    )
 
 pub returns : goal.returns
 unfolding job_text

@@ -5,11 +5,10 @@ use mathlib.Core.Bool.{false}
 use mathlib.Core.List.{List}
 use native.Mathlib.Numerals.{add-one}
 use native.Mathlib.Omega.{arith}
-use borrow.Author.Rules.{rules}
 use borrow.Author.Tests.{eq-eqb, ne_eqb}
 use lib.Dec.{eqb}
-use lib.ListN.{set, length-set}
-use Rattle.writing.specs.Written.{Put, tried_put, put_length}
+use lib.ListN.{set}
+use Rattle.writing.specs.Written.{Put, tried_put}
 use Rattle.unpack_stream.specs.Text.{letter_of, name_text}
 use Rattle.unpack_stream.proofs.text.put_name.Goals as goal
 

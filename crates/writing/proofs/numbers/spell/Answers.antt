@@ -7,7 +7,7 @@ use native.Mathlib.Nat.{mod-lt}
 use lib.ListN.{length, set, length-set}
 use lib.Seq.{sets}
 use Rattle.digits.specs.Digits.{glyph_of, digits}
-use Rattle.digits.specs.DigitLaws.{digits_length}
+use Rattle.digits.proofs.DigitLaws.{digits_length}
 use Rattle.writing.specs.Written.{sets_last}
 use Rattle.writing.proofs.numbers.spell.Goals as goal
 use Rattle.writing.proofs.numbers.spell.Invariants.{spelled}

@@ -1,0 +1,2 @@
+pub mod Borders
+pub mod Few

@@ -1,0 +1,5 @@
+pub mod Bounded
+pub mod Compared
+pub mod Mean
+pub mod Ranges
+pub mod Ratios

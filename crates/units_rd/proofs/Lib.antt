@@ -1,0 +1,4 @@
+pub mod Loop
+pub mod Rd
+pub mod Series
+pub mod Steps

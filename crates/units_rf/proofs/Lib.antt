@@ -1,0 +1,5 @@
+pub mod Examples
+pub mod Means
+pub mod Rc
+pub mod Rf
+pub mod Rounds

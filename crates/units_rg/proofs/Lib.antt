@@ -1,0 +1,5 @@
+pub mod Examples
+pub mod Joint
+pub mod Means
+pub mod Rg
+pub mod Steps
