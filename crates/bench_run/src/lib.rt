@@ -3,33 +3,33 @@
 #![tactic(auto)]
 
 use bench_stream::{BLOCK, HELD, begin, feed, finish};
-use console::{Got, read_block, written};
-use libc::STDIN_FILENO;
+use console::{Got, Source, read_block, written};
+use writing::OUT;
 
-pub fn run(decays: bool, summary: bool, wanted: bool) {
-    let mut out = io::large_buffer();
+pub fn run(rt: HostRuntime, decays: bool, summary: bool, wanted: bool) {
+    let mut out = [0u8; OUT];
     let mut block = [0u8; BLOCK];
     let mut held = [0u8; HELD];
     let mut state = begin(decays);
     let mut n: usize = 0;
-    let mut meter = progress::begin(wanted, STDIN_FILENO);
+    let mut meter = progress::begin(rt, wanted, Source::Standard);
     // A proved loop has to end, and nothing says that the input does: so many turns no run uses up.
     let mut turns = u64::MAX;
     while turns > 0 {
-        match read_block(&mut block) {
+        match read_block(rt, &mut block) {
             Got::Bytes(size) => {
                 let fed = feed(&block, size, state, &mut held, n, &mut out);
-                if written(&out, fed.used) {
+                if written(rt, &out, fed.used) {
                     state = fed.state;
                     n = fed.held;
-                    meter = progress::lines(meter, &block, size);
+                    meter = progress::lines(rt, meter, &block, size);
                 } else {
                     return;
                 }
             }
             Got::End => {
                 let used = finish(summary, state, &held, n, &mut out);
-                written(&out, used);
+                written(rt, &out, used);
                 return;
             }
             Got::Failed => {

@@ -5,7 +5,7 @@ use Rattle.std.specs.Float.{binary64}
 use Rattle.std.specs.Float.Ieee.{to_bits}
 use Rattle.distance.specs.Steps.{apart_of, finite_pattern}
 use Rattle.distance.proofs.StepLaws.{apart_self}
-use Rattle.carlson_arguments.proofs.Door.{both_true}
+use Rattle.carlson_arguments.proofs.DoorLaws.{both_true}
 use Rattle.carlson.specs.declared.answer.Answer.{Answer}
 use Rattle.carlson.specs.declared.answer.Answer.TheVariants.{Value, Refused as Refusal}
 use Rattle.claim.specs.Claims.{value_meets, refusal_meets, meets_of, own_claim}

@@ -3,10 +3,13 @@
 
 mod say;
 
+ghost use Rattle.std.specs.Io.{ReadsAtMost};
 ghost use Rattle.console.specs.Got.{Within};
 
 pub use crate::say::{say_bad, say_number, say_refused};
-use libc::{STDERR_FILENO, STDIN_FILENO, STDOUT_FILENO};
+use std::fs::File;
+use std::io;
+use std::io::{Print, Read};
 use writing::{OUT, least};
 
 // What a read led to.
@@ -20,37 +23,69 @@ pub enum Got {
     Failed,
 }
 
+// What is read: standard input, or a file that is open.
+#[derive(Clone, Copy)]
+pub enum Source<'a> {
+    Standard,
+    Opened(&'a File),
+}
+
+fn read_once(rt: HostRuntime, source: Source<'_>, block: &mut [u8]) -> io::Result<usize>
+    ensures { ReadsAtMost result block.new }
+{
+    match source {
+        Source::Standard => rt.stdin().read(block),
+        Source::Opened(file) => {
+            let mut opened = file;
+            opened.read(block)
+        }
+    }
+}
+
+// Bytes to standard error; where that fails there is no place left to say so.
+pub fn complain(rt: HostRuntime, text: &[u8]) -> bool {
+    rt.stderr().write_all(text).is_ok()
+}
+
 // Reads once, into the start of the block.
-pub fn read_from(file: i32, block: &mut [u8]) -> Got
+pub fn read_from(rt: HostRuntime, source: Source<'_>, block: &mut [u8]) -> Got
     ensures { Within result block.new }
 {
-    let got = libc::read(file, block);
-    if got < 0 {
-        io::write_all(STDERR_FILENO, b"gatewren: cannot read\n");
-        return Got::Failed;
+    match read_once(rt, source, block) {
+        Ok(size) => {
+            if size == 0 {
+                return Got::End;
+            }
+            Got::Bytes(size)
+        }
+        Err(_) => {
+            complain(rt, b"gatewren: cannot read\n");
+            Got::Failed
+        }
     }
-    if got == 0 {
-        return Got::End;
-    }
-    Got::Bytes(io::count(got, block))
 }
 
 // The same of standard input.
-pub fn read_block(block: &mut [u8]) -> Got
+pub fn read_block(rt: HostRuntime, block: &mut [u8]) -> Got
     ensures { Within result block.new }
 {
-    read_from(STDIN_FILENO, block)
+    read_from(rt, Source::Standard, block)
 }
 
-fn written_from(out: &[u8], used: usize) -> bool {
-    io::write_all(STDOUT_FILENO, &out[..least(out.len(), used)])
+// Bytes to standard output; whether they were written.
+pub fn write_out(rt: HostRuntime, text: &[u8]) -> bool {
+    rt.stdout().write_all(text).is_ok()
+}
+
+fn written_from(rt: HostRuntime, out: &[u8], used: usize) -> bool {
+    write_out(rt, &out[..least(out.len(), used)])
 }
 
 // Writes the first `used` bytes, all of `out` where that is more; whether they were written.
-pub fn written(out: &[u8; OUT], used: usize) -> bool {
-    if written_from(out, used) {
+pub fn written(rt: HostRuntime, out: &[u8; OUT], used: usize) -> bool {
+    if written_from(rt, out, used) {
         return true;
     }
-    io::write_all(STDERR_FILENO, b"gatewren: cannot write\n");
+    complain(rt, b"gatewren: cannot write\n");
     false
 }

@@ -1,6 +1,6 @@
 // Successive peaks to their logarithmic decrement: `A B`, one a line.
 #![tactic(auto)]
 
-fn main() {
-    bench_run::run(true, false, false);
+fn main(rt: HostRuntime) {
+    bench_run::run(rt, true, false, false);
 }

@@ -2,18 +2,16 @@
 // before or after it, for how far the work has come; the shell lets no other in.
 #![tactic(auto)]
 
-use progress::asked;
+use progress::{asked, is_argument};
 
-fn summary(at: usize) -> bool {
-    let mut text = io::buffer();
-    let length = os::arg(at, &mut text);
-    check::same(&text[..length], b"--summary")
+fn summary(rt: HostRuntime, at: usize) -> bool {
+    is_argument(rt, at, b"--summary")
 }
 
-fn main() {
-    if asked(1) {
-        bench_run::run(false, summary(2), true);
+fn main(rt: HostRuntime) {
+    if asked(rt, 1) {
+        bench_run::run(rt, false, summary(rt, 2), true);
         return;
     }
-    bench_run::run(false, summary(1), asked(2));
+    bench_run::run(rt, false, summary(rt, 1), asked(rt, 2));
 }

@@ -5,8 +5,8 @@ use lib.Ieee.{Float}
 use Rattle.carlson.specs.Constants.{one, rc_no_result}
 use Rattle.carlson.specs.Answer.{closed_at, settled, settled_late}
 use Rattle.carlson_arguments.specs.Door.{moderate, moderate2}
-use Rattle.carlson_arguments.proofs.Door.{Moderate, moderate_told, inside2}
-use Rattle.carlson_arguments.proofs.Door.{not_below, not_zero, no_nan2, none_infinite2, unscaled2}
+use Rattle.carlson_arguments.proofs.DoorLaws.{Moderate, moderate_told, inside2}
+use Rattle.carlson_arguments.proofs.DoorLaws.{not_below, not_zero, no_nan2, none_infinite2, unscaled2}
 use Rattle.elliprc.specs.Rc.{rc_found, over_root, rc_unchecked, rc}
 use Rattle.rc_cases.specs.Cases.{rc_cases, rc_steps}
 

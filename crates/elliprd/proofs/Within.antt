@@ -8,9 +8,9 @@ use Rattle.carlson.specs.declared.answer.Answer.{Answer}
 use Rattle.carlson.specs.declared.answer.Answer.TheVariants.{Value}
 use Rattle.carlson.specs.declared.answer.Found.{Found}
 use Rattle.carlson_arguments.specs.Door.{moderate, moderate3}
-use Rattle.carlson_arguments.proofs.Door.{moderate_told, inside3}
-use Rattle.carlson_arguments.proofs.Door.{not_le_zero, none_below2, no_zeros2, no_nan3}
-use Rattle.carlson_arguments.proofs.Door.{none_infinite3, unscaled3}
+use Rattle.carlson_arguments.proofs.DoorLaws.{moderate_told, inside3}
+use Rattle.carlson_arguments.proofs.DoorLaws.{not_le_zero, none_below2, no_zeros2, no_nan3}
+use Rattle.carlson_arguments.proofs.DoorLaws.{none_infinite3, unscaled3}
 use Rattle.rd_duplicate.specs.Duplicate.{rd_duplication}
 use Rattle.elliprd.specs.Rd.{rd_general, rd_ordered, rd_steps, over_scale, rd_unchecked, rd_settled, rd}
 

@@ -6,9 +6,10 @@
 mod chance;
 
 use crate::chance::{Range, draw};
-use libc::STDOUT_FILENO;
+use console::write_out;
 use root::certain;
 use root_guess::{by_ahead, by_row, ready, row, two_factors};
+use writing::{least, put_decimal};
 
 const NUMBERS: u64 = 20_000;
 
@@ -117,53 +118,55 @@ fn counted(range: Range) -> Tallies {
     }
 }
 
-fn put(number: u64, what: &[u8]) {
-    io::print_decimal(STDOUT_FILENO, number);
-    io::write_all(STDOUT_FILENO, what);
+fn put(rt: HostRuntime, number: u64, what: &[u8]) {
+    let mut text = [0u8; 20];
+    let used = put_decimal(number, 19, &mut text, 0);
+    write_out(rt, &text[..least(text.len(), used)]);
+    write_out(rt, what);
 }
 
-fn report_root(t: Tally) {
-    put(t.ways[1], b" by the guess, ");
-    put(t.ways[2], b" by a second guess, ");
-    put(t.ways[3], b" by a neighbour, ");
-    put(t.ways[4], b" by bisection, ");
-    put(t.ways[0], b" by rule\n");
+fn report_root(rt: HostRuntime, t: Tally) {
+    put(rt, t.ways[1], b" by the guess, ");
+    put(rt, t.ways[2], b" by a second guess, ");
+    put(rt, t.ways[3], b" by a neighbour, ");
+    put(rt, t.ways[4], b" by bisection, ");
+    put(rt, t.ways[0], b" by rule\n");
 }
 
-fn report_beside(t: Tally) {
-    put(t.ways[1], b" told at once, ");
-    put(t.ways[0], b" not\n");
+fn report_beside(rt: HostRuntime, t: Tally) {
+    put(rt, t.ways[1], b" told at once, ");
+    put(rt, t.ways[0], b" not\n");
 }
 
-fn report_power(t: Tally) {
-    put(t.ways[1], b" by the bound, ");
-    put(t.ways[2], b" by the exact product, ");
-    put(t.ways[3], b" by a neighbour, ");
-    put(t.ways[4], b" by digits, ");
-    put(t.ways[0], b" by rule\n");
+fn report_power(rt: HostRuntime, t: Tally) {
+    put(rt, t.ways[1], b" by the bound, ");
+    put(rt, t.ways[2], b" by the exact product, ");
+    put(rt, t.ways[3], b" by a neighbour, ");
+    put(rt, t.ways[4], b" by digits, ");
+    put(rt, t.ways[0], b" by rule\n");
 }
 
-fn report(name: &[u8], t: Tallies) {
-    io::write_all(STDOUT_FILENO, name);
-    io::write_all(STDOUT_FILENO, b", root: ");
+fn report(rt: HostRuntime, name: &[u8], t: Tallies) {
+    write_out(rt, name);
+    write_out(rt, b", root: ");
     let root = t.root;
-    report_root(root);
-    io::write_all(STDOUT_FILENO, name);
-    io::write_all(STDOUT_FILENO, b", root beside others: ");
+    report_root(rt, root);
+    write_out(rt, name);
+    write_out(rt, b", root beside others: ");
     let beside = t.beside;
-    report_beside(beside);
-    io::write_all(STDOUT_FILENO, name);
-    io::write_all(STDOUT_FILENO, b", root in a chain: ");
+    report_beside(rt, beside);
+    write_out(rt, name);
+    write_out(rt, b", root in a chain: ");
     let ahead = t.ahead;
-    report_beside(ahead);
-    io::write_all(STDOUT_FILENO, name);
-    io::write_all(STDOUT_FILENO, b", power: ");
+    report_beside(rt, ahead);
+    write_out(rt, name);
+    write_out(rt, b", power: ");
     let power = t.power;
-    report_power(power);
+    report_power(rt, power);
 }
 
-fn main() {
-    report(b"from 2^-10 to 2^10", counted(Range::Near));
-    report(b"of any exponent", counted(Range::All));
-    report(b"subnormal", counted(Range::Least));
+fn main(rt: HostRuntime) {
+    report(rt, b"from 2^-10 to 2^10", counted(Range::Near));
+    report(rt, b"of any exponent", counted(Range::All));
+    report(rt, b"subnormal", counted(Range::Least));
 }

@@ -3,7 +3,7 @@
 
 ghost use Rattle.std.specs.Prelude.{◌≤◌, length};
 
-use console::{Got, read_from};
+use console::{Got, Source, read_from};
 use packed::{Job, Read, read_job};
 use packed_number::LIST_CUT;
 use writing::least;
@@ -98,10 +98,10 @@ fn shift(window: &mut [u8], at: usize, size: usize) -> usize
 }
 
 // Reads once more, behind what is not yet a job.
-fn refill(file: i32, window: &mut [u8], w: Window) -> Window {
+fn refill(rt: HostRuntime, source: Source<'_>, window: &mut [u8], w: Window) -> Window {
     let kept = shift(window, w.at, w.size);
     let from = std::num::wrapping_add_u64(w.from, w.at as u64);
-    match read_from(file, &mut window[kept..]) {
+    match read_from(rt, source, &mut window[kept..]) {
         Got::Bytes(n) => Window {
             from,
             at: 0,
@@ -132,7 +132,7 @@ pub fn place(w: Window) -> u64 {
 }
 
 // The next job; the window is read on as far as it takes.
-pub fn pull(file: i32, window: &mut [u8; 4096], w: Window) -> Pulled {
+pub fn pull(rt: HostRuntime, source: Source<'_>, window: &mut [u8; 4096], w: Window) -> Pulled {
     let mut stands = w;
     // A proved loop has to end, and nothing says that the file does: so many turns no run uses up.
     let mut turns = u64::MAX;
@@ -141,7 +141,7 @@ pub fn pull(file: i32, window: &mut [u8; 4096], w: Window) -> Pulled {
         let Pulled::More = seen else {
             return seen;
         };
-        stands = refill(file, window, stands);
+        stands = refill(rt, source, window, stands);
         if stands.failed {
             return Pulled::Failed;
         }

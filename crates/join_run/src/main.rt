@@ -11,7 +11,7 @@ use report_say::say_report;
 use writing::OUT;
 
 // Joins what comes until it ends or a line is bad.
-fn join_all(out: &mut [u8; OUT]) {
+fn join_all(rt: HostRuntime, out: &mut [u8; OUT]) {
     let mut total = [0u64; 384];
     let mut words = [0u64; 384];
     let mut block = [0u8; BLOCK];
@@ -20,16 +20,16 @@ fn join_all(out: &mut [u8; OUT]) {
     // A proved loop has to end, and nothing says that the input does: so many turns no run uses up.
     let mut turns = u64::MAX;
     while turns > 0 {
-        match read_block(&mut block) {
+        match read_block(rt, &mut block) {
             Got::Bytes(size) => {
-                stands = feed(&block, size, &mut held, &mut total, &mut words, stands);
+                stands = feed(rt, &block, size, &mut held, &mut total, &mut words, stands);
                 if stands.over {
                     return;
                 }
             }
             Got::End => {
-                if ended(&held, &mut total, &mut words, stands) {
-                    say_report(&total, out);
+                if ended(rt, &held, &mut total, &mut words, stands) {
+                    say_report(rt, &total, out);
                 }
                 return;
             }
@@ -41,7 +41,7 @@ fn join_all(out: &mut [u8; OUT]) {
     }
 }
 
-fn main() {
-    let mut out = io::large_buffer();
-    join_all(&mut out);
+fn main(rt: HostRuntime) {
+    let mut out = [0u8; OUT];
+    join_all(rt, &mut out);
 }

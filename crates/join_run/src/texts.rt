@@ -76,6 +76,7 @@ fn line_taken(total: &mut [u64; 384], words: &mut [u64; 384], next: usize, line:
 
 // After a line, the one that is held.
 fn line_end(
+    rt: HostRuntime,
     held: &[u8],
     total: &mut [u64; 384],
     words: &mut [u64; 384],
@@ -91,7 +92,7 @@ fn line_end(
             over: false,
         },
         Step::Bad => {
-            say_bad(lines);
+            say_bad(rt, lines);
             Standing {
                 next: 0,
                 lines,
@@ -100,7 +101,7 @@ fn line_end(
             }
         }
         Step::Refused(number) => {
-            say_number(number);
+            say_number(rt, number);
             Standing {
                 next: 0,
                 lines,
@@ -113,6 +114,7 @@ fn line_end(
 
 // One byte more.
 fn byte(
+    rt: HostRuntime,
     b: u8,
     held: &mut [u8; LINE],
     total: &mut [u64; 384],
@@ -120,7 +122,7 @@ fn byte(
     stands: Standing,
 ) -> Standing {
     if b == b'\n' {
-        return line_end(held, total, words, stands);
+        return line_end(rt, held, total, words, stands);
     }
     let n = push(held, stands.held, b);
     Standing {
@@ -133,6 +135,7 @@ fn byte(
 
 // The bytes of a block, until something is wrong.
 pub fn feed(
+    rt: HostRuntime,
     block: &[u8; BLOCK],
     size: usize,
     held: &mut [u8; LINE],
@@ -144,7 +147,7 @@ pub fn feed(
     let mut so = stands;
     let mut i: usize = 0;
     while i < end {
-        so = byte(block[i], held, total, words, so);
+        so = byte(rt, block[i], held, total, words, so);
         if so.over {
             return so;
         }
@@ -155,6 +158,7 @@ pub fn feed(
 
 // At the input's end: whether it is so many whole texts. A last line may lack its end.
 pub fn ended(
+    rt: HostRuntime,
     held: &[u8; LINE],
     total: &mut [u64; 384],
     words: &mut [u64; 384],
@@ -162,7 +166,7 @@ pub fn ended(
 ) -> bool {
     let mut so = stands;
     if so.held > 0 {
-        so = line_end(held, total, words, stands);
+        so = line_end(rt, held, total, words, stands);
     }
     if so.over {
         return false;
@@ -170,6 +174,6 @@ pub fn ended(
     if so.next == 0 {
         return true;
     }
-    say_bad(std::num::wrapping_add_u64(so.lines, 1));
+    say_bad(rt, std::num::wrapping_add_u64(so.lines, 1));
     false
 }

@@ -2,6 +2,6 @@
 // argument --progress asks for how far it has come; the shell lets no other in.
 #![tactic(auto)]
 
-fn main() {
-    listing_run::run(false, progress::asked(1));
+fn main(rt: HostRuntime) {
+    listing_run::run(rt, false, progress::asked(rt, 1));
 }

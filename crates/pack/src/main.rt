@@ -7,7 +7,7 @@ use pack_stream::{BLOCK, HELD, feed, finish};
 use writing::OUT;
 
 // Writes what comes until it ends or a line is bad.
-fn pack_all(out: &mut [u8; OUT]) {
+fn pack_all(rt: HostRuntime, out: &mut [u8; OUT]) {
     let mut block = [0u8; BLOCK];
     let mut held = [0u8; HELD];
     let mut n: usize = 0;
@@ -15,25 +15,25 @@ fn pack_all(out: &mut [u8; OUT]) {
     // A proved loop has to end, and nothing says that the input does: so many turns no run uses up.
     let mut turns = u64::MAX;
     while turns > 0 {
-        match read_block(&mut block) {
+        match read_block(rt, &mut block) {
             Got::Bytes(size) => {
                 let fed = feed(&block, size, &mut held, n, out);
                 lines = std::num::wrapping_add_u64(lines, fed.lines as u64);
-                if written(out, fed.used) {
+                if written(rt, out, fed.used) {
                     n = fed.held;
                 } else {
                     return;
                 }
                 if fed.bad {
-                    say_bad(lines);
+                    say_bad(rt, lines);
                     return;
                 }
             }
             Got::End => {
                 let fed = finish(&held, n, out);
-                if written(out, fed.used) {
+                if written(rt, out, fed.used) {
                     if fed.bad {
-                        say_bad(std::num::wrapping_add_u64(lines, fed.lines as u64));
+                        say_bad(rt, std::num::wrapping_add_u64(lines, fed.lines as u64));
                     }
                 }
                 return;
@@ -46,7 +46,7 @@ fn pack_all(out: &mut [u8; OUT]) {
     }
 }
 
-fn main() {
-    let mut out = io::large_buffer();
-    pack_all(&mut out);
+fn main(rt: HostRuntime) {
+    let mut out = [0u8; OUT];
+    pack_all(rt, &mut out);
 }

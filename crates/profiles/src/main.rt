@@ -2,6 +2,6 @@
 // and a line for each, by the profile's entries.
 #![tactic(auto)]
 
-fn main() {
-    listing_run::run(true, false);
+fn main(rt: HostRuntime) {
+    listing_run::run(rt, true, false);
 }

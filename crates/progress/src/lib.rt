@@ -5,4 +5,4 @@
 mod meter;
 mod say;
 
-pub use crate::meter::{Meter, asked, begin, jobs, lines};
+pub use crate::meter::{Meter, asked, begin, is_argument, jobs, lines};

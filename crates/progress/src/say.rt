@@ -1,5 +1,5 @@
 // A line on standard error, as `progress: 120034 lines, 20012 a second, 62 %`.
-use libc::STDERR_FILENO;
+use console::complain;
 use pace::{known, percent};
 use writing::{least, put_decimal, put_text};
 
@@ -24,16 +24,16 @@ fn put_share(read: u64, size: u64, text: &mut [u8], at: usize) -> usize {
     at
 }
 
-fn write_line(text: &mut [u8], at: usize) {
+fn write_line(rt: HostRuntime, text: &mut [u8], at: usize) {
     let used = put_text(b"\n", text, at);
-    io::write_all(STDERR_FILENO, &text[..least(text.len(), used)]);
+    complain(rt, &text[..least(text.len(), used)]);
 }
 
 // What was done, how much of it in a second where that is told, and what part of the input is read where its size is known.
-pub fn say(unit: &[u8], done: u64, told: bool, pace: u64, read: u64, size: u64) {
+pub fn say(rt: HostRuntime, unit: &[u8], done: u64, told: bool, pace: u64, read: u64, size: u64) {
     let mut text = [0u8; 128];
     let paced = put_number(b"progress: ", done, unit, &mut text, 0);
     let shared = put_pace(told, pace, &mut text, paced);
     let end = put_share(read, size, &mut text, shared);
-    write_line(&mut text, end);
+    write_line(rt, &mut text, end);
 }

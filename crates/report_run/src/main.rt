@@ -3,9 +3,8 @@
 // read as it comes: what is added before a refusal is never written. The argument --progress asks for how far it has come.
 #![tactic(auto)]
 
-use console::say_refused;
+use console::{Source, say_refused};
 use jobs_in::{Pulled, begin, place, pull};
-use libc::STDIN_FILENO;
 use packed::Job;
 use progress::{asked, jobs};
 use report::add_job;
@@ -19,40 +18,40 @@ fn add(words: &mut [u64; 384], job: Job) {
 }
 
 // After the list's last job: 18 where there were too many, else the report.
-fn end(words: &[u64; 384], calls: u64, at: u64, out: &mut [u8; OUT]) {
+fn end(rt: HostRuntime, words: &[u64; 384], calls: u64, at: u64, out: &mut [u8; OUT]) {
     let none = [0u64; 384];
     let number = judge_list(&none, Count::Jobs(calls));
     if number == 0 {
-        say_report(words, out);
+        say_report(rt, words, out);
         return;
     }
-    say_refused(at, number);
+    say_refused(rt, at, number);
 }
 
-fn report_all(out: &mut [u8; OUT]) {
+fn report_all(rt: HostRuntime, out: &mut [u8; OUT]) {
     let mut words = [0u64; 384];
-    let mut window = io::buffer();
+    let mut window = [0u8; 4096];
     let mut stands = begin();
     let mut calls: u64 = 0;
-    let mut meter = progress::begin(asked(1), STDIN_FILENO);
+    let mut meter = progress::begin(rt, asked(rt, 1), Source::Standard);
     // A proved loop has to end, and nothing says that the list does: so many turns no run uses up.
     let mut turns = u64::MAX;
     while turns > 0 {
-        match pull(STDIN_FILENO, &mut window, stands) {
+        match pull(rt, Source::Standard, &mut window, stands) {
             Pulled::Job(job, next) => {
                 add(&mut words, job);
                 stands = next;
-                meter = jobs(meter, calls, place(stands));
+                meter = jobs(rt, meter, calls, place(stands));
             }
             Pulled::More => {
                 return;
             }
             Pulled::End => {
-                end(&words, calls, place(stands), out);
+                end(rt, &words, calls, place(stands), out);
                 return;
             }
             Pulled::Refused(number) => {
-                say_refused(place(stands), number);
+                say_refused(rt, place(stands), number);
                 return;
             }
             Pulled::Failed => {
@@ -64,7 +63,7 @@ fn report_all(out: &mut [u8; OUT]) {
     }
 }
 
-fn main() {
-    let mut out = io::large_buffer();
-    report_all(&mut out);
+fn main(rt: HostRuntime) {
+    let mut out = [0u8; OUT];
+    report_all(rt, &mut out);
 }

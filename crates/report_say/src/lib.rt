@@ -8,12 +8,12 @@ use writing::OUT;
 const LINES: usize = 192;
 
 // All its lines go into one buffer: they are some twelve thousand bytes at most.
-pub fn say_report(words: &[u64; 384], out: &mut [u8; OUT]) -> bool {
+pub fn say_report(rt: HostRuntime, words: &[u64; 384], out: &mut [u8; OUT]) -> bool {
     let mut used = put_header(out, 0);
     let mut q: usize = 0;
     while q < LINES {
         used = put_line(words, q, out, used);
         q += 1;
     }
-    written(out, used)
+    written(rt, out, used)
 }

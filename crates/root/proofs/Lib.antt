@@ -7,4 +7,4 @@ mod Scale
 mod Special
 pub mod Examples
 pub mod Laws
-pub mod Together
+pub mod TogetherLaws

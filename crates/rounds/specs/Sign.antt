@@ -7,7 +7,7 @@ use Rattle.std.specs.Float.Ieee.{of_bits, is_nan, up, down, low, emax, prec, siz
 use Rattle.std.specs.Float.Ieee.Scale.{finite}
 use Rattle.binary64.specs.Operators.{◌⊘◌}
 use Rattle.carlson.specs.Constants.{zero as +0}
-use Rattle.carlson_arguments.proofs.Door.{both_true}
+use Rattle.carlson_arguments.proofs.DoorLaws.{both_true}
 use Rattle.carlson.proofs.Only.{chosen}
 use Rattle.carlson_arguments.specs.Rescaling.{beyond_limits, survive3, rescales4}
 use Rattle.sorting.specs.Order.{not_below_le}

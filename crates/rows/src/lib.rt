@@ -4,8 +4,7 @@
 ghost use Rattle.std.specs.Prelude.{◌≡◌, ◌≤◌, length};
 ghost use Rattle.io.specs.Counts.{IsPrefixLen};
 
-use console::{Got, read_from};
-use libc::STDIN_FILENO;
+use console::{Got, Source, read_from};
 use writing::{least, push};
 
 // So many bytes of a row are held; the rest of a longer one is lost.
@@ -69,10 +68,10 @@ fn scan(rows: Rows, block: &[u8], held: &mut [u8]) -> Rows
 }
 
 // Reads on in the middle of a row. It is whole where the input has ended, if anything is held of it.
-fn read_on(file: i32, row: usize, block: &mut [u8]) -> Rows
+fn read_on(rt: HostRuntime, source: Source<'_>, row: usize, block: &mut [u8]) -> Rows
     ensures { result.row ≤ row }
 {
-    match read_from(file, block) {
+    match read_from(rt, source, block) {
         Got::Bytes(size) => Rows {
             at: 0,
             size,
@@ -98,7 +97,13 @@ fn read_on(file: i32, row: usize, block: &mut [u8]) -> Rows
 }
 
 // The next row, at the start of `held`; there is none where it is not whole. A read that fails ends the rows.
-pub fn next_of(file: i32, rows: Rows, block: &mut [u8; BLOCK], held: &mut [u8; ROW]) -> Rows
+pub fn next_of(
+    rt: HostRuntime,
+    source: Source<'_>,
+    rows: Rows,
+    block: &mut [u8; BLOCK],
+    held: &mut [u8; ROW],
+) -> Rows
     ensures { IsPrefixLen result.row held.new }
 {
     let mut so_far = Rows {
@@ -115,7 +120,7 @@ pub fn next_of(file: i32, rows: Rows, block: &mut [u8; BLOCK], held: &mut [u8; R
         if so_far.whole {
             return so_far;
         }
-        so_far = read_on(file, so_far.row, block);
+        so_far = read_on(rt, source, so_far.row, block);
         if so_far.size == 0 {
             return so_far;
         }
@@ -125,8 +130,8 @@ pub fn next_of(file: i32, rows: Rows, block: &mut [u8; BLOCK], held: &mut [u8; R
 }
 
 // The same of standard input.
-pub fn next(rows: Rows, block: &mut [u8; BLOCK], held: &mut [u8; ROW]) -> Rows
+pub fn next(rt: HostRuntime, rows: Rows, block: &mut [u8; BLOCK], held: &mut [u8; ROW]) -> Rows
     ensures { IsPrefixLen result.row held.new }
 {
-    next_of(STDIN_FILENO, rows, block, held)
+    next_of(rt, Source::Standard, rows, block, held)
 }

@@ -21,9 +21,10 @@ use Rattle.scaling.proofs.Lead.{on_grid}
 use Rattle.scaling.specs.Two.{Two}
 use Rattle.scaling.proofs.Two.{mul_two, plus_two, summed}
 use Rattle.scaling.proofs.One.{widen_two}
-use Rattle.scaling.specs.Nothing.{Nothing, no_product_last, skip_first, skip_last}
+use Rattle.scaling.specs.Nothing.{Nothing}
+use Rattle.scaling.proofs.Nothing.{no_product_last, skip_first, skip_last}
 use Rattle.scaling.proofs.Nothing.{no_products, no_product_first, no_sum}
-use Rattle.scaling.specs.Nothing.{skip_first_units, skip_last_units}
+use Rattle.scaling.proofs.Nothing.{skip_first_units, skip_last_units}
 use Rattle.scaling.specs.Maybe.{Maybe, Product, Sum, none, normal?, solid?, some, some?, units, units'}
 
 pub force : {f : Format} {k : ℕ} {K : Kind} {x x' : Float} (a : Maybe f k K x x') → T (some? a) → Two f k K x x'

@@ -15,8 +15,7 @@ use Rattle.scaling.specs.Half.{half_less, half_more, whole_more}
 use Rattle.scaling.specs.Kind.{Kind, floor, level?, mul_k, mul_ok, plus_k, plus_ok, within}
 use Rattle.scaling.specs.Last.{Digits}
 use Rattle.scaling.specs.Two.{Two}
-use Rattle.scaling.specs.Nothing.{Nothing, no_product_last, skip_first, skip_last}
-use Rattle.scaling.specs.Nothing.{skip_first_units, skip_last_units}
+use Rattle.scaling.specs.Nothing.{Nothing}
 
 pub data Maybe (f : Format) (k : ℕ) (K : Kind) (x x' : Float) : Type 0 where
   none : Nothing f x x' → Maybe f k K x x'

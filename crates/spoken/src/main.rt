@@ -4,17 +4,12 @@
 #![tactic(auto)]
 
 use console::written;
+use progress::is_argument;
 use rows::{BLOCK, ROW, begin, next};
 use spoken_parts::{Form, Said};
 use spoken_read::said_to;
 use spoken_write::{put_line, put_reply};
 use writing::OUT;
-
-fn is_asked(name: &[u8]) -> bool {
-    let mut word = io::buffer();
-    let length = os::arg(1, &mut word);
-    check::same(&word[..length], name)
-}
 
 // The answer line at the start of `out`, and its length.
 fn put_answer(form: Form, line: &[u8], out: &mut [u8]) -> usize {
@@ -22,18 +17,18 @@ fn put_answer(form: Form, line: &[u8], out: &mut [u8]) -> usize {
 }
 
 // Each line is answered before the next is waited for.
-fn reply_to_all(form: Form, out: &mut [u8; OUT]) {
+fn reply_to_all(rt: HostRuntime, form: Form, out: &mut [u8; OUT]) {
     let mut block = [0u8; BLOCK];
     let mut held = [0u8; ROW];
     let mut rows = begin();
     // A proved loop has to end, and nothing says that the input does: so many turns no run uses up.
     let mut turns = u64::MAX;
     while turns > 0 {
-        rows = next(rows, &mut block, &mut held);
+        rows = next(rt, rows, &mut block, &mut held);
         if rows.whole {
             let n = rows.row;
             let used = put_answer(form, &held[..n], out);
-            if written(out, used) {
+            if written(rt, out, used) {
                 turns -= 1;
             } else {
                 return;
@@ -44,22 +39,22 @@ fn reply_to_all(form: Form, out: &mut [u8; OUT]) {
     }
 }
 
-fn headed(form: Form, out: &mut [u8; OUT]) -> bool {
+fn headed(rt: HostRuntime, form: Form, out: &mut [u8; OUT]) -> bool {
     if form.table {
         let used = put_line(Said::Heading, form, out, 0);
-        return written(out, used);
+        return written(rt, out, used);
     }
     true
 }
 
-fn main() {
-    let mut out = io::large_buffer();
-    let hex = is_asked(b"hex");
+fn main(rt: HostRuntime) {
+    let mut out = [0u8; OUT];
+    let hex = is_argument(rt, 1, b"hex");
     let form = Form {
-        table: hex || is_asked(b"table"),
+        table: hex || is_argument(rt, 1, b"table"),
         hex,
     };
-    if headed(form, &mut out) {
-        reply_to_all(form, &mut out);
+    if headed(rt, form, &mut out) {
+        reply_to_all(rt, form, &mut out);
     }
 }

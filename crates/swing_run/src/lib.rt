@@ -3,18 +3,19 @@
 
 use console::{Got, read_block, written};
 use swing_stream::{BLOCK, State, feed, finish};
+use writing::OUT;
 
-pub fn run(begin: State) {
-    let mut out = io::large_buffer();
+pub fn run(rt: HostRuntime, begin: State) {
+    let mut out = [0u8; OUT];
     let mut block = [0u8; BLOCK];
     let mut state = begin;
     // A proved loop has to end, and nothing says that the input does: so many turns no run uses up.
     let mut turns = u64::MAX;
     while turns > 0 {
-        match read_block(&mut block) {
+        match read_block(rt, &mut block) {
             Got::Bytes(size) => {
                 let fed = feed(&block, size, state, &mut out);
-                if written(&out, fed.used) {
+                if written(rt, &out, fed.used) {
                     state = fed.state;
                 } else {
                     return;
@@ -22,7 +23,7 @@ pub fn run(begin: State) {
             }
             Got::End => {
                 let used = finish(state, &mut out);
-                written(&out, used);
+                written(rt, &out, used);
                 return;
             }
             Got::Failed => {

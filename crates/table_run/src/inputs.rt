@@ -1,6 +1,7 @@
 // The list's jobs and the listing's lines, side by side.
 use crate::say::Ended;
 use claim::{Checked, ended, missing};
+use console::Source;
 use jobs_in::{Pulled, place, pull};
 use packed::Job;
 use progress::jobs;
@@ -47,35 +48,41 @@ fn row_more(
 }
 
 // The first line that is no header.
-fn first_line(claims: i32, block: &mut [u8; BLOCK], held: &mut [u8; ROW]) -> Rows {
-    let first = next_of(claims, rows::begin(), block, held);
+fn first_line(rt: HostRuntime, claims: Source<'_>, block: &mut [u8; BLOCK], held: &mut [u8; ROW]) -> Rows {
+    let first = next_of(rt, claims, rows::begin(), block, held);
     if headed(first, held) {
-        return next_of(claims, first, block, held);
+        return next_of(rt, claims, first, block, held);
     }
     first
 }
 
-pub fn check(tolerance: u64, list: i32, claims: i32, wanted: bool) -> Ended {
-    let mut window = io::buffer();
+pub fn check(
+    rt: HostRuntime,
+    tolerance: u64,
+    list: Source<'_>,
+    claims: Source<'_>,
+    wanted: bool,
+) -> Ended {
+    let mut window = [0u8; 4096];
     let mut block = [0u8; BLOCK];
     let mut held = [0u8; ROW];
     let mut so = Checked::Accepted;
     let mut row: u64 = 0;
     let mut stands = jobs_in::begin();
-    let mut meter = progress::begin(wanted, list);
-    let mut rows = first_line(claims, &mut block, &mut held);
+    let mut meter = progress::begin(rt, wanted, list);
+    let mut rows = first_line(rt, claims, &mut block, &mut held);
     // A proved loop has to end, and nothing says that the list does: so many turns no run uses up.
     let mut turns = u64::MAX;
     while turns > 0 {
         if rows.failed {
             return Ended::Failed;
         }
-        match pull(list, &mut window, stands) {
+        match pull(rt, list, &mut window, stands) {
             Pulled::Job(job, next) => {
                 so = row_more(so, row, job, rows, &held, tolerance);
-                rows = next_of(claims, rows, &mut block, &mut held);
+                rows = next_of(rt, claims, rows, &mut block, &mut held);
                 stands = next;
-                meter = jobs(meter, row, place(stands));
+                meter = jobs(rt, meter, row, place(stands));
             }
             Pulled::More => {
                 return Ended::Failed;

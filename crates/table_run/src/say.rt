@@ -1,6 +1,6 @@
 // What is said: the answer on standard output, and where there is none why, on standard error.
 use claim::Checked;
-use libc::{STDERR_FILENO, STDOUT_FILENO};
+use console::write_out;
 use writing::{least, put_decimal, put_text};
 
 // What the inputs led to.
@@ -11,11 +11,11 @@ pub enum Ended {
     Failed,
 }
 
-fn say(text: &[u8], used: usize) {
-    if io::write_all(STDOUT_FILENO, &text[..least(text.len(), used)]) {
+fn say(rt: HostRuntime, text: &[u8], used: usize) {
+    if write_out(rt, &text[..least(text.len(), used)]) {
         return;
     }
-    io::write_all(STDERR_FILENO, b"gatewren: cannot write\n");
+    console::complain(rt, b"gatewren: cannot write\n");
 }
 
 // The answer's words into the text; how many bytes.
@@ -36,20 +36,28 @@ fn put_checked(checked: Checked, text: &mut [u8]) -> usize {
     }
 }
 
-pub fn say_checked(ended: Ended) {
+pub fn say_checked(rt: HostRuntime, ended: Ended) {
     match ended {
         Ended::With(checked) => {
             let mut text = [0u8; 64];
             let used = put_checked(checked, &mut text);
-            say(&text, used);
+            say(rt, &text, used);
         }
         Ended::Failed => {}
     }
 }
 
-pub fn complain() {
-    io::write_all(
-        STDERR_FILENO,
+pub fn complain(rt: HostRuntime) {
+    console::complain(
+        rt,
         b"gatewren: the tolerance is a number of steps, decimal and below 2^64\n",
     );
+}
+
+// Why a file could not be opened, after its name.
+pub fn say_unopened(rt: HostRuntime, path: &[u8], why: &str) {
+    console::complain(rt, path);
+    console::complain(rt, b": ");
+    console::complain(rt, why.as_bytes());
+    console::complain(rt, b"\n");
 }

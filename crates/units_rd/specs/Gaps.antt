@@ -13,7 +13,8 @@ use Rattle.scaling.specs.Two.{Two}
 use Rattle.scaling.proofs.Two.{sum_two, summed}
 use Rattle.scaling.proofs.One.{neg_two, sub_two}
 use Rattle.scaling.proofs.One.{widen_two}
-use Rattle.scaling.specs.Nothing.{Nothing, skip_last, skip_last_units}
+use Rattle.scaling.specs.Nothing.{Nothing}
+use Rattle.scaling.proofs.Nothing.{skip_last, skip_last_units}
 use Rattle.scaling.specs.Signed.{above}
 use Rattle.units_rd.specs.Lead.{low_side, high_side}
 use Rattle.units_rd.specs.Mean.{off, whole_not_less, whole_not_more, mean_k, gap_k, Arg, none, some, units, units'}

@@ -19,7 +19,8 @@ use Rattle.scaling.specs.Two.{Two}
 use Rattle.scaling.proofs.Two.{mul_two, div_two, plus_two, summed}
 use Rattle.scaling.specs.One.{lit_ok}
 use Rattle.scaling.proofs.One.{lit_two, widen_two}
-use Rattle.scaling.specs.Nothing.{Nothing, skip_first, skip_last, skip_first_units, skip_last_units}
+use Rattle.scaling.specs.Nothing.{Nothing}
+use Rattle.scaling.proofs.Nothing.{skip_first, skip_last, skip_first_units, skip_last_units}
 
 -- ---- how far a whole number is off when it is rounded: 2 ^ -52 of it
 abbrev pub off : ℕ

@@ -23,7 +23,8 @@ use Rattle.scaling.specs.One.{lit_ok, lit_n}
 use Rattle.scaling.proofs.One.{lit_two, widen_two}
 use Rattle.scaling.specs.Root.{root_k, root_ok}
 use Rattle.scaling.proofs.Root.{root_two}
-use Rattle.scaling.specs.Nothing.{Nothing, no_product_last, skip_first, skip_last}
+use Rattle.scaling.specs.Nothing.{Nothing}
+use Rattle.scaling.proofs.Nothing.{no_product_last, skip_first, skip_last}
 use Rattle.scaling.proofs.Nothing.{no_product_first, no_sum, root_nothing}
 use Rattle.scaling.specs.Nothing.{nothing_two}
 use Rattle.scaling.specs.Signed.{above}

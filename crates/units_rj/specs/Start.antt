@@ -31,7 +31,8 @@ use Rattle.scaling.proofs.One.{sub_two, neg_two}
 use Rattle.scaling.proofs.One.{lit_two, widen_two}
 use Rattle.scaling.specs.Root.{root_k, root_ok}
 use Rattle.scaling.proofs.Root.{root_two}
-use Rattle.scaling.specs.Nothing.{Nothing, nothing_two, skip_last, skip_last_units}
+use Rattle.scaling.specs.Nothing.{Nothing, nothing_two}
+use Rattle.scaling.proofs.Nothing.{skip_last, skip_last_units}
 use Rattle.scaling.proofs.Nothing.{root_nothing}
 use Rattle.scaling.proofs.Lead.{on_grid, quarter}
 use Rattle.scaling.specs.Maybe.{Maybe, solid?}

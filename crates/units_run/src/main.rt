@@ -8,9 +8,10 @@ ghost use Rattle.std.specs.Prelude.{◌<◌};
 
 use crate::pair::{Verdict, asked, judge, place};
 use calls::Call;
-use libc::STDOUT_FILENO;
+use console::write_out;
 use listing_read::{Line, call_of};
 use rows::{BLOCK, ROW, begin, next};
+use writing::{least, put_decimal};
 
 // Calls are shown until so many pairs differ.
 const SHOWN: u64 = 5;
@@ -96,28 +97,28 @@ fn take_call(call: Call, tally: Tally) -> Tally {
     t
 }
 
-fn show(row: &[u8]) {
-    io::write_all(STDOUT_FILENO, b"differs for some k: ");
-    io::write_all(STDOUT_FILENO, row);
-    io::write_all(STDOUT_FILENO, b"\n");
+fn show(rt: HostRuntime, row: &[u8]) {
+    write_out(rt, b"differs for some k: ");
+    write_out(rt, row);
+    write_out(rt, b"\n");
 }
 
-fn take_asked(row: &[u8], call: Call, tally: Tally) -> Tally {
+fn take_asked(rt: HostRuntime, row: &[u8], call: Call, tally: Tally) -> Tally {
     let before = tally.differ[5];
     let t = take_call(call, tally);
     if before < SHOWN {
         if before < t.differ[5] {
-            show(row);
+            show(rt, row);
         }
     }
     t
 }
 
-fn take_row(row: &[u8], tally: Tally) -> Tally {
+fn take_row(rt: HostRuntime, row: &[u8], tally: Tally) -> Tally {
     match call_of(row) {
         Line::Good(call) => {
             if asked(call) {
-                return take_asked(row, call, tally);
+                return take_asked(rt, row, call, tally);
             }
             count_odd(tally)
         }
@@ -126,7 +127,7 @@ fn take_row(row: &[u8], tally: Tally) -> Tally {
 }
 
 // Every row, one after the other. One that is longer than `held` is cut, and then in another form.
-fn take_rows(tally: Tally) -> Tally {
+fn take_rows(rt: HostRuntime, tally: Tally) -> Tally {
     let mut block = [0u8; BLOCK];
     let mut held = [0u8; ROW];
     let mut t = tally;
@@ -134,10 +135,10 @@ fn take_rows(tally: Tally) -> Tally {
     // A proved loop has to end, and nothing says that the input does: so many turns no run uses up.
     let mut turns = u64::MAX;
     while turns > 0 {
-        rows = next(rows, &mut block, &mut held);
+        rows = next(rt, rows, &mut block, &mut held);
         if rows.whole {
             let n = rows.row;
-            t = take_row(&held[..n], t);
+            t = take_row(rt, &held[..n], t);
         } else {
             return t;
         }
@@ -146,33 +147,35 @@ fn take_rows(tally: Tally) -> Tally {
     t
 }
 
-fn put(number: u64, what: &[u8]) {
-    io::print_decimal(STDOUT_FILENO, number);
-    io::write_all(STDOUT_FILENO, what);
+fn put(rt: HostRuntime, number: u64, what: &[u8]) {
+    let mut text = [0u8; 20];
+    let used = put_decimal(number, 19, &mut text, 0);
+    write_out(rt, &text[..least(text.len(), used)]);
+    write_out(rt, what);
 }
 
-fn report(name: &[u8], t: Tally, entry: usize)
+fn report(rt: HostRuntime, name: &[u8], t: Tally, entry: usize)
     requires { entry < 6 }
 {
-    io::write_all(STDOUT_FILENO, name);
-    put(t.calls[entry], b" calls, ");
-    put(t.pairs[entry], b" pairs, of which ");
-    put(t.refused[entry], b" refused alike, ");
-    put(t.differ[entry], b" differ\n");
+    write_out(rt, name);
+    put(rt, t.calls[entry], b" calls, ");
+    put(rt, t.pairs[entry], b" pairs, of which ");
+    put(rt, t.refused[entry], b" refused alike, ");
+    put(rt, t.differ[entry], b" differ\n");
 }
 
-fn report_all(t: Tally) {
-    report(b"RC ", t, 0);
-    report(b"RF ", t, 1);
-    report(b"RD ", t, 2);
-    report(b"RG ", t, 3);
-    report(b"RJ ", t, 4);
-    report(b"all ", t, 5);
-    put(t.odd, b" rows in another form or out of range\n");
+fn report_all(rt: HostRuntime, t: Tally) {
+    report(rt, b"RC ", t, 0);
+    report(rt, b"RF ", t, 1);
+    report(rt, b"RD ", t, 2);
+    report(rt, b"RG ", t, 3);
+    report(rt, b"RJ ", t, 4);
+    report(rt, b"all ", t, 5);
+    put(rt, t.odd, b" rows in another form or out of range\n");
 }
 
-fn main() {
-    report_all(take_rows(Tally {
+fn main(rt: HostRuntime) {
+    report_all(rt, take_rows(rt, Tally {
         calls: [0; 6],
         pairs: [0; 6],
         refused: [0; 6],

@@ -8,7 +8,7 @@ use unpack_stream::{BLOCK, HELD, feed, left_over};
 use writing::OUT;
 
 // Writes what comes until it ends or is refused.
-fn unpack_all(out: &mut [u8; OUT]) {
+fn unpack_all(rt: HostRuntime, out: &mut [u8; OUT]) {
     let mut block = [0u8; BLOCK];
     let mut held = [0u8; HELD];
     let mut n: usize = 0;
@@ -16,24 +16,24 @@ fn unpack_all(out: &mut [u8; OUT]) {
     // A proved loop has to end, and nothing says that the input does: so many turns no run uses up.
     let mut turns = u64::MAX;
     while turns > 0 {
-        match read_block(&mut block) {
+        match read_block(rt, &mut block) {
             Got::Bytes(size) => {
                 let fed = feed(&block, size, &mut held, n, out);
                 place = std::num::wrapping_add_u64(place, fed.taken as u64);
-                if written(out, fed.used) {
+                if written(rt, out, fed.used) {
                     n = fed.held;
                 } else {
                     return;
                 }
                 if fed.ended {
-                    say_refused(place, fed.stop);
+                    say_refused(rt, place, fed.stop);
                     return;
                 }
             }
             Got::End => {
                 let cut = left_over(n);
                 if cut != 0 {
-                    say_refused(place, cut);
+                    say_refused(rt, place, cut);
                 }
                 return;
             }
@@ -45,7 +45,7 @@ fn unpack_all(out: &mut [u8; OUT]) {
     }
 }
 
-fn main() {
-    let mut out = io::large_buffer();
-    unpack_all(&mut out);
+fn main(rt: HostRuntime) {
+    let mut out = [0u8; OUT];
+    unpack_all(rt, &mut out);
 }

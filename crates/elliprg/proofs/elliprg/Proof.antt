@@ -5,7 +5,7 @@ use mathlib.Core.Bool.{true, false}
 use lib.Ieee.{Float}
 use Rattle.carlson.specs.declared.answer.Answer.{Answer}
 use Rattle.carlson_arguments.specs.Door.{moderate3}
-use Rattle.carlson_arguments.proofs.Door.{inside3, none_below3, no_nan3, unscaled3}
+use Rattle.carlson_arguments.proofs.DoorLaws.{inside3, none_below3, no_nan3, unscaled3}
 use Rattle.elliprg.specs.Rg.{rg_steps, times_root, rg_unchecked, rg_settled, rg}
 use Rattle.elliprg.proofs.elliprg.Statement.{statement}
 use Rattle.elliprg.proofs.elliprg.Tie as tie

@@ -4,8 +4,9 @@ use mathlib.Core.Path.{◌≡◌, sym, ap, ◌∙◌}
 use mathlib.Core.Bool.{true}
 use lib.Ieee.{Float}
 use Rattle.carlson.specs.declared.answer.Answer.{Answer}
-use Rattle.carlson_arguments.specs.Door.{moderate4, no_nan4, none_infinite4, not_rescaled4}
-use Rattle.carlson_arguments.proofs.Door.{Inside3, Moderate, Inside4, inside4, not_le_zero, none_below3, no_zeros3}
+use Rattle.carlson_arguments.specs.Door.{moderate4}
+use Rattle.carlson_arguments.proofs.DoorLaws.{no_nan4, none_infinite4, not_rescaled4}
+use Rattle.carlson_arguments.proofs.DoorLaws.{Inside3, Moderate, Inside4, inside4, not_le_zero, none_below3, no_zeros3}
 use Rattle.rj_positive.specs.Positive.{rj_positive}
 use Rattle.rj_calls.specs.declared.plan.Plan.TheVariants.{Done}
 use Rattle.elliprj.specs.Rj.{rj_settled, rj_rest, rj_signed}

@@ -33,13 +33,13 @@ module _ (c : After-put_word-end) where
   abbrev bits : ℕ
   bits = c.split.result
 
-  word : Put (set out at₀ 32) (at₀ + 1) (digits 16 16 bits) c.put_word-end.new.out.0 c.put_word-end.result
+  word : Put (set out at₀ 32) (at₀ + 1) (digits 16 16 bits) c.put_word-end.new.out c.put_word-end.result
   word = tried_put (simp length-set (omega arith)) c.put_word-end.ensures
 
   spelled : c.put_word-end.result ≡ at₀ + 1 + 16
   spelled = spelled_place 16 16 bits word
 
-  kept : length c.put_word-end.new.out.0 ≡ length out
+  kept : length c.put_word-end.new.out ≡ length out
   kept = simp length-set at (put_length word)
 
 pub bounds-out-end : goal.bounds-out-end

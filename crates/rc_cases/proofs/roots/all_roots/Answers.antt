@@ -1,7 +1,7 @@
 -- `all_roots` meets its contract: each root was tested by itself, or found by itself. Assumes nothing.
 use mathlib.Core.Path.{sym, ◌∙◌}
 use Rattle.root.specs.Together.{Numbers3}
-use Rattle.root.proofs.Together.{numbers3_told, root_told}
+use Rattle.root.proofs.TogetherLaws.{numbers3_told, root_told}
 use Rattle.rc_cases.proofs.roots.all_roots.Goals as goal
 use Rattle.rc_cases.proofs.roots.all_roots.Goals.{Then-numbers3, Then-numbers3-2}
 

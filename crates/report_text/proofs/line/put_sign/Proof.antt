@@ -19,12 +19,12 @@ same_length c = search rules
 returns : tie.Need-returns
 returns c =
     let t = c.before in
-    sign_there _ _ _ t.below_zero_number.ensures c.if1.true
+    sign_there _ _ _ t.below_zero.ensures c.if1.true
 
 returns-2 : tie.Need-returns-2
 returns-2 c =
     let t = c.before in
-    sign_not _ _ _ t.below_zero_number.ensures c.if1.false
+    sign_not _ _ _ t.below_zero.ensures c.if1.false
 
 pub put-sign-spec : {M : Type 1} → statement M
 put-sign-spec =

@@ -4,7 +4,7 @@ use mathlib.Core.Bool.{true≢false}
 use lib.Ieee.{Float}
 use Rattle.root.specs.Root.{root}
 use Rattle.root.specs.Together.{Numbers3}
-use Rattle.root.proofs.Together.{numbers3_told, root_told}
+use Rattle.root.proofs.TogetherLaws.{numbers3_told, root_told}
 use Rattle.carlson.specs.Common.{lambda_with}
 use Rattle.rf_duplicate.proofs.duplicate.tried.Goals as goal
 use Rattle.rf_duplicate.proofs.duplicate.tried.Goals.{Then-numbers3, Then-numbers3-2}

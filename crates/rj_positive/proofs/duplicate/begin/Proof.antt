@@ -6,4 +6,4 @@ use Rattle.rj_positive.proofs.duplicate.begin.Tie as tie
 
 pub begin-spec : {M : Type 1} → statement M
 unfolding rj_begin
-begin-spec = tie.close (tie.spec (λ c κs. tt) (λ c. rw (sym c.start_mean.ensures)))
+begin-spec = tie.close (tie.spec (λ c κs. tt) (λ c. rw (sym c.mean_of.ensures)))

@@ -1,7 +1,7 @@
 -- `roots_at` meets its contract: each root was tested by itself, or found by itself. Assumes nothing.
 use mathlib.Core.Path.{sym, ◌∙◌}
 use Rattle.root.specs.Together.{Numbers4}
-use Rattle.root.proofs.Together.{numbers4_told, root_told}
+use Rattle.root.proofs.TogetherLaws.{numbers4_told, root_told}
 use Rattle.rj_positive.proofs.duplicate.roots_at.Statement.{statement}
 use Rattle.rj_positive.proofs.duplicate.roots_at.Tie as tie
 

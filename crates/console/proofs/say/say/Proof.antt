@@ -1,8 +1,0 @@
--- `say` is safe: what is written lies within the text. Assumes nothing.
-use mathlib.Core.Path.{sym}
-use lib.Seq.{length-take-le}
-use Rattle.console.proofs.say.say.Statement.{statement}
-use Rattle.console.proofs.say.say.Tie as tie
-
-pub say-spec : {M : Type 1} → statement M
-say-spec = tie.close (tie.spec (λ c κs. tt) (λ c. sym (length-take-le _ _ c.before.least.ensures.0)) (λ c κs. tt) (λ c. tt))
