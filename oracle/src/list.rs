@@ -1,95 +1,76 @@
-//! `make-list` and `check-list`: the fixed list that the port is held to, which is what the program `listing` is run on under the
-//! gate. Its calls, and after them lines of other forms (fixed/forms.txt), are the program's `stdin`, their answers its `stdout`;
-//! fixed/series.txt has a letter for each call: `s` if the answer went through `atan`, `ln` or `ln_1p`, so that it hangs on the
-//! rules for these, else `.`.
+//! `make-list` and `check-list`: the fixed list that the port is held to. A row is a call, ` = `, its answer, and ` s` if
+//! the answer went through `atan`, `ln` or `ln_1p`, so that it hangs on the rules for these.
 
-use crate::call::{Call, Entry};
+use crate::call::{shown, Call, Entry};
 use crate::families;
-use crate::lines::Program;
-use doc01::{Answer, Road};
+use doc01::{Answer, Judged, Road};
 use std::collections::{BTreeMap, HashSet};
 use std::path::PathBuf;
 
-/// So many letters stand in a line of fixed/series.txt.
-const LETTERS: usize = 100;
+const HEADER: &str = "gatewren calls 3";
 
-fn path(name: &str) -> PathBuf {
-    PathBuf::from(env!("CARGO_MANIFEST_DIR")).join(name)
+fn path() -> PathBuf {
+    PathBuf::from(env!("CARGO_MANIFEST_DIR")).join("../crates/replay/stdin")
 }
 
-/// Each call once.
-fn listed() -> Vec<Call> {
+fn row(call: &Call, judged: &Judged) -> String {
+    let mark = if judged.series { " s" } else { "" };
+    format!("{call} = {}{mark}\n", shown(judged.answer))
+}
+
+/// The whole text, each call once.
+fn text() -> String {
     let mut seen = HashSet::new();
-    families::all().into_iter().filter(|call| seen.insert(call.to_string())).collect()
-}
-
-fn marks(calls: &[Call]) -> String {
-    let mut out = String::new();
-    for (i, call) in calls.iter().enumerate() {
-        out.push(if call.judged().series { 's' } else { '.' });
-        if (i + 1) % LETTERS == 0 || i + 1 == calls.len() {
-            out.push('\n');
+    let mut out = format!("{HEADER}\n");
+    for call in families::all() {
+        if seen.insert(call.to_string()) {
+            out.push_str(&row(&call, &call.judged()));
         }
     }
     out
 }
 
-/// The three files, each with what it holds.
-fn files(calls: &[Call]) -> [(PathBuf, Vec<u8>); 3] {
-    let mut input: Vec<u8> = calls.iter().flat_map(|call| format!("{call}\n").into_bytes()).collect();
-    input.extend(std::fs::read(path("fixed/forms.txt")).expect("fixed/forms.txt"));
-    let answers = Program::Listing.replies(&input);
-    [
-        (path("../crates/listing/stdin"), input),
-        (path("../crates/listing/stdout"), answers),
-        (path("fixed/series.txt"), marks(calls).into_bytes()),
-    ]
-}
-
 pub fn make() -> bool {
-    let calls = listed();
-    for (file, text) in files(&calls) {
-        std::fs::write(file, text).expect("the list can be written");
-    }
-    println!("{} calls", calls.len());
-    summary(&calls);
+    let text = text();
+    std::fs::write(path(), &text).expect("the list can be written");
+    println!("{} rows", text.lines().count() - 1);
+    summary(&text);
     true
-}
-
-/// The first line of two texts that is not the same.
-fn first(old: &[u8], new: &[u8]) -> String {
-    let (old, new) = (String::from_utf8_lossy(old), String::from_utf8_lossy(new));
-    let pair = old.lines().zip(new.lines()).enumerate().find(|(_, (a, b))| a != b);
-    match pair {
-        Some((i, (a, b))) => format!("line {}: listed {a}\n    now {b}", i + 1),
-        None => "one ends before the other".to_string(),
-    }
 }
 
 /// Whether the list is what the oracle says now.
 pub fn check() -> bool {
-    let calls = listed();
-    let mut same = true;
-    for (file, now) in files(&calls) {
-        let committed = std::fs::read(&file).unwrap_or_default();
-        if committed != now {
-            println!("{} is not what the oracle says: {}", file.display(), first(&committed, &now));
-            same = false;
+    let committed = match std::fs::read_to_string(path()) {
+        Ok(text) => text,
+        Err(e) => {
+            eprintln!("{}: {e}", path().display());
+            return false;
         }
+    };
+    let now = text();
+    let differ = committed.lines().zip(now.lines()).filter(|(a, b)| a != b);
+    for (old, new) in differ.clone().take(5) {
+        println!("listed {old}\nnow    {new}");
     }
-    if same {
-        println!("{} calls, as the oracle says", calls.len());
+    let (rows, same) = (committed.lines().count() - 1, committed == now);
+    match same {
+        true => println!("{rows} rows, as the oracle says"),
+        false => println!("{rows} rows listed, {} now, {} differ", now.lines().count() - 1, differ.count()),
     }
     same
 }
 
 /// How many rows each entry has by answer, so that a family that went missing is seen.
-fn summary(calls: &[Call]) {
+fn summary(text: &str) {
     for entry in Entry::ALL {
         let mut answers: BTreeMap<String, usize> = BTreeMap::new();
         let mut roads: BTreeMap<(Road, u32), usize> = BTreeMap::new();
         let (mut series, mut most, mut deepest) = (0, 0, 0);
-        for call in calls.iter().filter(|call| call.entry == entry) {
+        for line in text.lines().skip(1) {
+            let call = Call::parse(line.split(" = ").next().expect("a row")).expect("a call");
+            if call.entry != entry {
+                continue;
+            }
             let judged = call.judged();
             let kind = match judged.answer {
                 Answer::Value(..) => "values".to_string(),

@@ -5,7 +5,6 @@ use Rattle.std.proofs.Common.{subst, append_assoc, length-append, length-take}
 use Rattle.std.proofs.Math.Nat.{min-le_left}
 use native.Mathlib.Omega.{arith}
 use Rattle.std.specs.Float.{binary64}
-use Rattle.phrases.specs.Runs.{run_to, rooms_to}
 use Rattle.phrases.specs.Pieces.{letters, piece_text, room_of, up_to, room_to}
 use Rattle.phrases.specs.PieceLaws.{upto_length}
 use Rattle.phrases.specs.declared.Piece.TheVariants.{Letters}
@@ -40,23 +39,23 @@ minus_is bits = go (nat_le (2 ^ 63) bits)
     go false = unfold piece_text letters in refl
 
 weighed_is : (v : Verdict) → up_to (weighed_piece v) 8 ≡ weighed_text v
-unfolding run_to weighed_piece piece_text letters weighed_text excess_text fixed_text
+unfolding up_to weighed_piece piece_text letters weighed_text excess_text fixed_text
 weighed_is v = rw (passes_is v.passes, sign_is v.quicker) (simp append_assoc refl)
 
 no_verdict_is : (n : ℕ) → up_to (no_verdict_piece n) 4 ≡ no_verdict_text n
-unfolding run_to no_verdict_piece piece_text letters no_verdict_text count_text
+unfolding up_to no_verdict_piece piece_text letters no_verdict_text count_text
 no_verdict_is n = simp append_assoc refl
 
 decrement_is : (x : Float) → up_to (decrement_piece x) 7 ≡ decrement_text x
-unfolding run_to decrement_piece sized_piece piece_text letters decrement_text size_text fixed_text
+unfolding up_to decrement_piece sized_piece piece_text letters decrement_text size_text fixed_text
 decrement_is x = rw (minus_is (to_bits binary64 x)) (simp append_assoc refl)
 
 count_is : (n : ℕ) → up_to (count_piece 3 n) 3 ≡ said_text (NoDecrement n)
-unfolding run_to count_piece label_piece piece_text letters said_text count_text
+unfolding up_to count_piece label_piece piece_text letters said_text count_text
 count_is n = simp append_assoc refl
 
 bad_is : up_to bad_piece 2 ≡ said_text Bad
-unfolding run_to bad_piece piece_text letters said_text
+unfolding up_to bad_piece piece_text letters said_text
 bad_is = refl
 
 -- a line of the tallies after the others
@@ -91,7 +90,7 @@ unfolding tallies_piece count_piece label_piece count_at piece_text letters coun
 bad_line t l = simp append_assoc refl
 
 tallies_is : (t : Tally) → up_to (tallies_piece t) 15 ≡ tallies_text t
-unfolding run_to tallies_text judged_counts other_counts
+unfolding up_to tallies_text judged_counts other_counts
 tallies_is t = rw (knees_line t [], passed_line t, drags_line t, refused_line t, bad_line t) (simp append_assoc refl)
 
 -- THE LAW: all its pieces are the text
@@ -120,7 +119,7 @@ minus_room bits = go (nat_le (2 ^ 63) bits)
 
 -- THE LAW: a name's bytes and the pieces have room
 pub pieces_fit : (s : Said) → shown_of s + room_to (piece_of s) (pieces_of s) ≤ longest_of s
-unfolding piece_of pieces_of shown_of longest_of rooms_to room_of weighed_piece no_verdict_piece decrement_piece sized_piece bad_piece
+unfolding piece_of pieces_of shown_of longest_of room_to room_of weighed_piece no_verdict_piece decrement_piece sized_piece bad_piece
     tallies_piece count_piece label_piece
 pieces_fit (Weighed v) = omega (arith, passes_room v.passes)
 pieces_fit (NoVerdict n) = omega arith

@@ -1,8 +1,7 @@
 -- A text in pieces: what each is, how much room it asks for, and the text of the first of them. Definitions only.
-use Rattle.std.specs.Prelude.{ℕ, zero, suc, ◌/◌, ◌%◌, List, [], ◌∷◌, ◌++◌}
+use Rattle.std.specs.Prelude.{ℕ, zero, suc, ◌+◌, ◌/◌, ◌%◌, List, [], ◌∷◌, ◌++◌}
 use Rattle.digits.specs.Digits.{digits}
 use Rattle.writing.specs.Decimal.{decimal}
-use Rattle.phrases.specs.Runs.{run_to, rooms_to}
 use Rattle.phrases.specs.declared.Piece.{Piece}
 use Rattle.phrases.specs.declared.Piece.TheVariants.{Letters, Number, Places, Bits}
 
@@ -25,8 +24,11 @@ room_of (Places n k) = k
 room_of (Bits n) = 16
 
 -- ---- a text of which `piece i` is the piece after the first i: these, and the room that they ask for
-abbrev pub up_to : (ℕ → Piece) → ℕ → List ℕ
-up_to = run_to piece_text
+module _ (piece : ℕ → Piece) where
+  unfoldable pub up_to : ℕ → List ℕ
+  up_to zero = []
+  up_to (suc i) = up_to i ++ piece_text (piece i)
 
-abbrev pub room_to : (ℕ → Piece) → ℕ → ℕ
-room_to = rooms_to room_of
+  unfoldable pub room_to : ℕ → ℕ
+  room_to zero = 0
+  room_to (suc i) = room_to i + room_of (piece i)

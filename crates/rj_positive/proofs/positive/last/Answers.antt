@@ -1,0 +1,15 @@
+-- `last` meets its contract: its tests are those of the definition, in its order. Assumes nothing.
+use mathlib.Core.Path.{ap}
+use Rattle.carlson.specs.declared.answer.Answer.TheVariants.{Value}
+use Rattle.rj_positive.specs.Positive.{rj_last}
+use Rattle.rj_positive.proofs.positive.last.Goals as goal
+
+pub returns-then-z-p : goal.returns-then-z-p
+unfolding rj_last
+returns-then-z-p c =
+    rw c.if-z-p.true c.elliprd_unchecked-a.ensures
+
+pub returns : goal.returns
+unfolding rj_last
+returns c =
+    rw c.if-z-p.false (ap Value c.duplicated-found.ensures)

@@ -1,0 +1,19 @@
+-- `rescaled_count` meets its contract, as the flag and the count say. Assumes nothing.
+use borrow.Author.Tests.{eq-eqb, ne_eqb}
+use Rattle.spoken_parts.specs.Parts.{rescaled_count}
+use Rattle.spoken_parts.proofs.parts.rescaled_count.Goals as goal
+
+pub returns-then-table : goal.returns-then-table
+unfolding rescaled_count
+returns-then-table c =
+    rw c.if-table.true c.number.ensures
+
+pub returns-then-count-eq0 : goal.returns-then-count-eq0
+unfolding rescaled_count
+returns-then-count-eq0 c =
+    rw (c.if-table.false, eq-eqb _ _ c.if-count-eq0.true) c.nothing.ensures
+
+pub returns : goal.returns
+unfolding rescaled_count
+returns c =
+    rw (c.if-table.false, ne_eqb _ _ c.if-count-eq0.false) c.number-2.ensures
