@@ -2,7 +2,7 @@
 // them.
 #![tactic(auto)]
 
-mod pieces;
+mod written_pieces;
 mod said;
 mod tallies;
 mod write;

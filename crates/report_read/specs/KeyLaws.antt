@@ -35,6 +35,7 @@ all_differ = tt
 
 is_true : (t : Bool) → T t → t ≡ true
 is_true true h = refl
+is_true false h = elim h [ ]
 
 keys_differ : (i j : ℕ) → 1 ≤ j → j < i → i ≤ 28 → clash (slot_key j) (slot_key i) ≡ true
 unfolding differ

@@ -3,6 +3,6 @@
 
 mod numbers;
 mod said;
-mod words;
+mod line_words;
 
 pub use crate::said::said_to;

@@ -2,7 +2,7 @@
 ghost use Rattle.std.specs.Prelude.{◌≡◌, ◌+◌, ◌≤◌, length, if◌then◌else◌, nat_eq, nat_lt};
 ghost use Rattle.spoken_read.specs.Numbers.{with_number, place_of, taken_of};
 
-use crate::words::{begins, ends};
+use crate::line_words::{begins, ends};
 use binary64::split;
 use decimal_read::{Reading, read};
 

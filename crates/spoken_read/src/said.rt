@@ -13,7 +13,7 @@ ghost use Rattle.spoken_read.specs.Lines.{
 };
 
 use crate::numbers::{Numbers, Taken, read_all};
-use crate::words::{begins, ends};
+use crate::line_words::{begins, ends};
 use answers::answer_of;
 use binary64::join;
 use calls::Call;

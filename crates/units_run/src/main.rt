@@ -175,11 +175,17 @@ fn report_all(rt: HostRuntime, t: Tally) {
 }
 
 fn main(rt: HostRuntime) {
-    report_all(rt, take_rows(rt, Tally {
-        calls: [0; 6],
-        pairs: [0; 6],
-        refused: [0; 6],
-        differ: [0; 6],
-        odd: 0,
-    }));
+    report_all(
+        rt,
+        take_rows(
+            rt,
+            Tally {
+                calls: [0; 6],
+                pairs: [0; 6],
+                refused: [0; 6],
+                differ: [0; 6],
+                odd: 0,
+            },
+        ),
+    );
 }

@@ -6,7 +6,7 @@ use Rattle.report_words.proofs.both.room_both.Goals as goal
 
 pub returns-in-For : goal.returns-in-For
 returns-in-For c =
-    c.fits2.ensures
+    c.fits.ensures
     ∙ both_left _ _ _ (sym c.room_after.ensures ∙ c.in-For.is)
 
 pub returns-in-Over : goal.returns-in-Over
