@@ -1,7 +1,7 @@
 /*
  * Gatewren from C: an integral, a call that is refused, the time of a swing and a step log.
  *
- *     rt staticlib gatewren
+ *     tools/build gatewren
  *     cc -std=c99 -Iinclude examples/knee.c target/staticlib/libgatewren.a -o knee && ./knee
  */
 #include <inttypes.h>

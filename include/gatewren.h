@@ -3,7 +3,7 @@
  * stand on, the swing time and the verdict of the knee bench, the work lists of its controller with their reports, the check of
  * other laboratories' tables, and decimal numbers as people write them.
  *
- * Link libgatewren.a (rt staticlib gatewren) or libgatewren.so (./gatewren shared). Neither wants the C maths library.
+ * Link libgatewren.a (tools/build gatewren) or libgatewren.so (./gatewren shared). Neither wants the C maths library.
  * The code counts on what IEEE 754 and C start with: rounding to nearest, and subnormal numbers kept.
  */
 #ifndef GATEWREN_H

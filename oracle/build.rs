@@ -1,5 +1,5 @@
 //! Links the proved library, if a feature asks for one of its symbols: libgatewren.a in the folder GATEWREN_LIB, else where
-//! `rt staticlib gatewren` writes it.
+//! `tools/build gatewren` writes it.
 
 use std::{
     env,

@@ -1,4 +1,4 @@
-//! Links the proved library: libgatewren.a in the folder GATEWREN_LIB, else where `rt staticlib gatewren` writes it.
+//! Links the proved library: libgatewren.a in the folder GATEWREN_LIB, else where `tools/build gatewren` writes it.
 
 use std::path::{Path, PathBuf};
 use std::process::exit;
@@ -11,7 +11,7 @@ fn main() {
     println!("cargo:rerun-if-changed={}", archive.display());
     if !archive.is_file() {
         eprintln!("there is no {}", archive.display());
-        eprintln!("make it by `rt staticlib gatewren` at the root of Gatewren, or name another folder in GATEWREN_LIB");
+        eprintln!("make it by `tools/build gatewren` at the root of Gatewren, or name another folder in GATEWREN_LIB");
         exit(1);
     }
     println!("cargo:rustc-link-search=native={}", folder.display());

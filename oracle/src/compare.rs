@@ -58,7 +58,7 @@ pub fn run(n: u64, seed: u64, threads: u64) -> bool {
     println!("\n{asked} calls in all, {wrong} differ; seed {seed}, {threads} threads, {seconds:.0} s");
     let whole = tallies.iter().all(|tally| tally.library.asked == tally.calls);
     if !whole {
-        println!("NOT all functions are linked: `rt staticlib gatewren` first");
+        println!("NOT all functions are linked: `tools/build gatewren` first");
     }
     whole && wrong == 0
 }

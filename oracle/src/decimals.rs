@@ -37,7 +37,7 @@ impl Differing {
 
 pub fn run(n: u64, seed: u64) -> bool {
     if symbols::READ_DECIMAL.is_none() || symbols::WRITE_DECIMAL.is_none() {
-        eprintln!("libgatewren.a has no gatewren_read_decimal and gatewren_write_decimal: rt staticlib gatewren");
+        eprintln!("libgatewren.a has no gatewren_read_decimal and gatewren_write_decimal: tools/build gatewren");
         return false;
     }
     let mut random = Random::new(seed);

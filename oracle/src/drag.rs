@@ -23,7 +23,7 @@ struct Verdict {
 
 pub fn run(n: u64, seed: u64) -> bool {
     if symbols::DRAG.is_none() || symbols::DECAY.is_none() {
-        eprintln!("target/staticlib/libgatewren.a has no gatewren_drag and gatewren_decay: rt staticlib gatewren");
+        eprintln!("target/staticlib/libgatewren.a has no gatewren_drag and gatewren_decay: tools/build gatewren");
         return false;
     }
     let mut random = Random::new(seed);

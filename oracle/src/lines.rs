@@ -72,8 +72,7 @@ pub fn root() -> PathBuf {
     PathBuf::from(env!("CARGO_MANIFEST_DIR")).join("..")
 }
 
-/// The command that runs a program that was built: on another machine than x86-64 by the kit's emulator, whose words are asked
-/// for once.
+/// The command that runs a program that was built: on another machine than x86-64 by an emulator, whose words are asked for once.
 pub fn command(path: &Path) -> Command {
     static BEFORE: OnceLock<Vec<String>> = OnceLock::new();
     let before = BEFORE.get_or_init(|| {

@@ -139,7 +139,7 @@ pub fn run(n: u64, seed: u64) -> bool {
         let mut tally = Tally::default();
         for _ in 0..n / parts + if i == 0 { n % parts } else { 0 } {
             if !tally.take(draw(&mut random, make)) {
-                println!("RG is NOT linked: `rt staticlib gatewren` first");
+                println!("RG is NOT linked: `tools/build gatewren` first");
                 return false;
             }
         }

@@ -143,7 +143,7 @@ fn told(said: Option<Answer>) -> String {
 /// N calls in all, an equal part of them for each entry; what does not divide goes to the last.
 pub fn run(n: u64, seed: u64) -> bool {
     if !gatewren::has_profile() {
-        println!("the profile is NOT linked: `rt staticlib gatewren` first");
+        println!("the profile is NOT linked: `tools/build gatewren` first");
         return false;
     }
     let start = Instant::now();

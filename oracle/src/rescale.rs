@@ -103,7 +103,7 @@ pub fn run(n: u64, seed: u64) -> bool {
         for _ in 0..n / Entry::CARLSON.len() as u64 + rest {
             let (call, k) = pair(&mut random, entry);
             if !tally.take(&call, k) {
-                println!("{entry:?} is NOT linked: `rt staticlib gatewren` first");
+                println!("{entry:?} is NOT linked: `tools/build gatewren` first");
                 return false;
             }
         }

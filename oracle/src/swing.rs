@@ -12,7 +12,7 @@ const MOST_GRAVITY: u64 = 20_000_000;
 
 pub fn run(n: u64, seed: u64) -> bool {
     if symbols::SWING.is_none() || symbols::STEPS.is_none() {
-        eprintln!("target/staticlib/libgatewren.a has no gatewren_swing and gatewren_steps: rt staticlib gatewren");
+        eprintln!("target/staticlib/libgatewren.a has no gatewren_swing and gatewren_steps: tools/build gatewren");
         return false;
     }
     let mut random = Random::new(seed);

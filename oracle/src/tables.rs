@@ -383,7 +383,7 @@ fn print(title: &str, counts: impl Iterator<Item = (String, u64)>) {
 /// N rows in all, in tables of up to 40.
 pub fn run(n: u64, seed: u64) -> bool {
     if symbols::CHECK_TABLE.is_none() {
-        println!("gatewren_check_table is NOT linked: `rt staticlib gatewren` first");
+        println!("gatewren_check_table is NOT linked: `tools/build gatewren` first");
         return false;
     }
     let (start, mut random, mut tally) = (Instant::now(), Random::new(seed), Tally::default());

@@ -37,6 +37,12 @@ units_drop_out u d (Rj x y z p) (Rj x' y' z' p') (rj X Y Z P plus) =
     rj_scales u d (number x) (number y) (number z) (number p) (number x') (number y') (number z') (number p') X.first
     Y.first Z.first
     P.first X.second Y.second Z.second P.second plus X.factor Y.factor Z.factor P.factor
+units_drop_out u d (Rc x y) c' h = elim h [ ]
+units_drop_out u d (Rf x y z) c' h = elim h [ ]
+units_drop_out u d (Rd x y z) c' h = elim h [ ]
+units_drop_out u d (Rg x y z) c' h = elim h [ ]
+units_drop_out u d (Rj x y z p) c' h = elim h [ ]
+units_drop_out u d (Cel kc p a b) c' h = elim h [ ]
 
 -- and of the functions: whatever two calls of `answer_of` answer, whose contract is r ≡ answer_of c
 pub called : (u d : ℕ) (c c' : Call) (r r' : Answer) → r ≡ answer_of c → r' ≡ answer_of c' → Scaled u d c c'

@@ -101,19 +101,21 @@ unsigned (fin true m e) p h =
     none n h = omega arith
 
 -- nor has a fraction that is rounded without one
+written_plus : (d q k l : ℕ) → Plus (odd d false q k l)
+unfolding odd is_nan
+written_plus d ℕ.zero k l = record { number = refl; sign = refl }
+written_plus d (suc q) k l = record { number = refl; sign = refl }
+
+endless_plus : Plus (inf false)
+unfolding is_nan
+endless_plus = record { number = refl; sign = refl }
+
+in_range_plus : (q k : ℕ) → Plus (units binary64 false q k)
+unfolding units
+in_range_plus q k = chosen Plus (ltb (q * 2 ^ k) (2 ^ (1074 + 1024))) (written_plus 54 q k 1074) endless_plus
+
 rounded_plus : (a b : ℕ) → Plus (round binary64 false a b)
-rounded_plus a b = subst Plus (sym (round_is binary64 false a b)) (in_range _ _)
-  where
-    written : (d q k l : ℕ) → Plus (odd d false q k l)
-    written d ℕ.zero k l = unfold odd is_nan in record { number = refl; sign = refl }
-    written d (suc q) k l = unfold odd is_nan in record { number = refl; sign = refl }
-
-    endless : Plus (inf false)
-    endless = unfold is_nan in record { number = refl; sign = refl }
-
-    in_range : (q k : ℕ) → Plus (units binary64 false q k)
-    in_range q k =
-        unfold units in chosen Plus (ltb (q * 2 ^ k) (2 ^ (1074 + 1024))) (written 54 q k 1074) endless
+rounded_plus a b = subst Plus (sym (round_is binary64 false a b)) (in_range_plus _ _)
 
 -- what is above zero has units
 some_units : (d : ℤ) → lt zero (fin false 0 d) ≡ false

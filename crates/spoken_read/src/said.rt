@@ -12,8 +12,8 @@ ghost use Rattle.spoken_read.specs.Lines.{
   said_to,
 };
 
-use crate::numbers::{Numbers, Taken, read_all};
 use crate::line_words::{begins, ends};
+use crate::numbers::{Numbers, Taken, read_all};
 use answers::answer_of;
 use binary64::join;
 use calls::Call;

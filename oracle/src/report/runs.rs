@@ -316,7 +316,7 @@ fn shown(said: u32, words: &Words, must: &Words, jobs: &[Job]) -> String {
 /// N jobs in all.
 pub fn run(n: u64, seed: u64) -> bool {
     if symbols::REPORT_LIST.is_none() {
-        println!("gatewren_report_list is NOT linked: `rt staticlib gatewren` first");
+        println!("gatewren_report_list is NOT linked: `tools/build gatewren` first");
         return false;
     }
     let (start, mut random, mut tally) = (Instant::now(), Random::new(seed), Tally::default());

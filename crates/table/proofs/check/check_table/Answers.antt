@@ -1,0 +1,50 @@
+-- `check_table` meets its contract. The invariant: what is left of the list and of the words, with what is known so far, gives
+-- what all of them give. Assumes nothing.
+use Prim.Native.Nat.{◌-◌, ◌≤◌, ◌<◌}
+use mathlib.Core.Path.{◌≡◌, sym, ◌∙◌}
+use native.Mathlib.Omega.{arith}
+use borrow.Author.Rules.{rules}
+use lib.ListN.{length}
+use Rattle.packed_number.specs.NumberLaws.{Bytes}
+use Rattle.packed.specs.ListLaws.{nothing_left}
+use Rattle.packed.specs.Reading.{read_at}
+use Rattle.packed.specs.declared.read.Read.TheVariants.{Found}
+use Rattle.packed.specs.RestLaws.{bytes_all, found_later}
+use Rattle.table.proofs.Rest.{Standing}
+use Rattle.table.proofs.Rest.{standing_begins, standing_more, standing_refused, standing_ended}
+use Rattle.table.proofs.check.check_table.Goals as goal
+use Rattle.table.proofs.check.check_table.Goals.{At-loop-place}
+
+-- the list's bytes are bytes
+good : (c : At-loop-place) → Bytes c.args.list.now
+good c =
+    bytes_all c.args.list.now (λ k. omega (arith, c.type_inv.list k))
+
+pub loop-place-init : goal.loop-place-init
+loop-place-init c =
+    standing_begins
+
+pub returns-in-Nothing : goal.returns-in-Nothing
+returns-in-Nothing c =
+    absurd (omega (arith, c.loop-place-test.true, nothing_left _ _ (sym c.read_job.ensures ∙ c.in-Nothing.is)))
+
+pub returns-in-Refused : goal.returns-in-Refused
+returns-in-Refused c =
+    standing_refused c.loop-place.invariant (sym c.read_job.ensures ∙ c.in-Refused.is)
+
+pub overflow_add-row : goal.overflow_add-row
+overflow_add-row c =
+    omega (arith, c.loop-place.invariant.few, found_later _ c.loop-place.place c.in-Found.got (good (goal.at.overflow_add-row c).At-loop-place) (sym c.read_job.ensures ∙ c.in-Found.is))
+
+pub loop-place-smaller : goal.loop-place-smaller
+loop-place-smaller c =
+    omega (arith, found_later _ c.loop-place.place c.in-Found.got (good (goal.at.loop-place-smaller c).At-loop-place) (sym c.read_job.ensures ∙ c.in-Found.is))
+
+pub loop-place-preserved : goal.loop-place-preserved
+loop-place-preserved c =
+    rw (c.row_more-so.ensures, c.words_after-at.ensures)
+    (standing_more c.loop-place.invariant (good (goal.at.loop-place-preserved c).At-loop-place) (sym c.read_job.ensures ∙ c.in-Found.is))
+
+pub returns : goal.returns
+returns c =
+    c.ended.ensures ∙ standing_ended c.loop-place.invariant c.loop-place-test.false
