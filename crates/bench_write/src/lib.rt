@@ -2,10 +2,10 @@
 // them.
 #![tactic(auto)]
 
-mod written_pieces;
 mod said;
 mod tallies;
 mod write;
+mod written_pieces;
 
 pub use crate::said::Said;
 pub use crate::tallies::Tally;

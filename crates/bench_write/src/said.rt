@@ -2,8 +2,8 @@
 ghost use Rattle.std.specs.Prelude.{◌≡◌};
 ghost use Rattle.bench_write.specs.Pieces.{piece_of, shape_of};
 
-use crate::written_pieces::{bad_piece, decrement_piece, no_verdict_piece, weighed_piece};
 use crate::tallies::{Tally, count_piece, tallies_piece};
+use crate::written_pieces::{bad_piece, decrement_piece, no_verdict_piece, weighed_piece};
 use drag::Verdict;
 use phrases::Piece;
 

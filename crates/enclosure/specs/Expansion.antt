@@ -13,9 +13,9 @@ use Rattle.enclosure.specs.Order.{≼_refl, ≼_trans, ⊞-mono, ⊠-mono}
 use Rattle.enclosure.specs.Enclosure.{sum, odd_power, T-term, euler_start, euler_ratio, euler_term}
 use Rattle.enclosure.specs.Nested.{Falls}
 use Rattle.enclosure.specs.Pieces.{Series, euler, odd}
+
 -- ---- one number
 infix 50 ◌≃◌
-
 -- c_n of a series
 unfoldable pub coefficient : Series → ℕ → Quotient
 coefficient euler zero = whole 1

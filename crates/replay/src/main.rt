@@ -124,10 +124,16 @@ fn report_all(rt: HostRuntime, t: Tally) {
 }
 
 fn main(rt: HostRuntime) {
-    report_all(rt, take_rows(rt, Tally {
-        rows: [0; 7],
-        differ: [0; 7],
-        odd: 0,
-        header: true,
-    }));
+    report_all(
+        rt,
+        take_rows(
+            rt,
+            Tally {
+                rows: [0; 7],
+                differ: [0; 7],
+                odd: 0,
+                header: true,
+            },
+        ),
+    );
 }

@@ -48,7 +48,12 @@ fn row_more(
 }
 
 // The first line that is no header.
-fn first_line(rt: HostRuntime, claims: Source<'_>, block: &mut [u8; BLOCK], held: &mut [u8; ROW]) -> Rows {
+fn first_line(
+    rt: HostRuntime,
+    claims: Source<'_>,
+    block: &mut [u8; BLOCK],
+    held: &mut [u8; ROW],
+) -> Rows {
     let first = next_of(rt, claims, rows::begin(), block, held);
     if headed(first, held) {
         return next_of(rt, claims, first, block, held);

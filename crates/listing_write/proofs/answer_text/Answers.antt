@@ -13,4 +13,4 @@ use Rattle.listing_write.proofs.answer_text.Goals as goal
 pub returns : goal.returns
 returns c =
     let a = c.args in let p = c.write_answer.ensures in let full : length a.out.now ≡ longest_reply = search rules in let most : c.write_answer.result ≤ length c.write_answer.new.out = omega
-    (arith, put_length p, p.place, text_length a.call a.answer) in record { put = p; prefix_len = (most, sym (length-take-le _ _ most)); }
+    (arith, put_length p, p.place, text_length a.call a.answer) in record { put = p; prefix_len = (most, sym (length-take-le _ _ most)) }

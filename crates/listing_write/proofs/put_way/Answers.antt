@@ -19,7 +19,6 @@ put_road-end-requires c =
 pub put_count-requires : goal.put_count-requires
 put_count-requires c =
     let q = c.put_road-end.ensures in
-    
     let p = c.put_count-word.ensures in
     let f = c.args.found in
     omega (arith, q.place, put_length q, road_length f.road, p.place, put_length p, count_length f.way.rounds 32)

@@ -28,12 +28,11 @@ loop-i-init c =
     (omega arith, pieces_none _ _ _)
 
 pub loop-i-preserved : goal.loop-i-preserved
-loop-i-preserved c =
-    (
-      omega arith,
-      more c.args.said c.requires.n_value c.requires.said_in_bounds _ c.loop-i-test.true c.piece_at.ensures c.loop-i.invariant.1
-          c.put_piece-next.ensures,
-    )
+loop-i-preserved c = (
+  omega arith,
+  more c.args.said c.requires.n_value c.requires.said_in_bounds _ c.loop-i-test.true c.piece_at.ensures c.loop-i.invariant.1
+      c.put_piece-next.ensures,
+)
 
 pub returns : goal.returns
 returns c =

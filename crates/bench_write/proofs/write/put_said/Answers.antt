@@ -45,7 +45,7 @@ module _ (s : Said) {S : Shape} (f : S ≡ shape_of s) where
 
 pub put_pieces-requires : goal.put_pieces-requires
 put_pieces-requires c =
-    let s = c.args.said in let f = c.shape_of-shape.ensures in let room = there (asked s f _ _ c.has_room.ensures) c.if-has_room.true in record { n_value = pieces-is s f; said_in_bounds = left s f _ c.least.ensures.2 room c.put_text-after.ensures; }
+    let s = c.args.said in let f = c.shape_of-shape.ensures in let room = there (asked s f _ _ c.has_room.ensures) c.if-has_room.true in record { n_value = pieces-is s f; said_in_bounds = left s f _ c.least.ensures.2 room c.put_text-after.ensures }
 
 pub returns-then-has_room : goal.returns-then-has_room
 returns-then-has_room c =

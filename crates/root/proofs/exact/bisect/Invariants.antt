@@ -11,4 +11,3 @@ invariant-loop-turns l =
 abbrev pub decreases-loop-turns : goal.decreases-loop-turns
 decreases-loop-turns l =
     l.turns
-

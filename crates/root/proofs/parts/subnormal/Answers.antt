@@ -24,5 +24,5 @@ loop-n-preserved c =
 
 pub returns : goal.returns
 returns c =
-    let l = c.loop-n in 
+    let l = c.loop-n in
     subnormal_is c.args.b l.n l.y c.requires.1 l.invariant.0 (omega arith) l.invariant.1 l.invariant.2

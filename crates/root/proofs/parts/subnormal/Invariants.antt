@@ -11,4 +11,3 @@ invariant-loop-n l =
 abbrev pub decreases-loop-n : goal.decreases-loop-n
 decreases-loop-n l =
     l.y
-

@@ -32,50 +32,59 @@ overflow_sub-length c =
 pub swing_time-requires : goal.swing_time-requires
 swing_time-requires c =
     let l = passed _ _ _ c.in_range.ensures
-    c.if-in_range.true in let g = passed _ _ _ c.in_range-then-in_range.ensures c.if-in_range-2.true in let h = passed _ _ _ c.in_range-then-in_range-2.ensures c.if-in_range-3.true in record { length_len_bound = l.largest; gravity_bound = g.largest; height_bound = omega arith; }
+    c.if-in_range.true in let g = passed _ _ _ c.in_range-then-in_range.ensures c.if-in_range-2.true in let h = passed _ _ _ c.in_range-then-in_range-2.ensures c.if-in_range-3.true in record { length_len_bound = l.largest; gravity_bound = g.largest; height_bound = omega arith }
 
 pub returns-then-in_range-3 : goal.returns-then-in_range-3
 unfolding period_of
 returns-then-in_range-3 c =
-    record { value = rw (
-      sym c.in_range.ensures
-          ∙ c.if-in_range.true,
-      sym c.in_range-then-in_range.ensures ∙ c.if-in_range-2.true,
-      sym c.in_range-then-in_range-2.ensures ∙ c.if-in_range-3.true,
-    ) c.swing_time.ensures; only = only_of c.args.length c.args.height c.args.gravity _ (rw (
-      sym c.in_range.ensures
-          ∙ c.if-in_range.true,
-      sym c.in_range-then-in_range.ensures ∙ c.if-in_range-2.true,
-      sym c.in_range-then-in_range-2.ensures ∙ c.if-in_range-3.true,
-    ) c.swing_time.ensures); }
+    record {
+      value = rw (
+        sym c.in_range.ensures
+            ∙ c.if-in_range.true,
+        sym c.in_range-then-in_range.ensures ∙ c.if-in_range-2.true,
+        sym c.in_range-then-in_range-2.ensures ∙ c.if-in_range-3.true,
+      ) c.swing_time.ensures;
+      only = only_of c.args.length c.args.height c.args.gravity _ (rw (
+        sym c.in_range.ensures
+            ∙ c.if-in_range.true,
+        sym c.in_range-then-in_range.ensures ∙ c.if-in_range-2.true,
+        sym c.in_range-then-in_range-2.ensures ∙ c.if-in_range-3.true,
+      ) c.swing_time.ensures);
+    }
 
 pub returns-then-in_range-2 : goal.returns-then-in_range-2
 unfolding period_of
 returns-then-in_range-2 c =
-    record { value = rw (
-      sym c.in_range.ensures ∙ c.if-in_range.true,
-      sym c.in_range-then-in_range.ensures ∙ c.if-in_range-2.true,
-      sym c.in_range-then-in_range-2.ensures ∙ c.if-in_range-3.false,
-    ); only = only_of c.args.length c.args.height c.args.gravity _ (rw (
-      sym c.in_range.ensures ∙ c.if-in_range.true,
-      sym c.in_range-then-in_range.ensures ∙ c.if-in_range-2.true,
-      sym c.in_range-then-in_range-2.ensures ∙ c.if-in_range-3.false,
-    )); }
+    record {
+      value = rw (
+        sym c.in_range.ensures ∙ c.if-in_range.true,
+        sym c.in_range-then-in_range.ensures ∙ c.if-in_range-2.true,
+        sym c.in_range-then-in_range-2.ensures ∙ c.if-in_range-3.false,
+      );
+      only = only_of c.args.length c.args.height c.args.gravity _ (rw (
+        sym c.in_range.ensures ∙ c.if-in_range.true,
+        sym c.in_range-then-in_range.ensures ∙ c.if-in_range-2.true,
+        sym c.in_range-then-in_range-2.ensures ∙ c.if-in_range-3.false,
+      ));
+    }
 
 pub returns-then-in_range : goal.returns-then-in_range
 unfolding period_of
 returns-then-in_range c =
-    record { value = rw (
-      sym c.in_range.ensures ∙ c.if-in_range.true,
-      sym c.in_range-then-in_range.ensures
-          ∙ c.if-in_range-2.false,
-    ); only = only_of c.args.length c.args.height c.args.gravity _ (rw (
-      sym c.in_range.ensures ∙ c.if-in_range.true,
-      sym c.in_range-then-in_range.ensures
-          ∙ c.if-in_range-2.false,
-    )); }
+    record {
+      value = rw (
+        sym c.in_range.ensures ∙ c.if-in_range.true,
+        sym c.in_range-then-in_range.ensures
+            ∙ c.if-in_range-2.false,
+      );
+      only = only_of c.args.length c.args.height c.args.gravity _ (rw (
+        sym c.in_range.ensures ∙ c.if-in_range.true,
+        sym c.in_range-then-in_range.ensures
+            ∙ c.if-in_range-2.false,
+      ));
+    }
 
 pub returns : goal.returns
 unfolding period_of
 returns c =
-    record { value = rw (sym c.in_range.ensures ∙ c.if-in_range.false); only = only_of c.args.length c.args.height c.args.gravity _ (rw (sym c.in_range.ensures ∙ c.if-in_range.false)); }
+    record { value = rw (sym c.in_range.ensures ∙ c.if-in_range.false); only = only_of c.args.length c.args.height c.args.gravity _ (rw (sym c.in_range.ensures ∙ c.if-in_range.false)) }

@@ -33,4 +33,4 @@ shape_of-out c =
 
 pub returns : goal.returns
 returns c =
-    let l = c.loop-i in let u = c.loop-i.invariant.1 in record { swings = upto_all u _ l.invariant.0 c.loop-i-test.false; used_bound = omega (arith, l.invariant.0, u.used_most); }
+    let l = c.loop-i in let u = c.loop-i.invariant.1 in record { swings = upto_all u _ l.invariant.0 c.loop-i-test.false; used_bound = omega (arith, l.invariant.0, u.used_most) }

@@ -29,7 +29,7 @@ begun s t o half out h next e p q =
 
 pub returns-then-nothing_measured : goal.returns-then-nothing_measured
 returns-then-nothing_measured c =
-    let p = c.closing.ensures in record { put = ended _ _ _ _ (sym c.nothing_measured.ensures ∙ c.if-nothing_measured.true) p; upper_bound = omega (arith, place_most longest_total p (said_end_length _)); }
+    let p = c.closing.ensures in record { put = ended _ _ _ _ (sym c.nothing_measured.ensures ∙ c.if-nothing_measured.true) p; upper_bound = omega (arith, place_most longest_total p (said_end_length _)) }
 
 pub closing-requires-2 : goal.closing-requires-2
 closing-requires-2 c =
@@ -41,9 +41,12 @@ closing-requires-2 c =
 
 pub returns : goal.returns
 returns c =
-    let p = c.closing-2.ensures in record { put = begun _ _ _ _ _ _ _ (sym c.nothing_measured.ensures ∙ c.if-nothing_measured.false)
-          c.line_end-told.ensures p; upper_bound = omega (
+    let p = c.closing-2.ensures in record {
+      put = begun _ _ _ _ _ _ _ (sym c.nothing_measured.ensures ∙ c.if-nothing_measured.false)
+          c.line_end-told.ensures p;
+      upper_bound = omega (
         arith,
         place_most longest_total p (said_end_length _),
         place_most longest_swing c.line_end-told.ensures.said (said_length _),
-      ); }
+      );
+    }

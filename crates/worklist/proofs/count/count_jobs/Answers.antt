@@ -27,8 +27,11 @@ returns-in-Refused c =
 pub loop-place-smaller : goal.loop-place-smaller
 loop-place-smaller c =
     let l = c.args.list.now in
-    omega (arith, found_later l c.loop-place.place c.in-Found.got (bytes_all l (λ k. omega (arith, c.type_inv.list k)))
-      (sym c.read_job.ensures ∙ c.in-Found.is))
+    omega (
+      arith,
+      found_later l c.loop-place.place c.in-Found.got (bytes_all l (λ k. omega (arith, c.type_inv.list k)))
+          (sym c.read_job.ensures ∙ c.in-Found.is),
+    )
 
 pub loop-place-preserved : goal.loop-place-preserved
 loop-place-preserved c =

@@ -19,4 +19,3 @@ invariant-loop-place l =
 abbrev pub decreases-loop-place : goal.decreases-loop-place
 decreases-loop-place l =
     length l.list - l.place
-
