@@ -12,7 +12,7 @@ use Rattle.packed.specs.declared.jobs.Job.{Job}
 use Rattle.packed.specs.declared.read.Got.{Got}
 use Rattle.packed.specs.declared.read.Read.TheVariants.{Found, Refused as NotRead}
 use Rattle.worklist.specs.Count.{count_of}
-use Rattle.worklist.specs.declared.count.Count.TheVariants.{Jobs as Some, Refused}
+use Rattle.worklist.specs.declared.count.Count.TheVariants.{Jobs as Several, Refused}
 
 count_more : (n : ℕ) (j : Job) (r : Jobs) → count_of n (with_job j r) ≡ count_of (n + 1) r
 unfolding count_of with_job
@@ -44,6 +44,6 @@ module _ {list : List ℕ} {n place : ℕ} (c : Counting list n place) where
   unfolding count_of
   counting_refused e = sym (ap (count_of n) (rest_refused list place e)) ∙ c.rest
 
-  pub counting_ended : length list ≤ place → Some n ≡ count_of 0 (read_all list)
+  pub counting_ended : length list ≤ place → Several n ≡ count_of 0 (read_all list)
   unfolding count_of
-  counting_ended h = sym (ap (count_of n) (rest_none list place h) ∙ ap Some (add-zero n)) ∙ c.rest
+  counting_ended h = sym (ap (count_of n) (rest_none list place h) ∙ ap Several (add-zero n)) ∙ c.rest

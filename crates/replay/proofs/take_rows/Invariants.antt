@@ -8,4 +8,4 @@ invariant-loop-turns l =
 
 abbrev pub decreases-loop-turns : goal.decreases-loop-turns
 decreases-loop-turns l =
-    l.rows
+    l.turns

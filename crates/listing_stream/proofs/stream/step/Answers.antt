@@ -13,8 +13,7 @@ use Rattle.writing.specs.FedLaws.{fed_quiet}
 use Rattle.writing.specs.Parts.{held_more}
 use Rattle.writing.specs.Written.{Put, pushed, pushed_most}
 use Rattle.listing_stream.specs.Stream.{listing_byte, held_length, Lists}
-use Rattle.listing_stream.proofs.stream.step.Statement.{statement}
-use Rattle.listing_stream.proofs.stream.step.Tie as tie
+use Rattle.listing_stream.proofs.stream.step.Goals as goal
 
 -- the line has ended
 ended : (profile : Bool) (held before out : List ℕ) (b at next : ℕ) → b ≡ 10 → Put before at (reply_of profile held) out next
@@ -32,32 +31,20 @@ goes_on profile held after before b at n r l h ne e f =
     let is : take r after ≡ take held_length (take n held ++ b ∷ []) = rw e (held_more held n b r (omega arith) f ∙ rw l) in
     rw (ne_eqb b 10 ne, is) (fed_quiet _ before at)
 
-returns : tie.Need-returns
+pub slice_bounds-put_reply-end-then-b-eq10 : goal.slice_bounds-put_reply-end-then-b-eq10
+slice_bounds-put_reply-end-then-b-eq10 c =
+    sym (length-take-le _ _ (omega arith))
+
+pub returns-then-b-eq10 : goal.returns-then-b-eq10
+returns-then-b-eq10 c =
+    record { lists = ended _ _ _ _ _ _ _ c.if-b-eq10.true c.put_reply.ensures; held_le_held_length = omega arith }
+
+pub returns : goal.returns
 returns c =
-    let k = c.before.before in
-    (ended _ _ _ _ _ _ _ k.before.before.before.if1.true k.put-reply.ensures, omega arith)
-
-returns-2 : tie.Need-returns-2
-returns-2 c =
-    let k = c.before.before in
-    let s = k.before.before.before.before.before in (
-      goes_on s.args.profile s.args.held.now _ _ _ _ s.args.n _ s.requires.0 s.requires.1.0
-          k.before.before.if1.false
-          k.push.ensures.0
-          k.push.ensures.1,
-      pushed_most s.args.n held_length _ s.requires.1.0 (rw s.requires.0 at k.push.ensures.1),
-    )
-
-pub step_spec : {M : Type 1} → statement M
-step_spec =
-    tie.close
-    (tie.spec
-    (λ c. search rules)
-    (λ c. sym (length-take-le _ _ (omega arith)))
-    (λ c κs. search rules)
-    (λ c. search rules)
-    (λ c. search rules)
-    returns
-    (λ c κs. search rules)
-    (λ c. search rules)
-    returns-2)
+    record {
+      lists = goes_on c.args.profile c.args.held.now _ _ _ _ c.args.n _ c.requires.held_len c.requires.n_le_held_length
+          c.if-b-eq10.false
+          c.push.ensures.0
+          c.push.ensures.1;
+      held_le_held_length = pushed_most c.args.n held_length _ c.requires.n_le_held_length (rw c.requires.held_len at c.push.ensures.1);
+    }

@@ -14,8 +14,7 @@ use Rattle.writing.specs.Written.{Put, tried_put}
 use Rattle.calls.specs.declared.Call.{Call}
 use Rattle.listing_read.specs.declared.Line.{Line}
 use Rattle.listing_read.specs.declared.Line.TheVariants.{Good, Bad}
-use Rattle.listing_stream.proofs.replies.put_reply.Statement.{statement}
-use Rattle.listing_stream.proofs.replies.put_reply.Tie as tie
+use Rattle.listing_stream.proofs.replies.put_reply.Goals as goal
 
 -- the line that the code looked at is the definition's
 asked : (profile : Bool) (l : List ℕ) {read seen known : Line} → read ≡ call_of l → seen ≡ admitted profile read → seen ≡ known
@@ -34,37 +33,13 @@ bad : (profile : Bool) (l o out : List ℕ) (at next : ℕ) → admitted profile
 unfolding reply_of reply_to
 bad profile l o out at next e p = rw e p
 
-returns : tie.Need-returns
-returns c =
-    let k = c.before.before in
-    let a = k.before.before in
-    let g = a.before.before in
-    let d = g.before.before in
-    good _ _ _ _ _ _ _ _ (asked _ _ d.before.call-of.ensures d.admitted.ensures g.call.given.1)
-    a.answer-by.ensures
-    (tried_put (omega arith) k.put-answer.ensures)
+pub returns-in-Good : goal.returns-in-Good
+returns-in-Good c =
+    good _ _ _ _ _ _ _ _ (asked _ _ c.call_of.ensures c.admitted.ensures c.in-Good.is)
+    c.answer_by.ensures
+    (tried_put (omega arith) c.put_answer.ensures)
 
-returns-2 : tie.Need-returns-2
-returns-2 c =
-    let k = c.before.before in
-    let g = k.before.before.before in
-    let d = g.before.before in
-    bad _ _ _ _ _ _ (asked _ _ d.before.call-of.ensures d.admitted.ensures g.enum_told.given.1)
-    (tried_put (omega arith) k.put-text.ensures)
-
-pub put-reply-spec : {M : Type 1} → statement M
-put-reply-spec =
-    tie.close
-    (tie.spec
-    (λ c κs. search rules)
-    (λ c κs. tt)
-    (λ c. search rules)
-    (λ c κs. search rules)
-    (λ c κs. search rules)
-    (λ c. search rules)
-    (λ c. search rules)
-    (λ c κs. search rules)
-    (λ c. search rules)
-    returns
-    (λ c. search rules)
-    returns-2)
+pub returns-in-Bad : goal.returns-in-Bad
+returns-in-Bad c =
+    bad _ _ _ _ _ _ (asked _ _ c.call_of.ensures c.admitted.ensures c.in-Bad.is)
+    (tried_put (omega arith) c.put_text.ensures)

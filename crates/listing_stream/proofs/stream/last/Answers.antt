@@ -12,8 +12,7 @@ use Rattle.writing.specs.Input.{last_line}
 use Rattle.listing_stream.specs.Stream.{replies_to, said_last}
 use Rattle.writing.specs.Written.{Put}
 use Rattle.listing_stream.proofs.Lengths.{reply_length}
-use Rattle.listing_stream.proofs.stream.last.Statement.{statement}
-use Rattle.listing_stream.proofs.stream.last.Tie as tie
+use Rattle.listing_stream.proofs.stream.last.Goals as goal
 
 none : (profile : Bool) (o l : List ℕ) (n : ℕ) → n ≡ 0 → Put o 0 (said_last profile (take n l)) o 0
 unfolding said_last last_line replies_to
@@ -26,18 +25,14 @@ some profile l zero ne h = absurd (ne refl)
 some profile [] (suc n) ne h = absurd (omega arith)
 some profile (b ∷ l) (suc n) ne h = append-nil _
 
-returns-2 : tie.Need-returns-2
-returns-2 c =
-    let k = c.before.before in
-    let s = k.before.before.before.before.before.before in
-    let p = k.put-reply.ensures in (
-      rw (some s.args.profile s.args.held.now s.args.n k.before.before.before.if1.false s.requires.0) p,
-      omega (arith, p.place, reply_length s.args.profile (take s.args.n s.args.held.now)),
-    )
+pub returns-then-n-eq0 : goal.returns-then-n-eq0
+returns-then-n-eq0 c =
+    record { put = none _ _ _ _ c.if-n-eq0.true; upper_bound = omega arith }
 
-pub last-spec : {M : Type 1} → statement M
-last-spec =
-    tie.close
-    (tie.spec (λ c. (none _ _ _ _ c.if1.true, omega arith)) (λ c. sym (length-take-le _ _ (omega arith)))
-    (λ c κs. search rules)
-    (λ c. search rules) returns-2)
+pub slice_bounds-put_reply-end : goal.slice_bounds-put_reply-end
+slice_bounds-put_reply-end c =
+    sym (length-take-le _ _ (omega arith))
+
+pub returns : goal.returns
+returns c =
+    let p = c.put_reply.ensures in record { put = rw (some c.args.profile c.args.held.now c.args.n c.if-n-eq0.false c.requires.n_in_bounds) p; upper_bound = omega (arith, p.place, reply_length c.args.profile (take c.args.n c.args.held.now)) }

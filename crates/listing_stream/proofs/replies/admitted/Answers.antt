@@ -7,8 +7,7 @@ use Rattle.listing_read.specs.declared.Line.{Line}
 use Rattle.listing_read.specs.declared.Line.TheVariants.{Good, Bad}
 use Rattle.listing_write.specs.Text.{is_cel}
 use Rattle.listing_stream.specs.Replies.{admitted}
-use Rattle.listing_stream.proofs.replies.admitted.Statement.{statement}
-use Rattle.listing_stream.proofs.replies.admitted.Tie as tie
+use Rattle.listing_stream.proofs.replies.admitted.Goals as goal
 
 barred : (profile : Bool) (l : Line) (c : Call) → l ≡ Good c → (profile && is_cel c) ≡ true → Bad ≡ admitted profile l
 unfolding admitted
@@ -22,23 +21,19 @@ kept profile l c e f = rw (e, f)
 tested : (profile b : Bool) (c : Call) {r t : Bool} → b ≡ is_cel c → r ≡ (profile && b) → r ≡ t → (profile && is_cel c) ≡ t
 tested profile b c e f g = sym (f ∙ ap (λ (b : Bool). profile && b) e) ∙ g
 
-pub admitted-spec : {M : Type 1} → statement M
+pub returns-then-both : goal.returns-then-both
 unfolding admitted
-admitted-spec =
-    tie.close
-    (tie.spec
-    (λ c. search rules)
-    (λ c κs. tt)
-    (λ c κs. tt)
-    (λ c.
-    let k = c.before.before in
-    let l = k.before.before in
-    let profile = l.before.before.args.profile in
-    barred _ _ _ l.line.given.1 (tested profile _ _ k.is-cel.ensures c.before.both.ensures c.if1.true))
-    (λ c. search rules)
-    (λ c.
-    let k = c.before.before in
-    let l = k.before.before in
-    let profile = l.before.before.args.profile in
-    kept _ _ _ l.line.given.1 (tested profile _ _ k.is-cel.ensures c.before.both.ensures c.if1.false))
-    (λ c. rw c.enum_told.given.1))
+returns-then-both c =
+    let profile = c.args.profile in
+    barred _ _ _ c.in-Good.is (tested profile _ _ c.is_cel.ensures c.both.ensures c.if-both.true)
+
+pub returns-else-both : goal.returns-else-both
+unfolding admitted
+returns-else-both c =
+    let profile = c.args.profile in
+    kept _ _ _ c.in-Good.is (tested profile _ _ c.is_cel.ensures c.both.ensures c.if-both.false)
+
+pub returns-in-Bad : goal.returns-in-Bad
+unfolding admitted
+returns-in-Bad c =
+    rw c.in-Bad.is
