@@ -22,7 +22,7 @@ use Rattle.elliprf.specs.Rf as rf_entry
 use Rattle.elliprd.specs.Rd as rd_entry
 use Rattle.elliprj.specs.Rj.{rj_of_positive}
 use Rattle.calls.specs.declared.Call.{Call}
-use Rattle.calls.specs.declared.Call.TheVariants.{Rc, Rf, Rd, Rg, Rj}
+use Rattle.calls.specs.declared.Call.TheVariants.{Rc, Rf, Rd, Rg, Rj, Cel}
 use Rattle.answers.specs.Answers.{number}
 use Rattle.rg_order.specs.Plain.{Plain}
 use Rattle.rg_order.proofs.PlainLaws.{told_apart}
@@ -122,3 +122,9 @@ any_order (Rf x y z) (Rf x' y' z') (rf p) = rf_permuted _ _ p (numbers x y z)
 any_order (Rd x y z) (Rd x' y' z') rd = rd_permuted (number x) (number y) (number z) (numbers x y z)
 any_order (Rg x y z) (Rg x' y' z') (rg p) = rg_permuted _ _ p (numbers x y z)
 any_order (Rj x y z s) (Rj x' y' z' s') (rj p) = rj_permuted _ _ p (numbers x y z) (number s)
+any_order (Rc x y) c' h = elim h [ ]
+any_order (Rf x y z) c' h = elim h [ ]
+any_order (Rd x y z) c' h = elim h [ ]
+any_order (Rg x y z) c' h = elim h [ ]
+any_order (Rj x y z s) c' h = elim h [ ]
+any_order (Cel kc p a b) c' h = elim h [ ]

@@ -21,7 +21,7 @@ use Rattle.sorting.specs.declared.Triple.{Triple}
 use Rattle.sorting.specs.Sorting.{three, rise_xy, rise_yz, rising}
 use Rattle.elliprj.specs.Rj.{rj_signed, rj_of_positive}
 use Rattle.calls.specs.declared.Call.{Call}
-use Rattle.calls.specs.declared.Call.TheVariants.{Rc, Rf, Rd, Rg, Rj}
+use Rattle.calls.specs.declared.Call.TheVariants.{Rc, Rf, Rd, Rg, Rj, Cel}
 use Rattle.answers.specs.Answers.{number}
 use Rattle.units.specs.Statement.{InRange, TimesFour, Alike, refused, least, most}
 use Rattle.units.specs.Kinds.{argument_k}
@@ -286,3 +286,9 @@ units_drop_out u d (Rj x y z p) (Rj x' y' z' p') (rj X Y Z P) h h' =
     let a = sized_p (number x) (number y) (number z) (number p) h in
     let b = sized_p (number x') (number y') (number z') (number p') h' in
     rj_alike _ _ _ _ (three_of u d x y z x' y' z' a.0 b.0 X Y Z) (one_of u d p p' a.1 b.1 P)
+units_drop_out u d (Rc x y) c' r h h' = elim r [ ]
+units_drop_out u d (Rf x y z) c' r h h' = elim r [ ]
+units_drop_out u d (Rd x y z) c' r h h' = elim r [ ]
+units_drop_out u d (Rg x y z) c' r h h' = elim r [ ]
+units_drop_out u d (Rj x y z p) c' r h h' = elim r [ ]
+units_drop_out u d (Cel kc p a b) c' r h h' = elim r [ ]
