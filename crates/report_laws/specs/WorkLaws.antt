@@ -14,7 +14,7 @@ use Rattle.packed.specs.Jobs.{arity_of}
 use Rattle.packed.specs.Reading.{Jobs, jobs, stopped, read_all}
 use Rattle.packed.specs.declared.jobs.Job.{Job}
 use Rattle.worklist.specs.Count.{count_of}
-use Rattle.worklist.specs.declared.count.Count.TheVariants.{Jobs as Some}
+use Rattle.worklist.specs.declared.count.Count.TheVariants.{Jobs as Several}
 use Rattle.answers.specs.Answers.{answer_of}
 use Rattle.job_answers.specs.JobAnswers.{call_of_job}
 use Rattle.table.specs.RefusalLaws.{list_numbers}
@@ -170,8 +170,8 @@ module _ (ws list : List ℕ) where
       → (list_number ws list ≡ 0) × (list_after ws list ≡ jobs_added ws js)
   list_added {js} e r = (number, after)
     where
-      counted : count_of 0 (jobs js) ≡ Some (length js)
-      counted = unfold count_of in ap Some (zero-add (length js))
+      counted : count_of 0 (jobs js) ≡ Several (length js)
+      counted = unfold count_of in ap Several (zero-add (length js))
 
       number : list_number ws list ≡ 0
       number = unfold list_number list_judged in rw (e, counted, r)
