@@ -25,8 +25,8 @@ use Rattle.rj_term.proofs.Borders.{ln_reached_from_rj}
 use Rattle.rj_term.specs.Term.{rj_middle, rj_term}
 use Rattle.rj_term.specs.declared.term.Roots.{Roots}
 use Rattle.asked.specs.With.{Agrees, Agrees1p, ln_before}
-use Rattle.asked.proofs.With.{by_ln_with, by_ln1p_with, rc_cases_with, rc_steps_with, rc_unchecked_with}
-use Rattle.asked.proofs.With.{by_logs1p_with, by_rc1p_with, by_ln_of1p_with, rc1p_with, rj_term_with}
+use Rattle.asked.specs.With.{by_ln_with, by_ln1p_with, rc_cases_with, rc_steps_with, rc_unchecked_with}
+use Rattle.asked.specs.With.{by_logs1p_with, by_rc1p_with, by_ln_of1p_with, rc1p_with, rj_term_with}
 use Rattle.asked.proofs.Arguments.{one_is}
 use Rattle.asked.proofs.Before.{before_agrees}
 use Rattle.asked.proofs.Rc.{cases_ask, turned}

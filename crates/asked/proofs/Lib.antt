@@ -5,4 +5,3 @@ pub mod Helper
 pub mod Lost
 pub mod Rc
 pub mod Reached
-pub mod With

@@ -14,7 +14,7 @@ use Rattle.scaling.proofs.Pick.{choose}
 use Rattle.carlson.specs.Constants.{zero, two, half}
 use Rattle.rc_cases.specs.Cases.{rc_by_ln1p, rc_by_ln, rc_cases}
 use Rattle.asked.specs.With.{FromTwo, Within, Agrees, Agrees1p}
-use Rattle.asked.proofs.With.{by_ln1p_with, by_ln_with, rc_cases_with}
+use Rattle.asked.specs.With.{by_ln1p_with, by_ln_with, rc_cases_with}
 use Rattle.asked.specs.Lost.{Lost}
 use Rattle.asked.proofs.Lost.{split, root_lost, sum_lost, less_lost, less_lost_last, over_lost, over_nan, over_nothing}
 use Rattle.asked.proofs.Lost.{lost_two, lost_within}

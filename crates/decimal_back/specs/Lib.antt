@@ -2,3 +2,4 @@ pub mod Count
 pub mod Goes
 pub mod Laid
 pub mod Same
+pub mod Value
