@@ -42,11 +42,3 @@ pub first_zero : (rg (neg zero) zero zero ≡ Value (closed_at (neg zero))) × (
 unfolding rg rg_unchecked rg_steps rg_sorted rg_top rg_equal rg_settled fall_xy fall_xz rise_yz largest_first rescaling3 closed_at
     settled_late absolute maximum minimum root of_bits neg lt eq is_nan
 first_zero = (refl, refl)
-
-pub minus_zero : rg (neg zero) zero zero ≡ rg zero (neg zero) zero → ⊥
-unfolding closed_at neg of_bits
-minus_zero e = true≢false (ap signed (sym first_zero.0 ∙ e ∙ first_zero.1))
-  where
-    signed : Answer → Bool
-    signed (Value f) = sign f.value
-    signed (Refused n) = false

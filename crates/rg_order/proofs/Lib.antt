@@ -1,3 +1,4 @@
 pub mod AnyOrder
 pub mod PlainLaws
 pub mod Seen
+pub mod MinusZero
