@@ -31,7 +31,7 @@ use Rattle.units_rf.proofs.Rc.{rc_scales}
 use Rattle.units_rf.proofs.Rf.{rf_scales}
 use Rattle.units_rd.proofs.Rd.{rd_scales}
 use Rattle.units_rg.proofs.Rg.{rg_scales}
-use Rattle.units_rj.proofs.Rj.{rj_positive_scales}
+use Rattle.units_rj.proofs.AboveZero.{rj_positive_scales}
 use Rattle.rg_order.specs.Seen.{at}
 use Rattle.demands.specs.Units.{up, down}
 use Rattle.profile.specs.Profile.{rc_plain, rf_upward, rf_plain, rd_upward, rd_plain, rg_plain, rj_upward, rj_plain, profile_rc, profile_rf}

@@ -1,1 +1,2 @@
 pub mod Rj
+pub mod AboveZero

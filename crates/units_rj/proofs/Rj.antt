@@ -165,7 +165,7 @@ first_above {p = p} {p'} P t =
     let n : T (not (eq p zero)) = subst (λ b. T (not b)) (sym (zero_two P)) (not_zero P.second a.1) in
     is_above (subst (λ s. Is binary64 p s P.m) a.0 P.first) (no_units P n).0
 
-scaled_above : (u d : ℕ) (p p' : Float) → InRange p → InRange p' → TimesFour u d p p' → T (lt zero p) → T (lt zero p')
+pub scaled_above : (u d : ℕ) (p p' : Float) → InRange p → InRange p' → TimesFour u d p p' → T (lt zero p) → T (lt zero p')
 scaled_above u d p p' P P' w t =
     either_way u d (λ k e. second_above (argument k d P P' (onward k d e w)) t)
     (λ k e. first_above (argument k u P' P (backward k u e w)) t)
@@ -186,21 +186,3 @@ rj_scales u d x y z p x' y' z' p' X Y Z P X' Y' Z' P' t q r s w =
     (alike_back (upward k u x' y' z' p' x y z p X' Y' Z' P' X Y Z P (scaled_above u d p p' P P' w t) (backward k u e q)
     (backward k u e r)
     (backward k u e s) (backward k u e w))))
-
--- and of the entry for p above zero, which is RJ there (document 02, 2026-10: "demand 3 speaks of the first")
-not_less : (p : Float) → T (lt zero p) → lt p zero ≡ false
-not_less p t = lt_once zero p (T-is (lt zero p) t)
-  where
-    T-is : (b : Bool) → T b → b ≡ true
-    T-is true t = refl
-    T-is false t = absurd t
-
-pub rj_positive_scales : (u d : ℕ) (x y z p x' y' z' p' : Float) → InRange x → InRange y → InRange z → InRange p → InRange x'
-    → InRange y' → InRange z'
-    → InRange p' → T (lt zero p)
-    → TimesFour u d x x' → TimesFour u d y y' → TimesFour u d z z' → TimesFour u d p p'
-    → Alike (3 * d) (3 * u) (rj_of_positive x y z p) (rj_of_positive x' y' z' p')
-rj_positive_scales u d x y z p x' y' z' p' X Y Z P X' Y' Z' P' t q r s w =
-    subst₂ (Alike (3 * d) (3 * u)) (sym (rj_positive_is x y z p (not_less p t)))
-    (sym (rj_positive_is x' y' z' p' (not_less p' (scaled_above u d p p' P P' w t))))
-    (rj_scales u d x y z p x' y' z' p' X Y Z P X' Y' Z' P' t q r s w)
