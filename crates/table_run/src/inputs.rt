@@ -89,18 +89,10 @@ pub fn check(
                 stands = next;
                 meter = jobs(rt, meter, row, place(stands));
             }
-            Pulled::More => {
-                return Ended::Failed;
-            }
-            Pulled::End => {
-                return Ended::With(ended(so, rows.whole));
-            }
-            Pulled::Refused(number) => {
-                return Ended::With(Checked::Refused(number));
-            }
-            Pulled::Failed => {
-                return Ended::Failed;
-            }
+            Pulled::More => return Ended::Failed,
+            Pulled::End => return Ended::With(ended(so, rows.whole)),
+            Pulled::Refused(number) => return Ended::With(Checked::Refused(number)),
+            Pulled::Failed => return Ended::Failed,
         }
         row = std::num::wrapping_add_u64(row, 1);
         turns -= 1;
