@@ -1,5 +1,5 @@
 -- The numbers for no (document 01, "Numbers for no"; from 11 on document 02; the last three are ours). Definitions only.
-use Rattle.std.specs.Prelude.{ℕ}
+use Rattle.std.specs.Prelude.{ℕ, Result, Ok, Err}
 use Rattle.refusals.specs.declared.Refusal.{Refusal}
 use Rattle.refusals.specs.declared.Refusal.TheVariants.{
   NanGiven,
@@ -83,3 +83,8 @@ refusal_number Amplitude = 24
 refusal_number TooLarge = 25
 -- a text is no decimal number
 refusal_number NoNumber = 26
+
+-- what a function for C returns: 0 where it was done
+abbrev pub code_of : Result (Unit {0}) Refusal → ℕ
+code_of (Ok done) = 0
+code_of (Err r) = refusal_number r

@@ -3,7 +3,7 @@
 #![tactic(auto)]
 
 ghost use Rattle.std.specs.Prelude.{◌≡◌};
-ghost use Rattle.refusals.specs.Numbers.{refusal_number};
+ghost use Rattle.refusals.specs.Numbers.{refusal_number, code_of};
 
 #[derive(Clone, Copy, Debug, PartialEq, Eq)]
 pub enum Refusal {
@@ -94,5 +94,15 @@ impl Refusal {
             Refusal::TooLarge => 25,
             Refusal::NoNumber => 26,
         }
+    }
+}
+
+// 0 where it was done, or the refusal's number: what a function for C returns.
+pub fn code(done: Result<(), Refusal>) -> u32
+    ensures { result ≡ code_of done }
+{
+    match done {
+        Ok(()) => 0,
+        Err(refusal) => refusal.number(),
     }
 }
