@@ -21,7 +21,7 @@ pub fn told(
     ensures rescalings_after { rescalings.new ≡ rescalings_after a rescalings.old }
 {
     match a {
-        Answer::Value(found) => {
+        Ok(found) => {
             let taken = found.road;
             *value = found.value;
             *rounds = found.way.rounds;
@@ -29,6 +29,6 @@ pub fn told(
             *rescalings = found.way.rescalings;
             0
         }
-        Answer::Refused(n) => n,
+        Err(n) => n,
     }
 }

@@ -1,4 +1,4 @@
-// An answer is one of two cases: a value with its road and way, or the number of a refusal (document 01, "Numbers for no"). A
+// An answer is a value with its road and way, or the refusal that stands in its place (document 01, "Numbers for no"). A
 // `Found` is made by the functions here alone: one for each road to a value, and two that keep the road of what was found.
 ghost use Rattle.std.specs.Prelude.{◌≡◌};
 ghost use Rattle.std.specs.Float.{nan};
@@ -21,8 +21,8 @@ ghost use Rattle.carlson.specs.Answer.{
   settled_late,
 };
 
-use crate::constants::NAN_GIVEN;
 use binary64::is_finite;
+use refusals::Refusal;
 
 // Which formula answered (document 02, 2026-04; the loop is cel's alone, 2026-09).
 #[derive(Clone, Copy)]
@@ -68,11 +68,7 @@ pub struct Found {
     pub way: Way,
 }
 
-#[derive(Clone, Copy)]
-pub enum Answer {
-    Value(Found),
-    Refused(u32),
-}
+pub type Answer = Result<Found, Refusal>;
 
 // Two ways gone one after the other. A call's counts are so few that the sums never wrap (specs/Ways.antt, `few_ways`).
 pub fn both_ways(a: Way, b: Way) -> Way
@@ -113,7 +109,7 @@ pub fn carried(value: f64, way: Way) -> Found
 pub fn infinite() -> Answer
     ensures { result ≡ infinite_at }
 {
-    Answer::Value(Found {
+    Ok(Found {
         value: 0.0,
         road: Road::Infinite,
         way: Way {
@@ -240,32 +236,32 @@ pub fn handed(found: Found, value: f64) -> Found
     Found { value, road, way }
 }
 
-// A finite value stands; else the number says why there is none.
-pub fn settle(found: Found, number: u32) -> Answer
-    ensures { result ≡ settled found number }
+// A finite value stands; else the refusal says why there is none.
+pub fn settle(found: Found, refusal: Refusal) -> Answer
+    ensures { result ≡ settled found refusal }
 {
     let value = found.value;
     if is_finite(value) {
-        return Answer::Value(found);
+        return Ok(found);
     }
-    Answer::Refused(number)
+    Err(refusal)
 }
 
 // A finite value stands; else a NaN among the arguments is refused as such, then an infinite one gives the zero.
-pub fn settle_late(found: Found, nan: bool, unbounded: bool, number: u32) -> Answer
-    ensures { result ≡ settled_late found nan unbounded number }
+pub fn settle_late(found: Found, nan: bool, unbounded: bool, refusal: Refusal) -> Answer
+    ensures { result ≡ settled_late found nan unbounded refusal }
 {
     let value = found.value;
     if is_finite(value) {
-        return Answer::Value(found);
+        return Ok(found);
     }
     if nan {
-        return Answer::Refused(NAN_GIVEN);
+        return Err(Refusal::NanGiven);
     }
     if unbounded {
         return infinite();
     }
-    Answer::Refused(number)
+    Err(refusal)
 }
 
 // The value of a loop that was not left: no number.

@@ -13,14 +13,9 @@ ghost use Rattle.cel.specs.Cel.{
 
 use binary64::{abs, is_finite};
 use carlson::answer::{Answer, Found, handed, infinite};
-use carlson::constants::{NAN_GIVEN, NO_RESULT, ZERO_GIVEN};
 use carlson_arguments::checks::{any_nan4, both, either, is_infinite};
 use cel_passes::passes::steps;
-
-// Document 02, 2026-09: more than one argument is infinite; a or b is.
-const SEVERAL_INFINITE: u32 = 19;
-
-const A_OR_B_INFINITE: u32 = 20;
+use refusals::Refusal;
 
 fn either_unbounded(x: f64, y: f64) -> bool
     ensures { result ≡ either_unbounded x y }
@@ -48,18 +43,18 @@ fn unsettled(kc: f64, p: f64, a: f64, b: f64) -> Answer
     ensures { result ≡ cel_unsettled kc p a b }
 {
     if any_nan4(kc, p, a, b) {
-        return Answer::Refused(NAN_GIVEN);
+        return Err(Refusal::NanGiven);
     }
     if several_unbounded(kc, p, a, b) {
-        return Answer::Refused(SEVERAL_INFINITE);
+        return Err(Refusal::SeveralInfinite);
     }
     if either_unbounded(kc, p) {
         return infinite();
     }
     if either_unbounded(a, b) {
-        return Answer::Refused(A_OR_B_INFINITE);
+        return Err(Refusal::AOrBInfinite);
     }
-    Answer::Refused(NO_RESULT)
+    Err(Refusal::NoResult)
 }
 
 // What was found is put together anew, field by field: copied whole, the bytes between its fields are copied too, one by one.
@@ -68,7 +63,7 @@ fn settled(found: Found, kc: f64, p: f64, a: f64, b: f64) -> Answer
 {
     let value = found.value;
     if is_finite(value) {
-        return Answer::Value(handed(found, value));
+        return Ok(handed(found, value));
     }
     unsettled(kc, p, a, b)
 }
@@ -77,7 +72,7 @@ pub fn cel(kc: f64, p: f64, a: f64, b: f64) -> Answer
     ensures { result ≡ cel kc p a b }
 {
     if either(kc == 0.0, p == 0.0) {
-        return Answer::Refused(ZERO_GIVEN);
+        return Err(Refusal::ZeroGiven);
     }
     settled(steps(kc, p, a, b), kc, p, a, b)
 }

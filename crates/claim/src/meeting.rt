@@ -38,7 +38,7 @@ pub fn meets(tolerance: u64, answer: Answer, claim: Claim) -> bool
     ensures { result ≡ meets_of tolerance answer claim }
 {
     match answer {
-        Answer::Value(found) => value_meets(tolerance, split(found.value), claim),
-        Answer::Refused(number) => refusal_meets(number, claim),
+        Ok(found) => value_meets(tolerance, split(found.value), claim),
+        Err(number) => refusal_meets(number, claim),
     }
 }

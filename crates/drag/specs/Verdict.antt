@@ -1,10 +1,9 @@
 -- The verdict on a knee: the f64 period as the fraction num / den that it is, against whole nanoseconds. Definitions only.
-use Rattle.std.specs.Prelude.{ℕ, ◌+◌, ◌-◌, ◌*◌, Bool, ◌||◌, ◌&&◌, cond, eqb, ltb, leb, Float}
+use Rattle.std.specs.Prelude.{ℕ, ◌+◌, ◌-◌, ◌*◌, Bool, ◌||◌, ◌&&◌, cond, eqb, ltb, leb, Float, Ok, Err}
 use Rattle.std.specs.Float.Ieee.Nearest.{closest}
 use Rattle.std.specs.Float.Ieee.Positive.{num, den}
 use Rattle.parted.specs.declared.parts.Parts.{Parts}
-use Rattle.carlson.specs.declared.answer.Answer.{Answer}
-use Rattle.carlson.specs.declared.answer.Answer.TheVariants.{Value, Refused}
+use Rattle.carlson.specs.Answer.{Answer}
 use Rattle.swing.specs.Period.{period_of}
 use Rattle.drag.specs.declared.nanoseconds.Verdict.{Verdict}
 use Rattle.drag.specs.declared.knee.Judged.{Judged}
@@ -29,8 +28,8 @@ weighed v time limit = record { passes = passes v time limit; quicker = quicker 
 
 -- a refusal of the swing's goes through
 unfoldable pub judged_of : Answer → ℕ → ℕ → Judged
-judged_of (Value f) time limit = Weighed (weighed f.value time limit)
-judged_of (Refused n) time limit = NoVerdict n
+judged_of (Ok f) time limit = Weighed (weighed f.value time limit)
+judged_of (Err n) time limit = NoVerdict n
 
 -- of the five numbers: the swing's three, the time, the limit
 unfoldable pub drag_of : ℕ → ℕ → ℕ → ℕ → ℕ → Judged

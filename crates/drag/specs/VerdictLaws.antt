@@ -8,8 +8,7 @@ use Rattle.std.proofs.Math.Dec.{le→leb, leb→le}
 use Rattle.std.specs.Float.Ieee.{of_bits}
 use Rattle.std.specs.Float.Ieee.Positive.{num, den}
 use Rattle.binary64.specs.Operators.{bits}
-use Rattle.carlson.specs.declared.answer.Answer.{Answer}
-use Rattle.carlson.specs.declared.answer.Answer.TheVariants.{Value, Refused}
+use Rattle.carlson.specs.Answer.{Answer}
 use Rattle.swing.specs.Period.{period_of}
 use Rattle.drag.specs.Verdict.{passes, judged_of, drag_of, weighed}
 use Rattle.drag.specs.declared.knee.Judged.{Judged}

@@ -18,8 +18,8 @@ fn against(answer: Answer, time: u64, limit: u64) -> Judged
     ensures { result ≡ judged_of answer time limit }
 {
     match answer {
-        Answer::Value(found) => Judged::Weighed(weigh(found.value, time, limit)),
-        Answer::Refused(number) => Judged::Refused(number),
+        Ok(found) => Judged::Weighed(weigh(found.value, time, limit)),
+        Err(number) => Judged::Refused(number),
     }
 }
 

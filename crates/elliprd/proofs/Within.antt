@@ -1,11 +1,11 @@
 -- Within the door no test of RD's definition says yes. Assumes nothing.
+use Rattle.std.proofs.Common.{Ok}
 use mathlib.Core.Path.{◌≡◌, refl, sym, ap, ◌∙◌}
 use mathlib.Core.Bool.{Bool, true, false, not, ◌&&◌, true≢false}
 use lib.Ieee.{Float, eq, ne}
 use lib.Ieee.Scale.{finite}
 use Rattle.carlson.specs.Answer.{settled_late}
-use Rattle.carlson.specs.declared.answer.Answer.{Answer}
-use Rattle.carlson.specs.declared.answer.Answer.TheVariants.{Value}
+use Rattle.carlson.specs.Answer.{Answer}
 use Rattle.carlson.specs.declared.answer.Found.{Found}
 use Rattle.carlson_arguments.specs.Door.{moderate, moderate3}
 use Rattle.carlson_arguments.proofs.DoorLaws.{moderate_told, inside3}
@@ -50,15 +50,15 @@ apart_told x y z = go (moderate x) (eq x z) (moderate y) (eq y z) (moderate z) r
     go false s b t c p q r u v h = absurd (true≢false (sym h))
 
 -- such arguments are duplicated, and a finite value stands
-pub duplicates : (x y z : Float) → Apart x y z → rd_steps x y z ≡ Value (rd_duplication x y z)
+pub duplicates : (x y z : Float) → Apart x y z → rd_steps x y z ≡ Ok (rd_duplication x y z)
 unfolding rd_steps rd_ordered rd_general
 duplicates x y z a = rw (a.first, a.second, (moderate_told x a.one).not_zero)
 
-pub stands : (x y z : Float) (f : Found) → Apart x y z → f ≡ rd_duplication x y z → finite f.value ≡ true → Value f ≡ rd x y z
-stands x y z f a e h = settles ∙ ap (λ (g : Found). rd_settled (Value g) false false) e
+pub stands : (x y z : Float) (f : Found) → Apart x y z → f ≡ rd_duplication x y z → finite f.value ≡ true → Ok f ≡ rd x y z
+stands x y z f a e h = settles ∙ ap (λ (g : Found). rd_settled (Ok g) false false) e
     ∙ ap (λ (g : Answer). rd_settled g false false) (sym (duplicates x y z a)) ∙ within x y z door
   where
-    settles : Value f ≡ rd_settled (Value f) false false
+    settles : Ok f ≡ rd_settled (Ok f) false false
     settles = unfold rd_settled settled_late in rw h
 
     door : moderate3 x y z ≡ true

@@ -12,25 +12,26 @@ ghost use Rattle.elliprd.specs.Rd.{rd_equal, rd_zero, rd_general, rd_ordered, rd
 use crate::means::agm_of;
 use binary64::{is_finite, min};
 use carlson::answer::{Answer, closed, handed, rescaled, settle_late};
-use carlson::constants::{BELOW_ZERO, NO_RESULT, PI, Z_NOT_ABOVE, ZEROS};
+use carlson::constants::PI;
 use carlson_arguments::checks::{any_infinite3, any_nan3, both};
 use carlson_arguments::door::{moderate, moderate3};
 use carlson_arguments::rescaling::{rescales3, scale3};
 use rd_duplicate::duplicate::duplicated;
 use root::sqrt;
+use refusals::Refusal;
 
 // RD(x, x, x)
 fn all_equal(x: f64) -> Answer
     ensures { result ≡ rd_equal x }
 {
-    Answer::Value(closed(1.0 / (x * sqrt(x))))
+    Ok(closed(1.0 / (x * sqrt(x))))
 }
 
 // RD(0, y, y)
 fn one_zero(y: f64) -> Answer
     ensures { result ≡ rd_zero y }
 {
-    Answer::Value(closed(3.0 * PI / (4.0 * y * sqrt(y))))
+    Ok(closed(3.0 * PI / (4.0 * y * sqrt(y))))
 }
 
 // The mean only at moderate ratios: a large y / z makes its identity subtract nearly equal terms.
@@ -43,10 +44,10 @@ fn general(x: f64, y: f64, z: f64) -> Answer
             return a;
         }
         let found = duplicated(x, y, z);
-        return Answer::Value(found);
+        return Ok(found);
     }
     let found = duplicated(x, y, z);
-    Answer::Value(found)
+    Ok(found)
 }
 
 // x and y are in the order in which the steps want them.
@@ -83,8 +84,8 @@ pub fn over_scale(a: Answer, scale: f64) -> Answer
     ensures { result ≡ over_scale a scale }
 {
     match a {
-        Answer::Value(found) => Answer::Value(rescaled(found, found.value / scale / sqrt(scale))),
-        Answer::Refused(n) => Answer::Refused(n),
+        Ok(found) => Ok(rescaled(found, found.value / scale / sqrt(scale))),
+        Err(n) => Err(n),
     }
 }
 
@@ -104,8 +105,8 @@ fn settled(a: Answer, nan: bool, unbounded: bool) -> Answer
     ensures { result ≡ rd_settled a nan unbounded }
 {
     match a {
-        Answer::Value(found) => settle_late(handed(found, found.value), nan, unbounded, NO_RESULT),
-        Answer::Refused(n) => Answer::Refused(n),
+        Ok(found) => settle_late(handed(found, found.value), nan, unbounded, Refusal::NoResult),
+        Err(n) => Err(n),
     }
 }
 
@@ -118,13 +119,13 @@ fn checked(x: f64, y: f64, z: f64) -> Answer
         return a;
     }
     if min(x, y) < 0.0 {
-        return Answer::Refused(BELOW_ZERO);
+        return Err(Refusal::BelowZero);
     }
     if both(x == 0.0, y == 0.0) {
-        return Answer::Refused(ZEROS);
+        return Err(Refusal::Zeros);
     }
     if z <= 0.0 {
-        return Answer::Refused(Z_NOT_ABOVE);
+        return Err(Refusal::ZNotAbove);
     }
     settled(
         elliprd_unchecked(x, y, z),
@@ -144,7 +145,7 @@ pub fn elliprd(x: f64, y: f64, z: f64) -> Answer
     ) {
         let found = duplicated(x, y, z);
         if is_finite(found.value) {
-            return Answer::Value(handed(found, found.value));
+            return Ok(handed(found, found.value));
         }
         return checked(x, y, z);
     }

@@ -4,9 +4,10 @@ ghost use Rattle.elliprd.specs.Means.{sums_of, rd_mean_value, rd_agm_of};
 
 use carlson::answer::{Answer, agm};
 use carlson::common::{MEAN_CAP, still_apart};
-use carlson::constants::{AGM_SPENT, PI};
+use carlson::constants::PI;
 use root::{sqrt, sqrt_ahead};
 use root_guess::{Ahead, nearly_twice, ready, unready};
+use refusals::Refusal;
 
 // 8 * 2.7 * 2 ^ -52: no answer rests on it.
 const TOO_FAR: f64 = 4.8e-15;
@@ -70,14 +71,14 @@ pub fn agm_of(y: f64, z: f64) -> Answer
     loop {
         if still_apart(s.xn, s.yn) {
             if n == MEAN_CAP {
-                break Answer::Refused(AGM_SPENT);
+                break Err(Refusal::AgmSpent);
             }
             let later = ready_next(s, k);
             s = next_sums(s, k);
             k = later;
             n += 1;
         } else {
-            break Answer::Value(agm(value_of(x0, y0, y, z, s), n));
+            break Ok(agm(value_of(x0, y0, y, z, s), n));
         }
     }
 }

@@ -4,10 +4,11 @@ ghost use Rattle.rg_means.specs.Means.{rg_begin, rg_moved, rg_next, rg_mean_valu
 
 use carlson::answer::{Answer, agm};
 use carlson::common::{MEAN_CAP, still_apart};
-use carlson::constants::{AGM_SPENT, PI};
+use carlson::constants::PI;
 use fused::mul_add;
 use root::{sqrt, sqrt_ahead};
 use root_guess::{Ahead, nearly_twice, ready, unready};
+use refusals::Refusal;
 
 // 8 * 2.7 * 2 ^ -52: no answer rests on it.
 const TOO_FAR: f64 = 4.8e-15;
@@ -86,14 +87,14 @@ pub fn agm_of(x: f64, z: f64) -> Answer
     loop {
         if still_apart(s.xn, s.yn) {
             if n == MEAN_CAP {
-                break Answer::Refused(AGM_SPENT);
+                break Err(Refusal::AgmSpent);
             }
             let later = ready_next(s, k);
             s = next_sums(s, k);
             k = later;
             n += 1;
         } else {
-            break Answer::Value(agm(value_of(s), n));
+            break Ok(agm(value_of(s), n));
         }
     }
 }

@@ -56,7 +56,7 @@ fn unless_near(near: Near, x: f64, y: f64, z: f64, p: f64) -> Plan
     ensures { result ≡ plan_near near x y z p }
 {
     match near {
-        Near::Taylor(value) => Plan::Done(Answer::Value(taylor(value))),
+        Near::Taylor(value) => Plan::Done(Ok(taylor(value))),
         Near::Far => scaled(x, y, z, p),
     }
 }

@@ -59,12 +59,12 @@ pub fn carried(r: Reduced, inner: Answer) -> Answer
     ensures { result ≡ wrapped_answer r inner }
 {
     match inner {
-        Answer::Value(rj) => Answer::Value(together(
+        Ok(rj) => Ok(together(
             r,
             rj,
             elliprf_unchecked(r.x, r.y, r.z),
             rc_of(r),
         )),
-        Answer::Refused(n) => Answer::Refused(n),
+        Err(n) => Err(n),
     }
 }

@@ -1,12 +1,11 @@
 -- What is said to a line: a function's name in either case and as many decimals as it wants. Definitions only.
-use Rattle.std.specs.Prelude.{ℕ, ◌+◌, ◌*◌, ◌%◌, ◌^◌, cond, List, [], ◌∷◌, length, ◌==◌, from_bits, nat_lt}
+use Rattle.std.specs.Prelude.{ℕ, ◌+◌, ◌*◌, ◌%◌, ◌^◌, cond, List, [], ◌∷◌, length, ◌==◌, from_bits, nat_lt, Ok, Err}
 use Rattle.std.specs.Float.{binary64}
 use Rattle.root.specs.Root.{root}
 use Rattle.series.specs.Atan.{atan}
 use Rattle.series.specs.Ln.{ln}
 use Rattle.series.specs.Ln1p.{ln_1p}
-use Rattle.carlson.specs.declared.answer.Answer.{Answer}
-use Rattle.carlson.specs.declared.answer.Answer.TheVariants.{Value as Answered, Refused as RefusedBy}
+use Rattle.carlson.specs.Answer.{Answer}
 use Rattle.calls.specs.declared.Call.{Call}
 use Rattle.calls.specs.declared.Call.TheVariants.{Rc as CallRc, Rf as CallRf, Rd as CallRd}
 use Rattle.calls.specs.declared.Call.TheVariants.{Rg as CallRg, Rj as CallRj, Cel as CallCel}
@@ -67,8 +66,8 @@ wants_of Other = 0
 
 -- ---- the answer
 unfoldable pub said_of : Answer → Said
-said_of (Answered f) = Value f
-said_of (RefusedBy n) = Refused n
+said_of (Ok f) = Value f
+said_of (Err n) = Refused n
 
 unfoldable pub entry_of : Call → Said
 entry_of call = said_of (answer_of call)

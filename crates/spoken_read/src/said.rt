@@ -114,8 +114,8 @@ fn entry(call: Call) -> Said
     ensures { result ≡ entry_of call }
 {
     match answer_of(call) {
-        Answer::Value(found) => Said::Value(found),
-        Answer::Refused(number) => Said::Refused(number),
+        Ok(found) => Said::Value(found),
+        Err(number) => Said::Refused(number),
     }
 }
 

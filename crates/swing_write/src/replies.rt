@@ -72,8 +72,8 @@ fn write_swing(answer: Answer, out: &mut [u8], at: usize) -> usize
     ensures { Put out.old at (swing_text answer) out.new result }
 {
     match answer {
-        Answer::Value(found) => put_period(found, out, at),
-        Answer::Refused(number) => put_refused(number, out, at),
+        Ok(found) => put_period(found, out, at),
+        Err(number) => put_refused(number, out, at),
     }
 }
 

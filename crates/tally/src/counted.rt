@@ -19,7 +19,7 @@ pub fn counted_of(answer: Answer) -> Counted
     ensures { result ≡ counted_of answer }
 {
     match answer {
-        Answer::Value(found) => {
+        Ok(found) => {
             let way = found.way;
             Counted {
                 refused: 0,
@@ -27,7 +27,7 @@ pub fn counted_of(answer: Answer) -> Counted
                 bits: split(found.value),
             }
         }
-        Answer::Refused(number) => Counted {
+        Err(number) => Counted {
             refused: number as u64,
             rounds: 0,
             bits: INFINITY,

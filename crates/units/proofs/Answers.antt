@@ -1,7 +1,7 @@
 -- From the rules back to the claim: what an entry settles of two runs is alike. And both signs of k: the second way round, the
 -- runs change places.
 use Rattle.std.specs.Prelude.{◌≡◌, refl, ℕ, ◌+◌, ◌-◌, ◌*◌, ◌^◌, Bool, true, false, cond, [], ◌∷◌, Float}
-use Rattle.std.proofs.Common.{sym, ap, ◌∙◌, subst, subst₂, inl, inr, arith, pow-add}
+use Rattle.std.proofs.Common.{sym, ap, ◌∙◌, subst, subst₂, inl, inr, arith, pow-add, Ok, Err}
 use Rattle.std.specs.Float.{nan, inf, fin, binary64}
 use Rattle.std.specs.Float.Ieee.Scale.{finite}
 use Rattle.algebra.specs.Ring.{◌:*◌, ◌≈◌, ◌⊩◌, ◌times◌≼◌}
@@ -15,8 +15,7 @@ use Rattle.carlson.specs.Answer.{settled, settled_late}
 use Rattle.carlson.specs.declared.answer.Road.{Road}
 use Rattle.carlson.specs.declared.answer.Way.{Way}
 use Rattle.carlson.specs.declared.answer.Found.{Found}
-use Rattle.carlson.specs.declared.answer.Answer.{Answer}
-use Rattle.carlson.specs.declared.answer.Answer.TheVariants.{Value, Refused}
+use Rattle.carlson.specs.Answer.{Answer}
 use Rattle.units.specs.Statement.{Times, TimesFour, Alike, refused, values}
 use Rattle.units.specs.Runs.{Same, both, lost}
 use Rattle.units.specs.Answers.{Pair, no, yes}
@@ -31,7 +30,7 @@ unfolding settled
 settled_same {k} {K} n (both {v = v} {w = w} {r = r} {c = c} a) =
     let f : Found = record { value = v; road = r; way = c } in
     let g : Found = record { value = w; road = r; way = c } in
-    subst₂ (λ p q. Pair k K (cond p (Value f) (Refused n)) (cond q (Value g) (Refused n))) (sym (finite_is a.first))
+    subst₂ (λ p q. Pair k K (cond p (Ok f) (Err n)) (cond q (Ok g) (Err n))) (sym (finite_is a.first))
     (sym (finite_is a.second))
     (yes a)
 settled_same n lost = no
@@ -42,7 +41,7 @@ unfolding settled_late
 late_same {k} {K} n (both {v = v} {w = w} {r = r} {c = c} a) =
     let f : Found = record { value = v; road = r; way = c } in
     let g : Found = record { value = w; road = r; way = c } in
-    subst₂ (λ p q. Pair k K (cond p (Value f) (Refused n)) (cond q (Value g) (Refused n))) (sym (finite_is a.first))
+    subst₂ (λ p q. Pair k K (cond p (Ok f) (Err n)) (cond q (Ok g) (Err n))) (sym (finite_is a.first))
     (sym (finite_is a.second))
     (yes a)
 late_same n lost = no

@@ -186,18 +186,18 @@ fn compare(call: Call, j: u64, first: Answer, second: Answer) -> Verdict
     requires { j ≤ 128 }
 {
     match first {
-        Answer::Value(v) => match second {
-            Answer::Value(w) => {
+        Ok(v) => match second {
+            Ok(w) => {
                 if values_alike(call, j, v, w) {
                     return Verdict::Values;
                 }
                 Verdict::Differ
             }
-            Answer::Refused(_) => Verdict::Differ,
+            Err(_) => Verdict::Differ,
         },
-        Answer::Refused(n) => match second {
-            Answer::Value(_) => Verdict::Differ,
-            Answer::Refused(m) => {
+        Err(n) => match second {
+            Ok(_) => Verdict::Differ,
+            Err(m) => {
                 if n == m {
                     return Verdict::Refusals;
                 }

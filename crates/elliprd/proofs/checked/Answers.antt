@@ -2,7 +2,7 @@
 -- in its order. Assumes nothing.
 use mathlib.Core.Path.{sym, ap, ◌∙◌}
 use mathlib.Core.Bool.{false}
-use Rattle.carlson.specs.declared.answer.Answer.{Answer}
+use Rattle.carlson.specs.Answer.{Answer}
 use Rattle.elliprd.specs.Rd.{rd_settled, rd}
 use Rattle.elliprd.proofs.Within.{within}
 use Rattle.elliprd.proofs.checked.Goals as goal

@@ -1,9 +1,9 @@
 -- `elliprd` meets its contract: moderate arguments that are apart are duplicated, and no check comes before; all others are
 -- checked. Assumes nothing.
+use Rattle.std.proofs.Common.{Ok}
 use mathlib.Core.Path.{◌≡◌, refl, sym, ap, ap₂, ◌∙◌}
 use mathlib.Core.Bool.{◌&&◌}
 use Rattle.carlson.proofs.AnswerLaws.{handed_itself}
-use Rattle.carlson.specs.declared.answer.Answer.TheVariants.{Value}
 use Rattle.elliprd.proofs.Within.{Apart, apart_told, stands}
 use Rattle.elliprd.proofs.elliprd.Goals as goal
 use Rattle.elliprd.proofs.elliprd.Goals.{Then-both}
@@ -23,5 +23,5 @@ apart c =
 
 pub returns-then-is_finite : goal.returns-then-is_finite
 returns-then-is_finite c =
-    ap Value (c.handed.ensures ∙ handed_itself _)
+    ap Ok (c.handed.ensures ∙ handed_itself _)
     ∙ stands _ _ _ _ (apart (goal.at.returns-then-is_finite c).Then-both) c.duplicated-found.ensures (sym c.is_finite.ensures ∙ c.if-is_finite.true)

@@ -5,7 +5,7 @@ use mathlib.Core.List.{List}
 use native.Mathlib.Omega.{arith}
 use borrow.Author.Rules.{rules}
 use lib.ListN.{length}
-use Rattle.carlson.specs.declared.answer.Answer.{Answer}
+use Rattle.carlson.specs.Answer.{Answer}
 use Rattle.calls.specs.Calls.{name_of, longest_name}
 use Rattle.calls.specs.CallLaws.{name_length}
 use Rattle.calls.specs.declared.Call.{Call}

@@ -1,8 +1,8 @@
 -- `against` meets its contract, case by case. Assumes nothing.
+use Rattle.std.proofs.Common.{Ok}
 use mathlib.Core.Path.{sym, subst}
 use borrow.Author.Rules.{rules}
 use Rattle.carlson.specs.declared.answer.Found.{Found}
-use Rattle.carlson.specs.declared.answer.Answer.TheVariants.{Value}
 use Rattle.between.specs.Between.{Between}
 use Rattle.swing.specs.Ratios.{power}
 use Rattle.swing.specs.Bounded.{Bounded, value_in}
@@ -10,18 +10,18 @@ use Rattle.drag.specs.Verdict.{judged_of}
 use Rattle.drag.specs.Measured.{period_measured}
 use Rattle.drag.proofs.knee.against.Goals as goal
 
-bounded : (f : Found) → Bounded (Value f) → Between (power 1012) (power 1042) f.value
+bounded : (f : Found) → Bounded (Ok f) → Between (power 1012) (power 1042) f.value
 bounded f (value_in v) = v
 
 pub weigh-requires : goal.weigh-requires
 unfolding judged_of
 weigh-requires c =
-    period_measured _ (bounded _ (subst Bounded c.in-Value.is c.requires))
+    period_measured _ (bounded _ (subst Bounded c.in-Ok.is c.requires))
 
-pub returns-in-Value : goal.returns-in-Value
+pub returns-in-Ok : goal.returns-in-Ok
 unfolding judged_of
-returns-in-Value c =
-    rw (c.in-Value.is, sym c.weigh.ensures)
+returns-in-Ok c =
+    rw (c.in-Ok.is, sym c.weigh.ensures)
 
 pub returns-in-Refused : goal.returns-in-Refused
 unfolding judged_of
