@@ -29,6 +29,6 @@ pub fn told(
             *rescalings = found.way.rescalings;
             0
         }
-        Err(n) => n,
+        Err(refusal) => refusal.number(),
     }
 }

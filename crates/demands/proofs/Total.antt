@@ -3,7 +3,7 @@
 use Rattle.std.specs.Prelude.{ℕ, zero, suc, ◌≡◌, refl, Bool, false, ◌&&◌, ◌||◌, List, [], ◌∷◌, Float}
 use Rattle.std.proofs.Common.{arith, Ok, Err}
 use Rattle.std.specs.Float.Ieee.{lt, le, eq}
-use Rattle.refusals.specs.Numbers.{refusal_number}
+use Rattle.refusals.specs.Numbers.{refusal_numbers}
 use Rattle.refusals.specs.declared.Refusal.TheVariants.{AgmSpent, NoResult, RcNoResult, RgNoResult, TooDeep}
 use Rattle.binary64.specs.Leaves.{minimum, maximum}
 use Rattle.binary64.specs.Operators.{◌⊗◌, bits}
@@ -59,7 +59,7 @@ rf_only x y z =
 
 -- ---- RD and RG: their steps can give 9 beside a value
 abbrev spent_only : List ℕ
-spent_only = refusal_number AgmSpent ∷ []
+spent_only = refusal_numbers (AgmSpent ∷ [])
 
 abbrev Steps : Answer → Type 0
 Steps a = Only Any spent_only a
@@ -143,7 +143,7 @@ rg_only x y z =
 
 -- ---- RJ: 9 from RD, 10 with no call left
 abbrev Run : Answer → Type 0
-Run a = Only Any (refusal_number AgmSpent ∷ refusal_number TooDeep ∷ []) a
+Run a = Only Any (refusal_numbers (AgmSpent ∷ TooDeep ∷ [])) a
 
 rj_positive_lem : (x y z p : Float) → Steps (rj_positive x y z p)
 unfolding rj_positive rj_all rj_three
@@ -180,7 +180,7 @@ reduced r (Err n) (refused h) = refused h
 run : (left : ℕ) (p : Plan) → Planned p → Run (rj_run left p)
 unfolding rj_run
 run zero p h = refused tt
-run (suc left) (Done a) h = longer spent_only (refusal_number AgmSpent ∷ refusal_number TooDeep ∷ []) tt h
+run (suc left) (Done a) h = longer spent_only (refusal_numbers (AgmSpent ∷ TooDeep ∷ [])) tt h
 run (suc left) (Rescale c) h = over_scale_lem _ c.scale (run left (plan_of c.x c.y c.z c.p)
     (planned c.x c.y c.z c.p))
 run (suc left) (Reduce r) h = reduced r _ (run left (plan_of r.x r.y r.z r.p) (planned r.x r.y r.z r.p))

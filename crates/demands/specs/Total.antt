@@ -3,7 +3,7 @@
 use Rattle.std.specs.Prelude.{ℕ, zero, suc, ◌≡◌, refl, Bool, false, ◌&&◌, ◌||◌, List, [], ◌∷◌, Float}
 use Rattle.std.proofs.Common.{arith}
 use Rattle.std.specs.Float.Ieee.{lt, le, eq}
-use Rattle.refusals.specs.Numbers.{refusal_number}
+use Rattle.refusals.specs.Numbers.{refusal_number, refusal_numbers}
 use Rattle.refusals.specs.declared.Refusal.TheVariants.{
   AOrBInfinite,
   AgmSpent,
@@ -55,22 +55,22 @@ use Rattle.answers.specs.Answers.{number, answer_of}
 
 -- ---- the numbers that each entry can give, as the header and docs/REFUSALS.md list them
 abbrev pub rc_numbers : List ℕ
-rc_numbers = refusal_number NanGiven ∷ refusal_number BelowZero ∷ refusal_number ZeroGiven ∷ refusal_number RcNoResult ∷ []
+rc_numbers = refusal_numbers (NanGiven ∷ BelowZero ∷ ZeroGiven ∷ RcNoResult ∷ [])
 
 abbrev pub rf_numbers : List ℕ
-rf_numbers = refusal_number NanGiven ∷ refusal_number BelowZero ∷ refusal_number Zeros ∷ refusal_number NoResult ∷ []
+rf_numbers = refusal_numbers (NanGiven ∷ BelowZero ∷ Zeros ∷ NoResult ∷ [])
 
 abbrev pub rd_numbers : List ℕ
-rd_numbers = refusal_number NanGiven ∷ refusal_number BelowZero ∷ refusal_number Zeros ∷ refusal_number ZNotAbove ∷ refusal_number NoResult ∷ refusal_number AgmSpent ∷ []
+rd_numbers = refusal_numbers (NanGiven ∷ BelowZero ∷ Zeros ∷ ZNotAbove ∷ NoResult ∷ AgmSpent ∷ [])
 
 abbrev pub rg_numbers : List ℕ
-rg_numbers = refusal_number NanGiven ∷ refusal_number BelowZero ∷ refusal_number RgNoResult ∷ refusal_number AgmSpent ∷ []
+rg_numbers = refusal_numbers (NanGiven ∷ BelowZero ∷ RgNoResult ∷ AgmSpent ∷ [])
 
 abbrev pub rj_numbers : List ℕ
-rj_numbers = refusal_number NanGiven ∷ refusal_number BelowZero ∷ refusal_number Zeros ∷ refusal_number ZeroGiven ∷ refusal_number NoResult ∷ refusal_number AgmSpent ∷ refusal_number TooDeep ∷ []
+rj_numbers = refusal_numbers (NanGiven ∷ BelowZero ∷ Zeros ∷ ZeroGiven ∷ NoResult ∷ AgmSpent ∷ TooDeep ∷ [])
 
 abbrev pub cel_numbers : List ℕ
-cel_numbers = refusal_number NanGiven ∷ refusal_number ZeroGiven ∷ refusal_number NoResult ∷ refusal_number SeveralInfinite ∷ refusal_number AOrBInfinite ∷ []
+cel_numbers = refusal_numbers (NanGiven ∷ ZeroGiven ∷ NoResult ∷ SeveralInfinite ∷ AOrBInfinite ∷ [])
 
 -- each of the two entries may say 21 too
 abbrev pub rj_signed_numbers : List ℕ

@@ -83,10 +83,8 @@ fn steps(x: f64, y: f64, z: f64) -> Answer
 pub fn over_scale(a: Answer, scale: f64) -> Answer
     ensures { result ≡ over_scale a scale }
 {
-    match a {
-        Ok(found) => Ok(rescaled(found, found.value / scale / sqrt(scale))),
-        Err(n) => Err(n),
-    }
+    let found = a?;
+    Ok(rescaled(found, found.value / scale / sqrt(scale)))
 }
 
 // The inner part: any three f64s, any f64 back with its way, or no. 9.
@@ -104,10 +102,8 @@ pub fn elliprd_unchecked(x: f64, y: f64, z: f64) -> Answer
 fn settled(a: Answer, nan: bool, unbounded: bool) -> Answer
     ensures { result ≡ rd_settled a nan unbounded }
 {
-    match a {
-        Ok(found) => settle_late(handed(found, found.value), nan, unbounded, Refusal::NoResult),
-        Err(n) => Err(n),
-    }
+    let found = a?;
+    settle_late(handed(found, found.value), nan, unbounded, Refusal::NoResult)
 }
 
 // At any three f64s.

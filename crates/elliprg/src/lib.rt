@@ -108,10 +108,8 @@ fn steps(x: f64, y: f64, z: f64) -> Answer
 fn times_root(a: Answer, scale: f64) -> Answer
     ensures { result ≡ times_root a scale }
 {
-    match a {
-        Ok(found) => Ok(rescaled(found, found.value * sqrt(scale))),
-        Err(n) => Err(n),
-    }
+    let found = a?;
+    Ok(rescaled(found, found.value * sqrt(scale)))
 }
 
 // The inner part: any three f64s, any f64 back with its way, or no. 9.
@@ -129,10 +127,8 @@ pub fn elliprg_unchecked(x: f64, y: f64, z: f64) -> Answer
 fn settled(a: Answer, nan: bool) -> Answer
     ensures { result ≡ rg_settled a nan }
 {
-    match a {
-        Ok(found) => settle_late(handed(found, found.value), nan, false, Refusal::RgNoResult),
-        Err(n) => Err(n),
-    }
+    let found = a?;
+    settle_late(handed(found, found.value), nan, false, Refusal::RgNoResult)
 }
 
 pub fn elliprg(x: f64, y: f64, z: f64) -> Answer

@@ -16,10 +16,8 @@ use refusals::Refusal;
 fn settled(a: Answer) -> Answer
     ensures { result ≡ rj_settled a }
 {
-    match a {
-        Ok(found) => settle(handed(found, found.value), Refusal::NoResult),
-        Err(n) => Err(n),
-    }
+    let found = a?;
+    settle(handed(found, found.value), Refusal::NoResult)
 }
 
 // From no. 2 on.

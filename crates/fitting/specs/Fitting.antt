@@ -1,6 +1,6 @@
 -- Every value that an entry hands out is one that an f64 holds: the last operation of every road to it rounds. So it has bits
 -- of its own. Assumes nothing.
-use Rattle.std.specs.Prelude.{ℕ, zero, suc, ◌*◌, Bool, false, ◌&&◌, ◌||◌, T, Float, Ok, Err}
+use Rattle.std.specs.Prelude.{ℕ, zero, suc, ◌*◌, Bool, false, ◌&&◌, ◌||◌, T, Float, Ok, Err, Option, Some, None}
 use Rattle.std.proofs.Common.{arith}
 use Rattle.std.specs.Float.{nan, inf, fin}
 use Rattle.std.specs.Float.Ieee.{binary64, up, down, fits, lt, le, eq, neg}
@@ -53,8 +53,6 @@ use Rattle.elliprg.specs.Rg.{rg_equal, rg_zero, rg_two, rg_alone, rg_top, rg_low
 use Rattle.elliprg.specs.Rg.{times_root, rg_unchecked, rg_settled, rg}
 use Rattle.rj_positive.specs.Duplicate.{rj_begin, rj_start, rj_step, rj_close, rj_found, rj_spent, rj_series, rj_cap, rj_duplication}
 use Rattle.rj_positive.specs.Positive.{well_apart, rj_all, rj_three, rj_two, rj_last, rj_pair, rj_cases, rj_positive}
-use Rattle.rj_near_zero.specs.declared.nearzero.Near.{Near}
-use Rattle.rj_near_zero.specs.declared.nearzero.Near.TheVariants.{Taylor, Far}
 use Rattle.rj_negative.specs.declared.reduction.Reduced.{Reduced}
 use Rattle.rj_near_zero.specs.NearZero.{deltas_of, largest_of, distant, taylor_of, near_zero}
 use Rattle.rj_negative.specs.Reduction.{reduced_value, reduced_found, reduced_answer}
@@ -322,9 +320,9 @@ unfolding plan_scaled plan_unscaled
 scaled x y z p =
     chosen Planned (rescales4 x y z p (scale_of4 x y z p)) tt (chosen Planned (le p +0) tt (rj_positive_lem x y z p))
 
-abbrev FitNear : Near → Type 0
-FitNear (Taylor v) = Fit v
-FitNear Far = Unit {0}
+abbrev FitNear : Option Float → Type 0
+FitNear (Some v) = Fit v
+FitNear None = Unit {0}
 
 near_fits : (x y z q : Float) → FitNear (near_zero x y z q)
 unfolding near_zero taylor_of
@@ -334,10 +332,10 @@ near_fits x y z q =
     chosen FitNear (distant x y z q radius) tt
     (chosen FitNear (le (largest_of d.x d.y d.z) (radius ⊘ four)) (div-fits binary64 _ _) tt)
 
-near : (n : Near) (x y z p : Float) → FitNear n → Planned (plan_near n x y z p)
+near : (n : Option Float) (x y z p : Float) → FitNear n → Planned (plan_near n x y z p)
 unfolding plan_near taylor_at
-near (Taylor v) x y z p h = h
-near Far x y z p h = scaled x y z p
+near (Some v) x y z p h = h
+near None x y z p h = scaled x y z p
 
 planned : (x y z p : Float) → Planned (plan_of x y z p)
 unfolding plan_of

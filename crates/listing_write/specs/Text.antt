@@ -3,6 +3,7 @@
 use Rattle.std.specs.Prelude.{ℕ, ◌+◌, Bool, true, false, List, [], ◌∷◌, ◌++◌, Ok, Err}
 use Rattle.std.specs.Float.{binary64}
 use Rattle.std.specs.Float.Ieee.{to_bits}
+use Rattle.refusals.specs.Numbers.{refusal_number}
 use Rattle.carlson.specs.declared.answer.Found.{Found}
 use Rattle.carlson.specs.Answer.{Answer}
 use Rattle.carlson.specs.declared.answer.Road.{Road}
@@ -51,7 +52,7 @@ refusal_text n = (32 ∷ 114 ∷ 101 ∷ 102 ∷ 117 ∷ 115 ∷ 101 ∷ 100 ∷
 
 unfoldable pub after_name : Answer → List ℕ
 after_name (Ok f) = value_text f
-after_name (Err n) = refusal_text n
+after_name (Err r) = refusal_text (refusal_number r)
 
 unfoldable pub text_of : Call → Answer → List ℕ
 text_of c a = name_of c ++ after_name a

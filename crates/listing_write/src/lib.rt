@@ -127,7 +127,7 @@ fn write_answer(call: Call, answer: Answer, out: &mut [u8], at: usize) -> usize
     let end = put_name(call, out, at);
     match answer {
         Ok(found) => put_value(found, out, end),
-        Err(number) => put_refusal(number, out, end),
+        Err(refusal) => put_refusal(refusal.number(), out, end),
     }
 }
 

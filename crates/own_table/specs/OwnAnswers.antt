@@ -29,6 +29,7 @@ use Rattle.std.specs.Float.Ieee.{neg, of_bits, to_bits}
 use Rattle.std.specs.Float.Ieee.Bits.{of_bits-to_bits, to_bits-lt}
 use Rattle.std.specs.Float.Ieee.Fits.{and_l, and_r}
 use Rattle.std.specs.Float.Ieee.Scale.{finite}
+use Rattle.refusals.specs.Numbers.{refusal_number}
 use Rattle.algebra.specs.Order.{lt_or_le}
 use Rattle.rounding.specs.Cut.{infinity}
 use Rattle.rounding.proofs.Value.{infinity_is}
@@ -97,11 +98,11 @@ numbers_short (Cel kc p a b) = tt
 -- ---- THE LAW, over a call: what the listing has to say of an answer
 abbrev pub Sayable : Answer → Type 0
 Sayable (Ok f) = (to_bits binary64 f.value < 2 ^ 64) × (finite_pattern (to_bits binary64 f.value) ≡ true)
-Sayable (Err n) = n < 10 ^ 10
+Sayable (Err r) = refusal_number r < 10 ^ 10
 
 sayable : (a : Answer) (ns : List ℕ) → T (short ns) → Only Finite ns a → Fits a → Sayable a
 sayable (Ok f) ns s (value h) k = (to_bits-lt binary64 f.value k, finite_pattern_lem f.value k h)
-sayable (Err n) ns s (refused h) k = short_among n ns s h
+sayable (Err r) ns s (refused h) k = short_among (refusal_number r) ns s h
 
 pub answer_sayable : (c : Call) → Sayable (answer_of c)
 answer_sayable c = sayable (answer_of c) (numbers_of c) (numbers_short c) (total c) (fitting c)

@@ -29,6 +29,7 @@ use Rattle.std.proofs.Common.{ap, ◌∙◌, append_assoc, arith, le-ltb, ne_eqb
 use Rattle.std.specs.Float.{binary64}
 use Rattle.std.specs.Float.Ieee.{to_bits}
 use Rattle.std.specs.Float.Ieee.Fits.{and_l, and_r}
+use Rattle.refusals.specs.Numbers.{refusal_number}
 use Rattle.carlson.specs.declared.answer.Found.{Found}
 use Rattle.carlson.specs.Answer.{Answer}
 use Rattle.digits.specs.Digits.{glyph_of, digits, word_text}
@@ -123,7 +124,7 @@ way_line f = count_text f.way.rounds 32 ++ (road_text f.road ++ decimal 9 f.way.
 
 unfoldable pub said_line : Answer → List ℕ
 said_line (Ok f) = digits 16 16 (to_bits binary64 f.value) ++ (32 ∷ way_line f)
-said_line (Err n) = refused_word ++ (32 ∷ decimal 9 n)
+said_line (Err r) = refused_word ++ (32 ∷ decimal 9 (refusal_number r))
 
 unfoldable pub own_line : Call → Answer → List ℕ
 own_line c a = name_of c ++ (32 ∷ said_line a)
@@ -132,7 +133,7 @@ own_line c a = name_of c ++ (32 ∷ said_line a)
 pub own_text : (c : Call) (a : Answer) → text_of c a ≡ own_line c a ++ 10 ∷ []
 unfolding text_of after_name value_text refusal_text way_text word_text count_text own_line said_line way_line
 own_text c (Ok f) = simp append_assoc
-own_text c (Err n) = simp append_assoc
+own_text c (Err r) = simp append_assoc
 
 -- THE LAW
 no_value : value_of refused_word ≡ Not
@@ -144,7 +145,8 @@ unfolding said said_line own_claim value_claim refusal_said count_claim
 said_own (Ok f) h =
     let w = to_bits binary64 f.value in
     rw (field_is (digits 16 16 w) (way_line f) (digits_over 16 16 w), word_back w h.0)
-said_own (Err n) h =
+said_own (Err r) h =
+    let n = refusal_number r in
     let plain : Over 32 refused_word = over_literal 32 refused_word tt in
     let d = decimal 9 n in
     let f : field_of (refused_word ++ 32 ∷ d) ≡ refused_word = field_is refused_word d plain in

@@ -5,6 +5,7 @@ use Rattle.std.proofs.Math.Path.{refl}
 use Rattle.std.proofs.Common.{sym, ap, ◌∙◌, append_assoc, append-nil, arith, eq-eqb, ne_eqb}
 use Rattle.std.specs.Float.{binary64}
 use Rattle.std.specs.Float.Ieee.{to_bits}
+use Rattle.refusals.specs.Numbers.{refusal_number}
 use Rattle.carlson.specs.Answer.{Answer}
 use Rattle.carlson.specs.declared.answer.Road.{Road}
 use Rattle.carlson.specs.declared.answer.Road.TheVariants.{Closed, Infinite, Agm, Duplication, Joint, Taylor, Reduction, Loop}
@@ -125,7 +126,8 @@ said_over (Ok f) =
           (over_append 10 (road_text f.road) (decimal 9 f.way.rescalings) (road_over f.road)
           (over_less 10 32 (decimal 9 f.way.rescalings) (omega arith) (decimal_over 9 f.way.rescalings))),
     )
-said_over (Err n) =
+said_over (Err r) =
+    let n = refusal_number r in
     over_append 10 refused_word (32 ∷ decimal 9 n) (over_literal 10 refused_word tt)
     (omega arith, over_less 10 32 (decimal 9 n) (omega arith) (decimal_over 9 n))
 

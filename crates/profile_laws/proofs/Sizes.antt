@@ -7,6 +7,7 @@ use Rattle.std.proofs.Math.Dec.{not_T}
 use Rattle.std.specs.Float.{nan, inf, binary64}
 use Rattle.std.specs.Float.Ieee.{lt, le, eq, of_bits}
 use Rattle.std.specs.Float.Ieee.Bits.{of_bits-fits}
+use Rattle.refusals.specs.declared.Refusal.{Refusal}
 use Rattle.refusals.specs.Numbers.{refusal_number}
 use Rattle.refusals.specs.declared.Refusal.TheVariants.{BelowZero, NanGiven, OutsideProfile, ZNotAbove, ZeroGiven, Zeros}
 use Rattle.binary64.specs.Leaves.{absolute, minimum}
@@ -87,12 +88,12 @@ passes_no (Cel kc p a b) h = absurd (h tt)
 
 module _ {ns ms : List ℕ} where
   -- through one check, and through that for sizes; the definition makes them past "-0 becomes +0"
-  check : {b b' e s : Bool} {a : Answer} → b ≡ b' → (n : ℕ) → T (among n ns) → Told ns ms e s a
-      → Told ns ms (b' || e) s (cond b (Err n) a)
-  check {b} {b'} {e} {s} {a} same n h t =
-      subst (λ (c : Bool). Told ns ms (b' || e) s (cond c (Err n) a)) (sym same) (go b')
+  check : {b b' e s : Bool} {a : Answer} → b ≡ b' → (r : Refusal) → T (among (refusal_number r) ns) → Told ns ms e s a
+      → Told ns ms (b' || e) s (cond b (Err r) a)
+  check {b} {b'} {e} {s} {a} same r h t =
+      subst (λ (c : Bool). Told ns ms (b' || e) s (cond c (Err r) a)) (sym same) (go b')
     where
-      go : (b : Bool) → Told ns ms (b || e) s (cond b (Err n) a)
+      go : (b : Bool) → Told ns ms (b || e) s (cond b (Err r) a)
       go true = by_arguments (refused h)
       go false = t
 
@@ -150,8 +151,8 @@ outside_refused c h p = go (told c) h (passes_no c p)
 record Sound (ns ms : List ℕ) : Type 0 where
   arguments : T (part ns (refusal_number OutsideProfile ∷ ms))
   base : T (part ms (refusal_number OutsideProfile ∷ ms))
-  not_argument : among OutsideProfile ns ≡ false
-  not_base : among OutsideProfile ms ≡ false
+  not_argument : among (refusal_number OutsideProfile) ns ≡ false
+  not_base : among (refusal_number OutsideProfile) ms ≡ false
 
 sound : (c : Call) → Sound (argument_numbers c) (base_numbers c)
 sound (Rc x y) = record { arguments = tt; base = tt; not_argument = refl; not_base = refl }
@@ -165,10 +166,10 @@ sound (Cel kc p a b) = record { arguments = tt; base = tt; not_argument = refl; 
 pub outside_alone : (c : Call) → profile_of c ≡ Err OutsideProfile → T (not (any_of (checks_of c))) × (Passes c → ⊥)
 outside_alone c e = let r = go (told c) (sound c) e in (r.0, λ p. T_not (passes c) r.1 (passes_yes c p))
   where
-    never : {ns : List ℕ} {a : Answer} → Only Finite ns a → among OutsideProfile ns ≡ false → a ≡ Err OutsideProfile → ⊥
+    never : {ns : List ℕ} {a : Answer} → Only Finite ns a → among (refusal_number OutsideProfile) ns ≡ false → a ≡ Err OutsideProfile → ⊥
     never {ns} o h e = named (subst (Only Finite ns) e o) h
       where
-        named : {n : ℕ} → Only Finite ns (Err n) → among n ns ≡ false → ⊥
+        named : {r : Refusal} → Only Finite ns (Err r) → among (refusal_number r) ns ≡ false → ⊥
         named (refused t) h = subst T h t
 
     go : {ns ms : List ℕ} {e s : Bool} {a : Answer} → Told ns ms e s a → Sound ns ms → a ≡ Err OutsideProfile

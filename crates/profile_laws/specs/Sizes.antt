@@ -7,7 +7,7 @@ use Rattle.std.proofs.Math.Dec.{not_T}
 use Rattle.std.specs.Float.{nan, inf, binary64}
 use Rattle.std.specs.Float.Ieee.{lt, le, eq, of_bits}
 use Rattle.std.specs.Float.Ieee.Bits.{of_bits-fits}
-use Rattle.refusals.specs.Numbers.{refusal_number}
+use Rattle.refusals.specs.Numbers.{refusal_number, refusal_numbers}
 use Rattle.refusals.specs.declared.Refusal.TheVariants.{BelowZero, NanGiven, OutsideProfile, ZNotAbove, ZeroGiven, Zeros}
 use Rattle.binary64.specs.Leaves.{absolute, minimum}
 use Rattle.binary64.specs.Operators.{bits}
@@ -52,11 +52,11 @@ use Rattle.profile_laws.specs.Checks.{
 -- ---- the numbers of each entry
 -- "the base ones first where they rest on arguments alone"
 abbrev pub argument_numbers : Call → List ℕ
-argument_numbers (Rc x y) = refusal_number BelowZero ∷ refusal_number ZeroGiven ∷ refusal_number NanGiven ∷ []
-argument_numbers (Rf x y z) = refusal_number NanGiven ∷ refusal_number BelowZero ∷ refusal_number Zeros ∷ []
-argument_numbers (Rd x y z) = refusal_number BelowZero ∷ refusal_number Zeros ∷ refusal_number ZNotAbove ∷ refusal_number NanGiven ∷ []
-argument_numbers (Rg x y z) = refusal_number BelowZero ∷ refusal_number NanGiven ∷ []
-argument_numbers (Rj x y z p) = refusal_number NanGiven ∷ refusal_number ZeroGiven ∷ refusal_number BelowZero ∷ refusal_number Zeros ∷ []
+argument_numbers (Rc x y) = refusal_numbers (BelowZero ∷ ZeroGiven ∷ NanGiven ∷ [])
+argument_numbers (Rf x y z) = refusal_numbers (NanGiven ∷ BelowZero ∷ Zeros ∷ [])
+argument_numbers (Rd x y z) = refusal_numbers (BelowZero ∷ Zeros ∷ ZNotAbove ∷ NanGiven ∷ [])
+argument_numbers (Rg x y z) = refusal_numbers (BelowZero ∷ NanGiven ∷ [])
+argument_numbers (Rj x y z p) = refusal_numbers (NanGiven ∷ ZeroGiven ∷ BelowZero ∷ Zeros ∷ [])
 -- cel is no call of the profile: the base entry alone answers
 argument_numbers (Cel kc p a b) = []
 

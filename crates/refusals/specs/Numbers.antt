@@ -1,5 +1,5 @@
 -- The numbers for no (document 01, "Numbers for no"; from 11 on document 02; the last three are ours). Definitions only.
-use Rattle.std.specs.Prelude.{ℕ, Result, Ok, Err}
+use Rattle.std.specs.Prelude.{ℕ, List, [], ◌∷◌, Result, Ok, Err}
 use Rattle.refusals.specs.declared.Refusal.{Refusal}
 use Rattle.refusals.specs.declared.Refusal.TheVariants.{
   NanGiven,
@@ -83,6 +83,11 @@ refusal_number Amplitude = 24
 refusal_number TooLarge = 25
 -- a text is no decimal number
 refusal_number NoNumber = 26
+
+-- of several
+abbrev pub refusal_numbers : List Refusal → List ℕ
+refusal_numbers [] = []
+refusal_numbers (r ∷ rs) = refusal_number r ∷ refusal_numbers rs
 
 -- what a function for C returns: 0 where it was done
 abbrev pub code_of : Result (Unit {0}) Refusal → ℕ

@@ -2,6 +2,7 @@
 -- statement: antt computes each from the definitions. Assumes nothing.
 use Rattle.std.specs.Prelude.{◌≡◌, refl, List, [], ◌∷◌, Float, Ok, Err}
 use Rattle.std.specs.Float.Ieee.{of_bits, add, sub, mul, div, neg, lt, le, eq, is_nan}
+use Rattle.refusals.specs.declared.Refusal.TheVariants.{NanGiven, BelowZero, Zeros, ZeroGiven, RgNoResult}
 use Rattle.rounding.specs.Cut.{value, rounded}
 use Rattle.binary64.specs.Leaves.{absolute, maximum, minimum}
 use Rattle.binary64.specs.Operators.{bits}
@@ -67,17 +68,17 @@ abbrev pub table : List Row
 table =
     RF four four four (is Closed half)
     ∷ RF four zero four (is Closed (bits 0x3FE9_21FB_5444_2D18))
-    ∷ RF infinity zero zero (Err 3)
+    ∷ RF infinity zero zero (Err Zeros)
     ∷ RF infinity zero one (is Infinite zero)
-    ∷ RF not_a_number minus_one one (Err 1)
+    ∷ RF not_a_number minus_one one (Err NanGiven)
     ∷ RC zero minus_four (is Closed zero)
-    ∷ RC not_a_number zero (Err 4)
-    ∷ RC minus_one zero (Err 2)
+    ∷ RC not_a_number zero (Err ZeroGiven)
+    ∷ RC minus_one zero (Err BelowZero)
     ∷ RD four four four (is Closed eighth)
-    ∷ RD not_a_number minus_one one (Err 2)
-    ∷ RD zero zero minus_one (Err 3)
+    ∷ RD not_a_number minus_one one (Err BelowZero)
+    ∷ RD zero zero minus_one (Err Zeros)
     ∷ RG zero zero four (is Closed one)
-    ∷ RG infinity zero zero (Err 8)
+    ∷ RG infinity zero zero (Err RgNoResult)
     ∷ RJ four four four four (is Closed eighth)
     ∷ RJ three two two minus_one (is Taylor zero)
     ∷ RJ one one one minus_infinity (is Infinite zero)

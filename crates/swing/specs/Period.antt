@@ -2,7 +2,8 @@
 use Rattle.std.specs.Prelude.{ℕ, ◌-◌, ◌*◌, Bool, ◌&&◌, cond, List, [], ◌∷◌, leb, pos, Float, Ok, Err}
 use Rattle.std.specs.Float.{binary64}
 use Rattle.std.specs.Float.Ieee.{of_int}
-use Rattle.refusals.specs.Numbers.{refusal_number}
+use Rattle.refusals.specs.declared.Refusal.{Refusal}
+use Rattle.refusals.specs.Numbers.{refusal_numbers}
 use Rattle.refusals.specs.declared.Refusal.TheVariants.{Height, OutOfRange}
 use Rattle.binary64.specs.Operators.{◌⊗◌, ◌⊘◌}
 use Rattle.root.specs.Root.{root}
@@ -29,14 +30,14 @@ four_roots length gravity = four ⊗ root (ratio length gravity)
 -- "times" what RF answers, with RF's road and way
 unfoldable pub times : Float → Answer → Answer
 times factor (Ok f) = Ok (handed_at f (factor ⊗ f.value))
-times factor (Err n) = Err n
+times factor (Err r) = Err r
 
 -- "four times the root of L/g times RF(0, (2L-h)/(2L), 1)"
 unfoldable pub swung : ℕ → ℕ → ℕ → Answer
 swung length height gravity = times (four_roots length gravity) (rf zero (ratio (2 * length - height) (2 * length)) one)
 
-abbrev pub or_refused : Bool → ℕ → Answer → Answer
-or_refused fits number answer = cond fits answer (Err number)
+abbrev pub or_refused : Bool → Refusal → Answer → Answer
+or_refused fits refusal answer = cond fits answer (Err refusal)
 
 -- "11 length or gravity out of range"
 abbrev pub length_and_gravity : ℕ → ℕ → Answer → Answer
@@ -53,4 +54,4 @@ period_of length height gravity = length_and_gravity length gravity (height_for 
 
 -- beside a finite value the only answers are these. RF's own numbers are not among them.
 abbrev pub swing_numbers : List ℕ
-swing_numbers = refusal_number OutOfRange ∷ refusal_number Height ∷ []
+swing_numbers = refusal_numbers (OutOfRange ∷ Height ∷ [])

@@ -43,10 +43,8 @@ fn four_roots(length: u64, gravity: u64) -> f64
 fn multiplied(factor: f64, answer: Answer) -> Answer
     ensures { result ≡ times factor answer }
 {
-    match answer {
-        Ok(found) => Ok(handed(found, factor * found.value)),
-        Err(number) => Err(number),
-    }
+    let found = answer?;
+    Ok(handed(found, factor * found.value))
 }
 
 fn swing_time(length: u64, height: u64, gravity: u64) -> Answer

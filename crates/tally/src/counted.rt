@@ -27,8 +27,8 @@ pub fn counted_of(answer: Answer) -> Counted
                 bits: split(found.value),
             }
         }
-        Err(number) => Counted {
-            refused: number as u64,
+        Err(refusal) => Counted {
+            refused: refusal.number() as u64,
             rounds: 0,
             bits: INFINITY,
         },

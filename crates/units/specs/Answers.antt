@@ -4,6 +4,7 @@ use Rattle.std.specs.Prelude.{◌≡◌, refl, ℕ, ◌+◌, ◌-◌, ◌*◌, �
 use Rattle.std.proofs.Common.{sym, ap, ◌∙◌, subst, subst₂, inl, inr, arith, pow-add}
 use Rattle.std.specs.Float.{nan, inf, fin, binary64}
 use Rattle.std.specs.Float.Ieee.Scale.{finite}
+use Rattle.refusals.specs.declared.Refusal.{Refusal}
 use Rattle.algebra.specs.Ring.{◌:*◌, ◌≈◌, ◌⊩◌, ◌times◌≼◌}
 use Rattle.algebra.proofs.Ring.{ring}
 use Rattle.algebra.specs.Order.{lt_or_le}
@@ -21,6 +22,6 @@ use Rattle.units.specs.Runs.{Same, both, lost}
 
 -- ---- what an entry settles
 pub data Pair (k : ℕ) (K : Kind) : Answer → Answer → Type 0 where
-  no : {n : ℕ} → Pair k K (Err n) (Err n)
+  no : {r : Refusal} → Pair k K (Err r) (Err r)
   yes : {v w : Float} {r : Road} {c : Way} → Two binary64 k K v w → Pair k K (Ok (record { value = v; road = r; way = c }))
       (Ok (record { value = w; road = r; way = c }))

@@ -6,6 +6,7 @@ use Rattle.std.specs.Float.{binary64}
 use Rattle.std.specs.Float.Ieee.{fits, eq, le}
 use Rattle.std.specs.Float.Ieee.Scale.{finite}
 use Rattle.std.specs.Float.Ieee.Positive.{num, den}
+use Rattle.refusals.specs.declared.Refusal.{Refusal}
 use Rattle.binary64.specs.Leaves.{absolute}
 use Rattle.binary64.specs.Operators.{bits}
 use Rattle.scaling.specs.One.{sign}
@@ -41,6 +42,6 @@ TimesFour u d x y = Times (2 * u) (2 * d) x y
 -- Two answers are alike: both refused with one number, or both values found on one road, with one round count and as many
 -- rescalings (document 02, 2026-04), the second value being the first times 2 ^ u / 2 ^ d.
 pub data Alike (u d : ℕ) : Answer → Answer → Type 0 where
-  refused : {n : ℕ} → Alike u d (Err n) (Err n)
+  refused : {r : Refusal} → Alike u d (Err r) (Err r)
   values : {v w : Float} {r : Road} {c : Way} → Times u d v w → Alike u d (Ok (record { value = v; road = r; way = c }))
       (Ok (record { value = w; road = r; way = c }))

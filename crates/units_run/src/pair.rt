@@ -195,10 +195,10 @@ fn compare(call: Call, j: u64, first: Answer, second: Answer) -> Verdict
             }
             Err(_) => Verdict::Differ,
         },
-        Err(n) => match second {
+        Err(first) => match second {
             Ok(_) => Verdict::Differ,
-            Err(m) => {
-                if n == m {
+            Err(second) => {
+                if first == second {
                     return Verdict::Refusals;
                 }
                 Verdict::Differ

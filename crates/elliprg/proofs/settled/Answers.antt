@@ -5,12 +5,12 @@ use Rattle.carlson.proofs.AnswerLaws.{handed_itself}
 use Rattle.elliprg.specs.Rg.{rg_settled}
 use Rattle.elliprg.proofs.settled.Goals as goal
 
-pub returns-in-Value : goal.returns-in-Value
+pub returns : goal.returns
 unfolding rg_settled
-returns-in-Value c =
-    rw (c.in-Value.is, sym (c.handed.ensures ∙ handed_itself _)) c.settle_late.ensures
+returns c =
+    rw (c.in_ok-found.is, sym (c.handed.ensures ∙ handed_itself _)) c.settle_late.ensures
 
-pub returns-in-Refused : goal.returns-in-Refused
+pub returns-in_err-found : goal.returns-in_err-found
 unfolding rg_settled
-returns-in-Refused c =
-    rw c.in-Refused.is
+returns-in_err-found c =
+    rw c.in_err-found.is

@@ -4,12 +4,12 @@ use mathlib.Core.Path.{sym}
 use Rattle.elliprg.specs.Rg.{times_root}
 use Rattle.elliprg.proofs.times_root.Goals as goal
 
-pub returns-in-Value : goal.returns-in-Value
+pub returns : goal.returns
 unfolding times_root
-returns-in-Value c =
-    rw (c.in-Value.is, sym c.sqrt.ensures, sym c.rescaled.ensures)
+returns c =
+    rw (c.in_ok-found.is, sym c.sqrt.ensures, sym c.rescaled.ensures)
 
-pub returns-in-Refused : goal.returns-in-Refused
+pub returns-in_err-found : goal.returns-in_err-found
 unfolding times_root
-returns-in-Refused c =
-    rw c.in-Refused.is
+returns-in_err-found c =
+    rw c.in_err-found.is

@@ -33,12 +33,12 @@ pub put_refusal-requires : goal.put_refusal-requires
 put_refusal-requires c =
     room _ longest_refusal (omega arith) c.put_name-end.ensures
 
-pub returns-in-Value : goal.returns-in-Value
+pub returns-in-Ok : goal.returns-in-Ok
 unfolding after_name
-returns-in-Value c =
-    answered _ _ (rw c.in-Value.is) c.put_name-end.ensures c.put_value.ensures
+returns-in-Ok c =
+    answered _ _ (rw c.in-Ok.is) c.put_name-end.ensures c.put_value.ensures
 
-pub returns-in-Refused : goal.returns-in-Refused
+pub returns-in-Err : goal.returns-in-Err
 unfolding after_name
-returns-in-Refused c =
-    answered _ _ (rw c.in-Refused.is) c.put_name-end.ensures c.put_refusal.ensures
+returns-in-Err c =
+    answered _ _ (rw c.in-Err.is) c.put_name-end.ensures c.put_refusal.ensures

@@ -23,7 +23,7 @@ unfolding judged_of
 returns-in-Ok c =
     rw (c.in-Ok.is, sym c.weigh.ensures)
 
-pub returns-in-Refused : goal.returns-in-Refused
+pub returns-in-Err : goal.returns-in-Err
 unfolding judged_of
-returns-in-Refused c =
-    rw c.in-Refused.is
+returns-in-Err c =
+    rw c.in-Err.is

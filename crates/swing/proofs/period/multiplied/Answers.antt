@@ -4,12 +4,12 @@ use mathlib.Core.Path.{sym}
 use Rattle.swing.specs.Period.{times}
 use Rattle.swing.proofs.period.multiplied.Goals as goal
 
-pub returns-in-Value : goal.returns-in-Value
+pub returns : goal.returns
 unfolding times
-returns-in-Value c =
-    rw (c.in-Value.is, sym c.handed.ensures)
+returns c =
+    rw (c.in_ok-found.is, sym c.handed.ensures)
 
-pub returns-in-Refused : goal.returns-in-Refused
+pub returns-in_err-found : goal.returns-in_err-found
 unfolding times
-returns-in-Refused c =
-    rw c.in-Refused.is
+returns-in_err-found c =
+    rw c.in_err-found.is

@@ -16,7 +16,7 @@ unfolding swing_text
 returns-in-Ok c =
     rw c.in-Ok.is c.put_period.ensures
 
-pub returns-in-Refused : goal.returns-in-Refused
+pub returns-in-Err : goal.returns-in-Err
 unfolding swing_text
-returns-in-Refused c =
-    rw c.in-Refused.is c.put_refused.ensures
+returns-in-Err c =
+    rw c.in-Err.is c.put_refused.ensures
