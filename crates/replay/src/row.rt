@@ -30,14 +30,7 @@ fn place(call: Call) -> usize {
 fn first(row: &[u8], byte: u8) -> usize
     ensures { result ≤ length row.now }
 {
-    let mut i = 0;
-    while i < row.len() {
-        if row[i] == byte {
-            return i;
-        }
-        i += 1;
-    }
-    i
+    row.iter().position(|b| *b == byte).unwrap_or(row.len())
 }
 
 // Where the answer ends: before the mark ` s`, if there is one.

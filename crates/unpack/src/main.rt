@@ -14,8 +14,7 @@ fn unpack_all(rt: HostRuntime, out: &mut [u8; OUT]) {
     let mut n: usize = 0;
     let mut place: u64 = 0;
     // A proved loop has to end, and nothing says that the input does: so many turns no run uses up.
-    let mut turns = u64::MAX;
-    while turns > 0 {
+    for _ in 0..u64::MAX {
         match read_block(rt, &mut block) {
             Got::Bytes(size) => {
                 let fed = feed(&block, size, &mut held, n, out);
@@ -41,7 +40,6 @@ fn unpack_all(rt: HostRuntime, out: &mut [u8; OUT]) {
                 return;
             }
         }
-        turns -= 1;
     }
 }
 
