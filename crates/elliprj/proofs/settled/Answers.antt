@@ -1,5 +1,6 @@
 -- `settled` meets its contract, case by case: what was found, put together of its fields, is the same. Assumes nothing.
 use mathlib.Core.Path.{sym, ◌∙◌}
+use Rattle.std.proofs.lemmas.Result.{err_from_is_err_and}
 use borrow.Author.Rules.{rules}
 use Rattle.carlson.proofs.AnswerLaws.{handed_itself}
 use Rattle.elliprj.specs.Rj.{rj_settled}
@@ -8,9 +9,9 @@ use Rattle.elliprj.proofs.settled.Goals as goal
 pub returns : goal.returns
 unfolding rj_settled
 returns c =
-    rw (c.in_ok-found.is, sym (c.handed.ensures ∙ handed_itself _)) c.settle.ensures
+    rw (c.in_ok-found.was, sym (c.handed.ensures ∙ handed_itself _)) c.settle.ensures
 
 pub returns-in_err-found : goal.returns-in_err-found
 unfolding rj_settled
 returns-in_err-found c =
-    rw c.in_err-found.is
+    let p = err_from_is_err_and c.from_residual.result c.from_residual.ensures.1 in rw (c.in_err-found.was, p.1, p.2)
