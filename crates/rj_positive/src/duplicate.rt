@@ -223,15 +223,11 @@ pub fn duplicated(x: f64, y: f64, z: f64, p: f64) -> Found
     let mut at = begin(x, y, z, p);
     let a0 = at.an;
     let q = start_of(a0, x, y, z, p);
-    let mut n: u32 = 0;
-    loop {
-        if n == CAP {
-            break duplication_over(not_a_number(), n, at.rescalings);
-        }
+    for n in 0..CAP {
         at = step(at);
-        n += 1;
         if close(at, q) {
-            break duplication_over(series(x, y, z, a0, at), n, at.rescalings);
+            return duplication_over(series(x, y, z, a0, at), n + 1, at.rescalings);
         }
     }
+    duplication_over(not_a_number(), CAP, at.rescalings)
 }
