@@ -32,7 +32,7 @@ wrapped_ways a b = record {
 }
 
 -- ---- the roads' numbers for other programs, in the order in which document 02 names them
-unfoldable pub road_number : Road → ℕ
+abbrev pub road_number : Road → ℕ
 road_number Closed = 1
 road_number Infinite = 2
 road_number Agm = 3

@@ -25,7 +25,7 @@ use binary64::is_finite;
 use refusals::Refusal;
 
 // Which formula answered (document 02, 2026-04; the loop is cel's alone, 2026-09).
-#[derive(Clone, Copy)]
+#[derive(Clone, Copy, Debug, PartialEq, Eq)]
 pub enum Road {
     Closed,
     Infinite,
@@ -37,24 +37,26 @@ pub enum Road {
     Loop,
 }
 
-// Their numbers for other programs, in the order in which document 02 names them.
-pub fn road_number(road: Road) -> u32
-    ensures { result ≡ road_number road }
-{
-    match road {
-        Road::Closed => 1,
-        Road::Infinite => 2,
-        Road::Agm => 3,
-        Road::Duplication => 4,
-        Road::Joint => 5,
-        Road::Taylor => 6,
-        Road::Reduction => 7,
-        Road::Loop => 8,
+impl Road {
+    // Its number for other programs, in the order in which document 02 names them.
+    pub fn number(self) -> u32
+        ensures { result ≡ road_number self }
+    {
+        match self {
+            Road::Closed => 1,
+            Road::Infinite => 2,
+            Road::Agm => 3,
+            Road::Duplication => 4,
+            Road::Joint => 5,
+            Road::Taylor => 6,
+            Road::Reduction => 7,
+            Road::Loop => 8,
+        }
     }
 }
 
 // What adds up over the call and all it calls: the rounds begun, and the rescalings.
-#[derive(Clone, Copy)]
+#[derive(Clone, Copy, Debug, PartialEq, Eq)]
 pub struct Way {
     pub rounds: u32,
     pub rescalings: u32,

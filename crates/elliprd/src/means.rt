@@ -54,7 +54,7 @@ fn value_of(x0: f64, y0: f64, y: f64, z: f64, s: Sums) -> f64
     pt * rf * 3.0
 }
 
-// Refused if the cap is spent and the test still says go on.
+// Refused if the cap is spent and the test still says go on. (No `for`: it would have to make that test again behind its end.)
 pub fn agm_of(y: f64, z: f64) -> Answer
     ensures { result ≡ rd_agm_of y z }
 {

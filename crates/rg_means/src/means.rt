@@ -77,7 +77,7 @@ fn value_of(s: Sums) -> f64
     s.rg * rf / 2.0
 }
 
-// Refused if the cap is spent and the test still says go on.
+// Refused if the cap is spent and the test still says go on. (No `for`: it would have to make that test again behind its end.)
 pub fn agm_of(x: f64, z: f64) -> Answer
     ensures { result ≡ rg_agm_of x z }
 {
