@@ -35,20 +35,6 @@ pub record Apart (x y z : Float) : Type 0 where
   pub first : eq x z ≡ false
   pub second : eq y z ≡ false
 
-pub apart_told : (x y z : Float)
-    → ((moderate x && ne x z) && (moderate y && ne y z)) && moderate z ≡ true → Apart x y z
-unfolding ne
-apart_told x y z = go (moderate x) (eq x z) (moderate y) (eq y z) (moderate z) refl refl refl refl refl
-  where
-    go : (a s b t c : Bool) → moderate x ≡ a → eq x z ≡ s → moderate y ≡ b → eq y z ≡ t → moderate z ≡ c
-        → ((a && not s) && (b && not t)) && c ≡ true → Apart x y z
-    go true false true false true p q r u v h = record { one = p; two = r; three = v; first = q; second = u }
-    go true false true false false p q r u v h = absurd (true≢false (sym h))
-    go true false true true c p q r u v h = absurd (true≢false (sym h))
-    go true false false t c p q r u v h = absurd (true≢false (sym h))
-    go true true b t c p q r u v h = absurd (true≢false (sym h))
-    go false s b t c p q r u v h = absurd (true≢false (sym h))
-
 -- such arguments are duplicated, and a finite value stands
 pub duplicates : (x y z : Float) → Apart x y z → rd_steps x y z ≡ Ok (rd_duplication x y z)
 unfolding rd_steps rd_ordered rd_general

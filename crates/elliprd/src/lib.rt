@@ -13,7 +13,7 @@ use crate::means::agm_of;
 use binary64::{is_finite, min};
 use carlson::answer::{Answer, closed, handed, rescaled, settle_late};
 use carlson::constants::PI;
-use carlson_arguments::checks::{any_infinite3, any_nan3, both};
+use carlson_arguments::checks::{any_infinite3, any_nan3};
 use carlson_arguments::door::{moderate, moderate3};
 use carlson_arguments::rescaling::{rescales3, scale3};
 use rd_duplicate::duplicate::duplicated;
@@ -107,6 +107,7 @@ fn settled(a: Answer, nan: bool, unbounded: bool) -> Answer
 }
 
 // At any three f64s.
+#[tactic(auto, unfolding(crate::specs::Rd::rd))]
 fn checked(x: f64, y: f64, z: f64) -> Answer
     ensures { result ≡ rd x y z }
 {
@@ -117,7 +118,7 @@ fn checked(x: f64, y: f64, z: f64) -> Answer
     if min(x, y) < 0.0 {
         return Err(Refusal::BelowZero);
     }
-    if both(x == 0.0, y == 0.0) {
+    if x == 0.0 && y == 0.0 {
         return Err(Refusal::Zeros);
     }
     if z <= 0.0 {
@@ -135,10 +136,7 @@ fn checked(x: f64, y: f64, z: f64) -> Answer
 pub fn elliprd(x: f64, y: f64, z: f64) -> Answer
     ensures { result ≡ rd x y z }
 {
-    if both(
-        both(both(moderate(x), x != z), both(moderate(y), y != z)),
-        moderate(z),
-    ) {
+    if moderate(x) && x != z && moderate(y) && y != z && moderate(z) {
         let found = duplicated(x, y, z);
         if is_finite(found.value) {
             return Ok(handed(found, found.value));

@@ -7,7 +7,6 @@ ghost use Rattle.listing_stream.specs.Replies.{answer_by, admitted, reply_of};
 use answers::answer_of;
 use calls::Call;
 use carlson::answer::Answer;
-use carlson_arguments::checks::both;
 use listing_read::{Line, call_of};
 use listing_write::{is_cel, put_answer};
 use profile_answers::profile_of;
@@ -28,7 +27,7 @@ fn admitted(profile: bool, line: Line) -> Line
 {
     match line {
         Line::Good(call) => {
-            if both(profile, is_cel(call)) {
+            if profile && is_cel(call) {
                 return Line::Bad;
             }
             Line::Good(call)

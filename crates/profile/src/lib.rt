@@ -21,7 +21,7 @@ ghost use Rattle.profile.specs.Profile.{
 
 use binary64::min;
 use carlson::answer::Answer;
-use carlson_arguments::checks::{any_nan2, any_nan3, any_nan4, below3, both, zeros3};
+use carlson_arguments::checks::{any_nan2, any_nan3, any_nan4, below3, zeros3};
 use elliprc::elliprc;
 use elliprd::elliprd;
 use elliprf::elliprf;
@@ -81,13 +81,14 @@ fn rd_upward(x: f64, y: f64, z: f64) -> Answer
     elliprd(t.x, t.y, t.z)
 }
 
+#[tactic(auto, unfolding(crate::specs::Profile::rd_plain))]
 fn rd_plain(x: f64, y: f64, z: f64) -> Answer
     ensures { result ≡ rd_plain x y z }
 {
     if min(x, y) < 0.0 {
         return Err(Refusal::BelowZero);
     }
-    if both(x == 0.0, y == 0.0) {
+    if x == 0.0 && y == 0.0 {
         return Err(Refusal::Zeros);
     }
     if z <= 0.0 {

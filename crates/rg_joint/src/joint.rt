@@ -25,7 +25,6 @@ ghost use Rattle.rg_joint.specs.Joint.{
 use binary64::abs;
 use carlson::answer::{Found, joint, not_a_number};
 use carlson::common::{Lambda, lambda_with};
-use carlson_arguments::checks::both;
 use root::together::numbers3;
 use root::{certain, sqrt};
 use root_guess::{by_row, row};
@@ -278,12 +277,13 @@ fn step(s: Joint, x: f64, y: f64, arf: f64, ard: f64) -> Joint
     moved(s, l, x, y, arf, ard)
 }
 
+#[tactic(auto, unfolding(crate::specs::Joint::all_done))]
 fn all_done(s: Joint) -> bool
     ensures { result ≡ all_done s }
 {
     let p = s.rf;
     let q = s.rd;
-    both(p.done, q.done)
+    p.done && q.done
 }
 
 fn result(s: Joint, rounds: u32) -> RfRd

@@ -21,15 +21,15 @@ started x y rx ry e f = rw (e, f)
 
 pub loop-n-preserved : goal.loop-n-preserved
 loop-n-preserved c =
-    left_on c.loop-n.invariant (ap not (sym c.still_apart.ensures ∙ c.if-still_apart.true)) (omega arith)
+    left_on c.loop-n.invariant (ap not (sym c.still_apart.ensures ∙ c.if-not-still_apart.false)) (omega arith)
     c.next_means-m.ensures refl
 
-pub returns-then-still_apart : goal.returns-then-still_apart
-returns-then-still_apart c =
+pub returns-then-not-still_apart : goal.returns-then-not-still_apart
+returns-then-not-still_apart c =
     let l = c.loop-n in
     let b = c.args in
     c.agm.ensures ∙ ap (λ (v : Float). agm_at v l.n) c.value_of.ensures
-    ∙ left_found l.invariant (ap not (sym c.still_apart.ensures ∙ c.if-still_apart.false))
+    ∙ left_found l.invariant (ap not (sym c.still_apart.ensures ∙ c.if-not-still_apart.true))
     ∙ whole b.x b.y _ (started b.x b.y _ _ c.sqrt.ensures c.sqrt-2.ensures)
 
 -- with no pass left it answers all the same
