@@ -17,8 +17,8 @@ use carlson_arguments::checks::{any_infinite3, any_nan3};
 use carlson_arguments::door::{moderate, moderate3};
 use carlson_arguments::rescaling::{rescales3, scale3};
 use rd_duplicate::duplicate::duplicated;
-use root::sqrt;
 use refusals::Refusal;
+use root::sqrt;
 
 // RD(x, x, x)
 fn all_equal(x: f64) -> Answer
@@ -103,7 +103,12 @@ fn settled(a: Answer, nan: bool, unbounded: bool) -> Answer
     ensures { result ≡ rd_settled a nan unbounded }
 {
     let found = a?;
-    settle_late(handed(found, found.value), nan, unbounded, Refusal::NoResult)
+    settle_late(
+        handed(found, found.value),
+        nan,
+        unbounded,
+        Refusal::NoResult,
+    )
 }
 
 // At any three f64s.

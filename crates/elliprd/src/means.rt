@@ -5,9 +5,9 @@ ghost use Rattle.elliprd.specs.Means.{sums_of, rd_mean_value, rd_agm_of};
 use carlson::answer::{Answer, agm};
 use carlson::common::{MEAN_CAP, still_apart};
 use carlson::constants::PI;
+use refusals::Refusal;
 use root::{sqrt, sqrt_ahead};
 use root_guess::{Ahead, nearly_twice, ready, unready};
-use refusals::Refusal;
 
 // 8 * 2.7 * 2 ^ -52: no answer rests on it.
 const TOO_FAR: f64 = 4.8e-15;

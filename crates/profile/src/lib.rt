@@ -28,8 +28,8 @@ use elliprf::elliprf;
 use elliprg::elliprg;
 use elliprj::elliprj_positive;
 use profile_arguments::{plus_zero, sized2, sized3, sized4};
-use sorting::{Triple, rise_xy, rising};
 use refusals::Refusal;
+use sorting::{Triple, rise_xy, rising};
 
 fn rc_plain(x: f64, y: f64) -> Answer
     ensures { result ≡ rc_plain x y }

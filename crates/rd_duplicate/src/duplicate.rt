@@ -96,19 +96,11 @@ fn told(a: u64, b: u64, c: u64, rx: f64, ry: f64, rz: f64, last: bool) -> bool
     ensures { result ≡ true → Rooted3 a b c rx ry rz }
 {
     if last {
-        if certain(c, f64::to_bits(rz)) {
-            if certain(b, f64::to_bits(ry)) {
-                return certain(a, f64::to_bits(rx));
-            }
-        }
-        return false;
+        return certain(c, f64::to_bits(rz))
+            && certain(b, f64::to_bits(ry))
+            && certain(a, f64::to_bits(rx));
     }
-    if certain(a, f64::to_bits(rx)) {
-        if certain(b, f64::to_bits(ry)) {
-            return certain(c, f64::to_bits(rz));
-        }
-    }
-    false
+    certain(a, f64::to_bits(rx)) && certain(b, f64::to_bits(ry)) && certain(c, f64::to_bits(rz))
 }
 
 // The guesses first and then the tests, so that the processor makes the guesses side by side. This stands in each entry, since

@@ -147,19 +147,17 @@ fn roots_at(x: f64, y: f64, z: f64, p: f64) -> Roots
         let rz = by_row(c, row(c));
         let rp = by_row(d, row(d));
         if numbers4(rx, ry, rz, rp) {
-            if certain(a, f64::to_bits(rx)) {
-                if certain(b, f64::to_bits(ry)) {
-                    if certain(c, f64::to_bits(rz)) {
-                        if certain(d, f64::to_bits(rp)) {
-                            return Roots {
-                                x: rx,
-                                y: ry,
-                                z: rz,
-                                p: rp,
-                            };
-                        }
-                    }
-                }
+            if certain(a, f64::to_bits(rx))
+                && certain(b, f64::to_bits(ry))
+                && certain(c, f64::to_bits(rz))
+                && certain(d, f64::to_bits(rp))
+            {
+                return Roots {
+                    x: rx,
+                    y: ry,
+                    z: rz,
+                    p: rp,
+                };
             }
         }
     }

@@ -39,7 +39,7 @@ returns-then-close c =
     let l = c.loop-n in
     c.duplication.ensures ∙ ap (λ (v : Float). duplication_at v (l.n + 1)) c.series.ensures
     ∙ left_found (left_on l.invariant refl (omega arith) (passed (goal.at.returns-then-close c).After-moved-at) c.close.ensures)
-        c.if-close.true
+    c.if-close.true
     ∙ whole c.args.x c.args.y c.args.z c.begin-at.result c.begin-at.ensures
 
 pub returns : goal.returns
