@@ -8,7 +8,7 @@ use Rattle.std.proofs.Math.Bool.{false, ◌||◌}
 use Rattle.std.proofs.Math.Dec.{not_T}
 use Rattle.std.specs.Float.{binary64}
 use Rattle.std.specs.Float.Ieee.{eq, le, lt, below}
-use Rattle.refusals.specs.declared.Refusal.TheVariants.{NoResult}
+use Rattle.refusals.specs.declared.Refusal.TheVariants.{BelowZero, NanGiven, NoResult, ZeroGiven, Zeros}
 use Rattle.carlson.specs.Constants.{zero}
 use Rattle.carlson_arguments.specs.Checks.{any_nan4, any_infinite4, below3, zeros_of3}
 use Rattle.carlson_arguments.specs.Rescaling.{beyond_limits, scale_of4}
@@ -117,10 +117,10 @@ module _ {k : ℕ} {x x' y y' z z' p p' : Float} (X : Two binary64 k argument_k 
   last x y z p i = cond i infinite_at (rj_settled (rj_unchecked x y z p))
 
   abbrev rest : Float → Float → Float → Float → Bool → Answer
-  rest x y z p i = cond (below3 x y z) (Err 2) (cond (zeros_of3 x y z) (Err 3) (last x y z p i))
+  rest x y z p i = cond (below3 x y z) (Err BelowZero) (cond (zeros_of3 x y z) (Err Zeros) (last x y z p i))
 
   abbrev whole : Float → Float → Float → Float → Bool → Bool → Bool → Answer
-  whole x y z p n e i = cond n (Err 1) (cond e (Err 4) (rest x y z p i))
+  whole x y z p n e i = cond n (Err NanGiven) (cond e (Err ZeroGiven) (rest x y z p i))
 
   pub rj_pair_lem : Pair k rj_k (rj x y z p) (rj x' y' z' p')
   unfolding rj rj_signed rj_rest
