@@ -6,6 +6,7 @@ use Rattle.std.proofs.Common.{sym, arith}
 use Rattle.std.specs.Float.Ieee.{lt, le, eq}
 use Rattle.std.specs.Float.Ieee.Scale.{finite}
 use Rattle.binary64.specs.Leaves.{minimum}
+use Rattle.refusals.specs.declared.Refusal.{Refusal}
 use Rattle.carlson.specs.Constants.{zero as +0}
 use Rattle.carlson_arguments.specs.Checks.{any_nan2, any_nan3, any_nan4, any_infinite2, any_infinite3, any_infinite4, below3, zeros_of3}
 use Rattle.carlson.specs.Answer.{infinite_at, loop_at, settled, settled_late}
@@ -78,7 +79,7 @@ most_of (Cel kc p a b) = cel_most
 pub data Counted (n : ℕ) : Answer → Type 0 where
   value : {f : Found} → f.way.rounds ≡ n → Counted n (Ok f)
   infinite : {f : Found} → f.road ≡ Infinite → f.way.rounds ≡ 0 → Counted n (Ok f)
-  refused : {m : ℕ} → Counted n (Err m)
+  refused : {r : Refusal} → Counted n (Err r)
 
 -- n passes are begun: at most m, and the answer counts them
 pub record Begun (m : ℕ) (a : Answer) (n : ℕ) : Type 0 where

@@ -5,6 +5,7 @@ use Rattle.std.proofs.Common.{arith}
 use Rattle.std.specs.Float.Ieee.{le, eq}
 use Rattle.binary64.specs.Operators.{◌⊗◌, bits}
 use Rattle.root.specs.Root.{root}
+use Rattle.refusals.specs.declared.Refusal.{Refusal}
 use Rattle.carlson.specs.Constants.{zero as +0}
 use Rattle.carlson.specs.Common.{mean_cap}
 use Rattle.carlson.specs.Answer.{closed_at, carried_at, agm_at, rescaled_at}
@@ -66,7 +67,7 @@ module _ {m n : ℕ} (h : n ≤ mean_cap) (g : mean_cap ≤ m) where
   unfolding agm_at
   agm_found v = record { most = omega arith; exact = refl }
 
-  agm_refused : (k : ℕ) → Exactly m (Err k) n
+  agm_refused : (r : Refusal) → Exactly m (Err r) n
   agm_refused k = record { most = omega arith; exact = tt }
 
 -- ---- RD

@@ -8,6 +8,7 @@ use Rattle.std.proofs.Math.Bool.{false, ◌||◌}
 use Rattle.std.proofs.Math.Dec.{not_T}
 use Rattle.std.specs.Float.{binary64}
 use Rattle.std.specs.Float.Ieee.{eq, le, lt, below}
+use Rattle.refusals.specs.declared.Refusal.{Refusal}
 use Rattle.refusals.specs.declared.Refusal.TheVariants.{BelowZero, NanGiven, NoResult, ZeroGiven, Zeros}
 use Rattle.carlson.specs.Constants.{zero}
 use Rattle.carlson_arguments.specs.Checks.{any_nan4, any_infinite4, below3, zeros_of3}
@@ -134,7 +135,7 @@ module _ {k : ℕ} {x x' y y' z z' p p' : Float} (X : Two binary64 k argument_k 
       (choose (Pair k rj_k) (below3 x y z) (below3 x' y' z') (below3_two X Y Z) (λ t. refuse)
       (λ t. choose (Pair k rj_k) (zeros_of3 x y z) (zeros_of3 x' y' z') (zeros3_two X Y Z) (λ n. refuse) (λ n. steps_pair t n)))))
     where
-      refuse : {n : ℕ} → Pair k rj_k (Err n) (Err n)
+      refuse : {r : Refusal} → Pair k rj_k (Err r) (Err r)
       refuse = answers.no
 
 upward : (k d : ℕ) (x y z p x' y' z' p' : Float) → InRange x → InRange y → InRange z → InRange p → InRange x' → InRange y'
