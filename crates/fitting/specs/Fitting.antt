@@ -12,6 +12,7 @@ use Rattle.rounding.specs.Cut.{last, rounded}
 use Rattle.binary64.specs.Leaves.{minimum, maximum}
 use Rattle.binary64.specs.Operators.{◌⊗◌, ◌⊘◌, bits}
 use Rattle.root.specs.Root.{root_of, root}
+use Rattle.refusals.specs.declared.Refusal.{Refusal}
 use Rattle.carlson.specs.Constants.{zero as +0, half, one, four, epsilon}
 use Rattle.carlson_arguments.specs.Checks.{any_nan2, any_nan3, any_nan4, any_infinite2, any_infinite3, any_infinite4, below3, zeros_of3}
 use Rattle.carlson_arguments.specs.Rescaling.{scale_of3, scale_of4, rescales3, rescales4, rescaling3}
@@ -91,11 +92,11 @@ infinite_fits : Fits infinite_at
 unfolding infinite_at
 infinite_fits = of_bits-fits binary64 0
 
-settled_fits : (f : Found) (n : ℕ) → FitFound f → Fits (settled f n)
+settled_fits : (f : Found) (n : Refusal) → FitFound f → Fits (settled f n)
 unfolding settled
 settled_fits f n h = chosen Fits (finite f.value) h tt
 
-late_fits : (f : Found) (bad unbounded : Bool) (n : ℕ) → FitFound f → Fits (settled_late f bad unbounded n)
+late_fits : (f : Found) (bad unbounded : Bool) (n : Refusal) → FitFound f → Fits (settled_late f bad unbounded n)
 unfolding settled_late
 late_fits f bad unbounded n h =
     chosen Fits (finite f.value) h (chosen Fits bad tt (chosen Fits unbounded infinite_fits tt))

@@ -6,6 +6,7 @@ use Rattle.std.proofs.Common.{sym, arith, Ok, Err}
 use Rattle.std.specs.Float.Ieee.{lt, le, eq}
 use Rattle.std.specs.Float.Ieee.Scale.{finite}
 use Rattle.binary64.specs.Leaves.{minimum}
+use Rattle.refusals.specs.declared.Refusal.{Refusal}
 use Rattle.carlson.specs.Constants.{zero as +0}
 use Rattle.carlson_arguments.specs.Checks.{any_nan2, any_nan3, any_nan4, any_infinite2, any_infinite3, any_infinite4, below3, zeros_of3}
 use Rattle.carlson.specs.Answer.{infinite_at, loop_at, settled, settled_late}
@@ -55,25 +56,25 @@ module _ {m k n : ℕ} (f : Found) (h : k ≤ m) (i : Exactly k (Ok f) n) where
   stands : Begun m (Ok f) n
   stands = record { most = omega (arith, i.most); counts = value i.exact }
 
-  no : {r : ℕ} → Begun m (Err r) n
+  no : {r : Refusal} → Begun m (Err r) n
   no = record { most = omega (arith, i.most); counts = refused }
 
   zero_given : Begun m infinite_at n
   unfolding infinite_at
   zero_given = record { most = omega (arith, i.most); counts = infinite refl refl }
 
-  plainly : (r : ℕ) → Begun m (settled f r) n
+  plainly : (r : Refusal) → Begun m (settled f r) n
   unfolding settled
   plainly r = chosen (λ a. Begun m a n) (finite f.value) stands no
 
-  late : (nan unbounded : Bool) (r : ℕ) → Begun m (settled_late f nan unbounded r) n
+  late : (nan unbounded : Bool) (r : Refusal) → Begun m (settled_late f nan unbounded r) n
   unfolding settled_late
   late nan unbounded r =
       chosen (λ a. Begun m a n) (finite f.value) stands
       (chosen (λ a. Begun m a n) nan no (chosen (λ a. Begun m a n) unbounded zero_given no))
 
 -- refused by its arguments, or zero for an infinite one
-unbegun : {m r : ℕ} → Begun m (Err r) 0
+unbegun : {m : ℕ} {r : Refusal} → Begun m (Err r) 0
 unbegun = record { most = omega arith; counts = refused }
 
 unbegun_zero : {m : ℕ} → Begun m infinite_at 0

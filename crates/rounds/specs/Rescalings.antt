@@ -5,6 +5,7 @@ use Rattle.std.proofs.Common.{arith}
 use Rattle.std.specs.Float.Ieee.{lt, le, eq}
 use Rattle.std.specs.Float.Ieee.Scale.{finite}
 use Rattle.binary64.specs.Leaves.{minimum}
+use Rattle.refusals.specs.declared.Refusal.{Refusal}
 use Rattle.carlson.specs.Constants.{zero as +0}
 use Rattle.carlson_arguments.specs.Checks.{any_nan2, any_nan3, any_nan4, any_infinite2, any_infinite3, any_infinite4, below3, zeros_of3}
 use Rattle.carlson.specs.Answer.{infinite_at, loop_at, settled, settled_late}
@@ -51,11 +52,11 @@ unfolding infinite_at
 zero_few m k = counted 0 (omega arith)
 
 module _ (m k : ℕ) (f : Found) (h : Within m k f.way) where
-  settled_few : (n : ℕ) → Few m k (settled f n)
+  settled_few : (n : Refusal) → Few m k (settled f n)
   unfolding settled
   settled_few n = chosen (Few m k) (finite f.value) h tt
 
-  late_few : (nan unbounded : Bool) (n : ℕ) → Few m k (settled_late f nan unbounded n)
+  late_few : (nan unbounded : Bool) (n : Refusal) → Few m k (settled_late f nan unbounded n)
   unfolding settled_late
   late_few nan unbounded n =
       chosen (Few m k) (finite f.value) h (chosen (Few m k) nan tt (chosen (Few m k) unbounded (zero_few m k) tt))
