@@ -1,6 +1,6 @@
 -- `write_answer` meets its contract: the name, then what its answer says. Assumes nothing.
 use Prim.Native.Nat.{ℕ, ◌+◌, ◌≤◌}
-use mathlib.Core.Path.{◌≡◌}
+use mathlib.Core.Path.{◌≡◌, sym}
 use mathlib.Core.List.{List}
 use native.Mathlib.Omega.{arith}
 use borrow.Author.Rules.{rules}
@@ -41,4 +41,4 @@ returns-in-Ok c =
 pub returns-in-Err : goal.returns-in-Err
 unfolding after_name
 returns-in-Err c =
-    answered _ _ (rw c.in-Err.is) c.put_name-end.ensures c.put_refusal.ensures
+    answered _ _ (rw (c.in-Err.is, sym c.number.ensures)) c.put_name-end.ensures c.put_refusal.ensures

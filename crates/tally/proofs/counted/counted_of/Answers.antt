@@ -1,4 +1,4 @@
--- Answers.
+-- `counted_of` meets its contract, case by case. Assumes nothing.
 use Rattle.tally.specs.Tally.{counted_of}
 use Rattle.std.proofs.Common.{sym, rules}
 use Rattle.tally.proofs.counted.counted_of.Goals as goal
@@ -11,4 +11,4 @@ returns-in-Ok c =
 pub returns-in-Err : goal.returns-in-Err
 unfolding counted_of
 returns-in-Err c =
-    rw c.in-Err.is
+    rw (c.in-Err.is, sym c.number.ensures)
