@@ -10,7 +10,7 @@ const PART: usize = 224;
 fn ending(b: u8) -> u8
     ensures { result ≡ ends_of b }
 {
-    if b == b'\n' { 1 } else { 0 }
+    u8::from(b == b'\n')
 }
 
 fn count(part: &[u8]) -> u8
@@ -18,10 +18,8 @@ fn count(part: &[u8]) -> u8
     ensures { result ≡ newlines part.now }
 {
     let mut lines: u8 = 0;
-    let mut i: usize = 0;
-    while i < part.len() {
-        lines += ending(part[i]);
-        i += 1;
+    for byte in part {
+        lines += ending(*byte);
     }
     lines
 }

@@ -1,12 +1,9 @@
 -- `lines_in` meets its contract. The invariant: the lines that end in the first `at` bytes are counted. Assumes nothing.
-use Prim.Native.Nat.{◌-◌, ◌≤◌}
 use mathlib.Core.Path.{◌≡◌, refl}
 use mathlib.Core.List.{[]}
 use native.Mathlib.Omega.{arith}
-use borrow.Author.Rules.{rules}
-use lib.ListN.{take}
 use Rattle.pace.specs.Numbers.{newlines}
-use Rattle.pace.specs.NumberLaws.{newlines_part, newlines_few, newlines_all, part_short}
+use Rattle.pace.specs.NumberLaws.{newlines_part, newlines_few}
 use Rattle.pace.proofs.ends.lines_in.Goals as goal
 
 none : 0 ≡ newlines []

@@ -1,12 +1,8 @@
 -- What stays so in the loop, and what goes down.
 use Prim.Native.Nat.{◌-◌, ◌≤◌}
-use mathlib.Core.Path.{◌≡◌, refl}
-use mathlib.Core.List.{[]}
-use native.Mathlib.Omega.{arith}
-use borrow.Author.Rules.{rules}
+use mathlib.Core.Path.{◌≡◌}
 use lib.ListN.{take}
 use Rattle.pace.specs.Numbers.{newlines}
-use Rattle.pace.specs.NumberLaws.{newlines_part, newlines_few, newlines_all, part_short}
 use Rattle.pace.proofs.ends.lines_in.Given as goal
 
 abbrev pub invariant-loop-at : goal.invariant-loop-at
