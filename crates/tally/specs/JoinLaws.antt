@@ -1,5 +1,5 @@
 -- What joining two blocks makes of each word, and so that they may be joined in any order. Assumes nothing.
-use Rattle.std.specs.Prelude.{◌≡◌, ℕ, zero, suc, ◌+◌, ◌%◌, ◌^◌, ◌<◌, ◌≤◌, Bool, true, false, cond, List, ◌++◌, length, take, drop, ◌==◌, ◌≢◌, nat_lt, slice_index, slice_set, refl}
+use Rattle.std.specs.Prelude.{◌≡◌, ℕ, zero, suc, ◌+◌, ◌%◌, ◌^◌, ◌<◌, ◌≤◌, Bool, true, false, cond, List, [], ◌++◌, length, take, drop, ◌==◌, ◌≢◌, nat_lt, slice_index, slice_set, refl}
 use Rattle.std.proofs.Common.{sym, ap, ◌∙◌, add_comm, add_assoc, arith, length-append, length-drop, length-set, length-take-le, get_or-take, get_or-set_same, get_or-set_other, drop-set-lt, drop_at}
 use Rattle.std.proofs.Math.Nat.{mod-add-mod, add-mod-mod}
 use borrow.Author.Tests.{eq-eqb, eqb-true, eqb-false, ltb-true, ltb-false}

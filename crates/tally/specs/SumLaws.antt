@@ -1,5 +1,5 @@
 -- Words of an exact sum: values in any order, sums joined in any order. Assumes nothing.
-use Rattle.std.specs.Prelude.{◌≡◌, ℕ, ◌+◌, ◌%◌, Bool, true, false, cond, ◌&&◌, List, length, ◌==◌, refl}
+use Rattle.std.specs.Prelude.{◌≡◌, ℕ, ◌+◌, ◌%◌, Bool, true, false, cond, ◌&&◌, List, [], length, ◌==◌, refl}
 use Rattle.std.proofs.Common.{sym, ap, ◌∙◌, add_comm, add_assoc, arith}
 use Rattle.std.proofs.Math.Nat.{mod-add-mod}
 use borrow.Author.Tests.{eq-eqb, eqb-true}

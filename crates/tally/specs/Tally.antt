@@ -1,5 +1,5 @@
 -- What a report keeps of one function, as words (document 02, 2026-05). Definitions only.
-use Rattle.std.specs.Prelude.{ℕ, zero, suc, ◌+◌, ◌%◌, ◌^◌, cond, ◌&&◌, List, ◌++◌, length, take, drop, ◌==◌, nat_le, nat_lt, slice_index, slice_set, to_bits}
+use Rattle.std.specs.Prelude.{ℕ, zero, suc, ◌+◌, ◌%◌, ◌^◌, cond, ◌&&◌, List, [], ◌++◌, length, take, drop, ◌==◌, nat_le, nat_lt, slice_index, slice_set, to_bits}
 use Rattle.std.specs.Float.{binary64}
 use Rattle.rounding.specs.Cut.{infinity}
 use Rattle.carlson.specs.declared.answer.Answer.{Answer}

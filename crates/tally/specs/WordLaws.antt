@@ -1,6 +1,6 @@
 -- What an answer more, and another block, make of each word below the sum; and so that order makes no difference. Assumes
 -- nothing.
-use Rattle.std.specs.Prelude.{◌≡◌, ℕ, zero, suc, ◌+◌, ◌%◌, ◌^◌, ◌<◌, ◌≤◌, Bool, true, false, cond, ◌&&◌, List, ◌++◌, length, take, drop, ◌==◌, ◌≢◌, nat_eq, nat_le, nat_lt, slice_index, slice_set, refl}
+use Rattle.std.specs.Prelude.{◌≡◌, ℕ, zero, suc, ◌+◌, ◌%◌, ◌^◌, ◌<◌, ◌≤◌, Bool, true, false, cond, ◌&&◌, List, [], ◌++◌, length, take, drop, set, ◌==◌, ◌≢◌, nat_eq, nat_le, nat_lt, slice_index, slice_set, refl}
 use Rattle.std.proofs.Common.{sym, ap₂, ◌∙◌, arith, ltb-false, length-append, length-drop, length-set, take-append-drop, length-take-le, get_or-take, get_or-drop, get_or-set_same, ext_get_or, drop_at}
 use Rattle.std.proofs.Math.Path.{ap}
 use Rattle.std.proofs.Math.Nat.{mod-add-mod}

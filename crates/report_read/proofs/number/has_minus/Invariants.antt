@@ -1,8 +1,11 @@
 -- What stays so in the loop, and what goes down.
 use Prim.Native.Nat.{◌-◌, ◌≤◌}
-use mathlib.Core.Path.{◌≡◌}
+use mathlib.Core.Path.{◌≡◌, refl, sym, ◌∙◌}
 use lib.ListN.{length, drop}
 use Rattle.report_read.specs.Reading.{has_minus}
+use native.Mathlib.Omega.{arith}
+use Rattle.report_read.proofs.Numbers.{minus_here, minus_on, minus_none}
+use borrow.Author.Rules.{rules}
 use Rattle.report_read.proofs.number.has_minus.Given as goal
 
 abbrev pub invariant-loop-i : goal.invariant-loop-i

@@ -1,5 +1,5 @@
 -- Answers.
-use Rattle.std.proofs.Common.{arith}
+use Rattle.std.proofs.Common.{arith, rules}
 use Rattle.tally.proofs.Steps.{added_not, added_there}
 use Rattle.tally.proofs.block.add_to_block.Goals as goal
 

@@ -1,5 +1,6 @@
 -- Answers.
 use Rattle.tally.specs.Tally.{grown}
+use Rattle.std.proofs.Common.{rules}
 use Rattle.tally.proofs.block.grow.Goals as goal
 
 pub returns : goal.returns

@@ -1,5 +1,5 @@
 -- Answers.
-use Rattle.std.proofs.Common.{arith}
+use Rattle.std.proofs.Common.{arith, rules}
 use Rattle.tally.proofs.Steps.{raise_there, raise_not}
 use Rattle.tally.proofs.block.raise.Goals as goal
 

@@ -1,5 +1,5 @@
 -- Answers.
-use Rattle.std.proofs.Common.{arith}
+use Rattle.std.proofs.Common.{arith, rules}
 use Rattle.tally.proofs.Steps.{sum_there}
 use Rattle.tally.proofs.block.sum.Goals as goal
 

@@ -1,5 +1,5 @@
 -- Answers.
-use Rattle.std.proofs.Common.{◌∙◌, arith}
+use Rattle.std.proofs.Common.{◌∙◌, arith, rules}
 use Rattle.tally.proofs.Steps.{tally_none, tally_past, tally_one}
 use Rattle.tally.proofs.block.tally.Goals as goal
 

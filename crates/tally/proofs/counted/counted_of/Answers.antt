@@ -1,6 +1,6 @@
 -- Answers.
 use Rattle.tally.specs.Tally.{counted_of}
-use Rattle.std.proofs.Common.{sym}
+use Rattle.std.proofs.Common.{sym, rules}
 use Rattle.tally.proofs.counted.counted_of.Goals as goal
 
 pub returns-in-Value : goal.returns-in-Value

@@ -1,5 +1,5 @@
 -- Answers.
-use Rattle.std.proofs.Common.{arith}
+use Rattle.std.proofs.Common.{arith, rules}
 use Rattle.tally.proofs.Steps.{joined_not, joined_nor, joined_there}
 use Rattle.tally.proofs.join.join_blocks.Goals as goal
 

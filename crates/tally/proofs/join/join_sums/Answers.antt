@@ -1,5 +1,5 @@
 -- Answers.
-use Rattle.std.proofs.Common.{arith}
+use Rattle.std.proofs.Common.{arith, rules}
 use Rattle.tally.proofs.Steps.{sums_there}
 use Rattle.tally.proofs.join.join_sums.Goals as goal
 
