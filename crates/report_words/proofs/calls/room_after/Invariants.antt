@@ -1,4 +1,4 @@
--- What stays so in the loop, and what goes down.
+-- What stays so in the loop.
 use Prim.Native.Nat.{◌+◌, ◌-◌, ◌≤◌}
 use mathlib.Core.Path.{◌≡◌}
 use borrow.Author.Rules.{rules}
@@ -10,8 +10,4 @@ use Rattle.report_words.proofs.calls.room_after.Given as goal
 
 abbrev pub invariant-loop-k : goal.invariant-loop-k
 invariant-loop-k l =
-    (l.k ≤ 6) × (l.left + calls_in l.k l.report ≡ l.room) × (length l.report ≡ 384)
-
-abbrev pub decreases-loop-k : goal.decreases-loop-k
-decreases-loop-k l =
-    6 - l.k
+    (l.left + calls_in l.k l.report ≡ l.room) × (length l.report ≡ 384)
