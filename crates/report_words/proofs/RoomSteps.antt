@@ -1,5 +1,5 @@
 -- The room that is left for calls. Assumes nothing.
-use Rattle.std.specs.Prelude.{Option, Some, None, Result, Ok, Err}
+use Rattle.std.specs.Prelude.{Option, Some, None, Ok, Err}
 use Prim.Native.Nat.{ℕ, ◌+◌, ◌-◌, ◌≤◌, ◌<◌}
 use mathlib.Core.Path.{◌≡◌, refl, sym, ◌∙◌}
 use mathlib.Core.Bool.{Bool, true, false, cond}
@@ -10,10 +10,9 @@ use borrow.Author.Tests.{le-leb, lt-leb, leb-true, leb-false}
 use lib.Dec.{leb}
 use Rattle.std.specs.Option.{is_some}
 use Rattle.algebra.specs.Order.{lt_or_le}
-use Rattle.refusals.specs.declared.Refusal.{Refusal}
 use Rattle.refusals.specs.declared.Refusal.TheVariants.{TooMany}
 use Rattle.report_words.specs.Words.{calls_in_all, room_after, words_joined}
-use Rattle.report_words.specs.Room.{room_for, room_both, list_judged, join_judged, join_after}
+use Rattle.report_words.specs.Room.{room_for, room_both, join_judged, join_after}
 
 -- what the room that is left tells of the calls
 tells : (room calls : ℕ) (r : Option ℕ) → cond (leb calls room) (Some (room - calls)) None ≡ r

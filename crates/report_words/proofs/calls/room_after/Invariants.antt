@@ -1,11 +1,8 @@
 -- What stays so in the loop.
-use Prim.Native.Nat.{◌+◌, ◌-◌, ◌≤◌}
+use Prim.Native.Nat.{◌+◌}
 use mathlib.Core.Path.{◌≡◌}
-use borrow.Author.Rules.{rules}
 use lib.ListN.{length}
 use Rattle.report_words.specs.Words.{calls_in}
-use native.Mathlib.Omega.{arith}
-use Rattle.report_words.proofs.Steps.{calls_other, calls_over, calls_on, calls_left}
 use Rattle.report_words.proofs.calls.room_after.Given as goal
 
 abbrev pub invariant-loop-k : goal.invariant-loop-k

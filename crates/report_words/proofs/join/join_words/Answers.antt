@@ -1,9 +1,5 @@
 -- Answers.
-use Prim.Native.Nat.{◌-◌, ◌≤◌}
-use mathlib.Core.Path.{◌≡◌, refl, ◌∙◌}
-use borrow.Author.Rules.{rules}
-use lib.ListN.{length}
-use Rattle.report_words.specs.Words.{blocks_joined}
+use mathlib.Core.Path.{refl, ◌∙◌}
 use native.Mathlib.Omega.{arith}
 use Rattle.report_words.proofs.Steps.{joined_not, joined_nor, joined_all, joined_on}
 use Rattle.report_words.proofs.join.join_words.Goals as goal

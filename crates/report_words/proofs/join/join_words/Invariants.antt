@@ -1,11 +1,8 @@
 -- What stays so in the loop.
-use Prim.Native.Nat.{◌-◌, ◌≤◌}
-use mathlib.Core.Path.{◌≡◌, refl, ◌∙◌}
-use borrow.Author.Rules.{rules}
+use Prim.Native.Nat.{◌-◌}
+use mathlib.Core.Path.{◌≡◌}
 use lib.ListN.{length}
 use Rattle.report_words.specs.Words.{blocks_joined}
-use native.Mathlib.Omega.{arith}
-use Rattle.report_words.proofs.Steps.{joined_not, joined_nor, joined_all, joined_on}
 use Rattle.report_words.proofs.join.join_words.Given as goal
 
 abbrev pub invariant-loop-k : goal.invariant-loop-k
