@@ -19,10 +19,11 @@ fn add(words: &mut [u64; 384], job: Job) {
 // After the list's last job: 18 where there were too many, else the report.
 fn end(rt: HostRuntime, words: &[u64; 384], calls: u64, at: u64, out: &mut [u8; OUT]) {
     let none = [0u64; 384];
-    match judge_list(&none, Ok(calls)) {
-        Ok(()) => say_report(rt, words, out),
-        Err(refusal) => say_refused(rt, at, refusal.number()),
+    if let Err(refusal) = judge_list(&none, Ok(calls)) {
+        say_refused(rt, at, refusal.number());
+        return;
     }
+    say_report(rt, words, out);
 }
 
 fn report_all(rt: HostRuntime, out: &mut [u8; OUT]) {
