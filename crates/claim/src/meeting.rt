@@ -6,7 +6,8 @@ use binary64::split;
 use carlson::answer::Answer;
 use distance::{apart, is_finite_pattern};
 
-// Kind 0 and the value's bits, or kind 1 and the refusal's number; no claim of another kind meets anything.
+// Kind 0 and the value's bits, or kind 1 and the refusal's number; no claim of another kind meets anything. Two words as another
+// program hands them in, of any kind, so they stay words.
 #[derive(Clone, Copy)]
 pub struct Claim {
     pub kind: u64,

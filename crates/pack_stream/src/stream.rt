@@ -88,19 +88,15 @@ fn feed_all(block: &[u8], size: usize, held: &mut [u8], n: usize, out: &mut [u8]
     ensures used_bound { result.used ≤ job_room * size }
 {
     let mut all = nothing(n);
-    let mut i = 0;
-    while i < size {
+    for i in 0..size {
         let fed = step(block[i], held, all.held, out, all.used);
         all = Progress {
-            held: fed.held,
-            used: fed.used,
             lines: all.lines + fed.lines,
-            bad: fed.bad,
+            ..fed
         };
         if all.bad {
             return all;
         }
-        i += 1;
     }
     all
 }

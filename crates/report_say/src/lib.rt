@@ -10,10 +10,8 @@ const LINES: usize = 192;
 // All its lines go into one buffer: they are some twelve thousand bytes at most.
 pub fn say_report(rt: HostRuntime, words: &[u64; 384], out: &mut [u8; OUT]) -> bool {
     let mut used = put_header(out, 0);
-    let mut q: usize = 0;
-    while q < LINES {
+    for q in 0..LINES {
         used = put_line(words, q, out, used);
-        q += 1;
     }
     written(rt, out, used)
 }

@@ -14,7 +14,6 @@ use Rattle.job_answers.specs.JobAnswers.{call_of_job}
 use Rattle.claim.specs.Claims.{own_claim}
 use Rattle.claim.specs.ClaimLaws.{Finite}
 use Rattle.claim.proofs.ClaimLaws.{meets_wider, own_meets}
-use Rattle.claim.specs.Rows.{numbers_differ}
 use Rattle.claim.specs.declared.meeting.Claim.{Claim}
 use Rattle.claim.specs.declared.rows.Checked.{Checked}
 use Rattle.claim.specs.declared.rows.Checked.TheVariants.{Accepted, BadRow, Refused}

@@ -13,10 +13,8 @@ use writing::least;
 // A number in decimal.
 pub fn tolerance_of(text: &[u8]) -> Line {
     let mut read = start();
-    let mut i = 0;
-    while i < text.len() {
-        read = step(read, text[i]);
-        i += 1;
+    for b in text {
+        read = step(read, *b);
     }
     close(read)
 }
@@ -77,8 +75,7 @@ pub fn check(
     let mut meter = progress::begin(rt, wanted, list);
     let mut rows = first_line(rt, claims, &mut block, &mut held);
     // A proved loop has to end, and nothing says that the list does: so many turns no run uses up.
-    let mut turns = u64::MAX;
-    while turns > 0 {
+    for _ in 0..u64::MAX {
         if rows.failed {
             return Ended::Failed;
         }
@@ -89,13 +86,11 @@ pub fn check(
                 stands = next;
                 meter = jobs(rt, meter, row, place(stands));
             }
-            Pulled::More => return Ended::Failed,
             Pulled::End => return Ended::With(ended(so, rows.whole)),
-            Pulled::Refused(number) => return Ended::With(Checked::Refused(number)),
+            Pulled::Refused(refusal) => return Ended::With(Checked::Refused(refusal)),
             Pulled::Failed => return Ended::Failed,
         }
         row = std::num::wrapping_add_u64(row, 1);
-        turns -= 1;
     }
     Ended::Failed
 }

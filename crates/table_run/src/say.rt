@@ -28,9 +28,9 @@ fn put_checked(checked: Checked, text: &mut [u8]) -> usize {
             let end = put_decimal(std::num::wrapping_add_u64(row, 1), 19, text, word);
             put_text(b"\n", text, end)
         }
-        Checked::Refused(number) => {
+        Checked::Refused(refusal) => {
             let word = put_text(b"refused ", text, 0);
-            let end = put_decimal(number as u64, 9, text, word);
+            let end = put_decimal(refusal.number() as u64, 9, text, word);
             put_text(b"\n", text, end)
         }
     }

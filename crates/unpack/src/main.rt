@@ -24,15 +24,14 @@ fn unpack_all(rt: HostRuntime, out: &mut [u8; OUT]) {
                 } else {
                     return;
                 }
-                if fed.ended {
-                    say_refused(rt, place, fed.stop);
+                if let Some(refusal) = fed.stop {
+                    say_refused(rt, place, refusal.number());
                     return;
                 }
             }
             Got::End => {
-                let cut = left_over(n);
-                if cut != 0 {
-                    say_refused(rt, place, cut);
+                if let Some(refusal) = left_over(n) {
+                    say_refused(rt, place, refusal.number());
                 }
                 return;
             }

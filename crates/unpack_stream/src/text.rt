@@ -7,22 +7,17 @@ use packed::{Job, argument_of, arity};
 use writing::{put_text, put_word};
 
 // The second letter of the function's name; all but cel's begin with R.
+#[tactic(auto, unfolding(crate::specs::Text::letter_of))]
 pub fn letter(function: u64) -> u8
     ensures { result ≡ letter_of function }
 {
-    if function == 1 {
-        return b'F';
+    match function {
+        1 => b'F',
+        2 => b'C',
+        3 => b'D',
+        4 => b'G',
+        _ => b'J',
     }
-    if function == 2 {
-        return b'C';
-    }
-    if function == 3 {
-        return b'D';
-    }
-    if function == 4 {
-        return b'G';
-    }
-    b'J'
 }
 
 // The argument at k, where the function has one: a blank and sixteen digits.

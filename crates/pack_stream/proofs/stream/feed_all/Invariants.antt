@@ -1,4 +1,4 @@
--- What stays so in the loop, and what goes down.
+-- What stays so in the loop.
 use Prim.Native.Nat.{ℕ, ◌+◌, ◌-◌, ◌*◌, ◌^◌, ◌≤◌, ◌<◌}
 use mathlib.Core.Path.{◌≡◌, refl, sym, ◌∙◌}
 use mathlib.Core.Bool.{false}
@@ -20,9 +20,5 @@ Fed-to block held out₀ i after out all =
 
 abbrev pub invariant-loop-i : goal.invariant-loop-i
 invariant-loop-i l =
-    (l.i ≤ l.size) × (l.all.held ≤ held_length) × (length l.held ≡ held_length) × (l.all.bad ≡ false)
+    (l.all.held ≤ held_length) × (length l.held ≡ held_length) × (l.all.bad ≡ false)
     × Fed-to l.block (take l.n l.initial.held) l.initial.out l.i l.held l.out l.all
-
-abbrev pub decreases-loop-i : goal.decreases-loop-i
-decreases-loop-i l =
-    l.size - l.i

@@ -43,18 +43,18 @@ loop-k-preserved c =
       omega arith,
       goes_on a.q a.words.now a.line.now l.k l.words c.try_line.new.words l.invariant.0 m (omega arith)
           l.invariant.2
-          c.try_line.ensures.value c.try_line.ensures.words_after f c.is_tally.ensures c.if-is_tally.true,
+          c.try_line.ensures.value c.try_line.ensures.words_after f c.is_tally.ensures c.if-not-is_tally.false,
     )
 
-pub returns-else-is_tally : goal.returns-else-is_tally
-returns-else-is_tally c =
+pub returns-then-not-is_tally : goal.returns-then-not-is_tally
+returns-then-not-is_tally c =
     let l = c.loop-k in let a = c.args in record {
       value = (takes_none a.q a.words.now a.line.now l.k l.words c.try_line.new.words l.invariant.0
           (sym (ap length l.invariant.0) ∙ l.invariant.1) (omega arith) l.invariant.2 c.try_line.ensures.value c.try_line.ensures.words_after
-          c.if-try_line.false c.is_tally.ensures c.if-is_tally.false).0;
+          c.if-try_line.false c.is_tally.ensures c.if-not-is_tally.true).0;
       words_after = (takes_none a.q a.words.now a.line.now l.k l.words c.try_line.new.words l.invariant.0
           (sym (ap length l.invariant.0) ∙ l.invariant.1) (omega arith) l.invariant.2 c.try_line.ensures.value c.try_line.ensures.words_after
-          c.if-try_line.false c.is_tally.ensures c.if-is_tally.false).1;
+          c.if-try_line.false c.is_tally.ensures c.if-not-is_tally.true).1;
     }
 
 pub returns : goal.returns

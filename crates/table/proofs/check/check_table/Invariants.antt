@@ -7,7 +7,6 @@ use lib.ListN.{length}
 use Rattle.packed_number.specs.NumberLaws.{Bytes}
 use Rattle.packed.specs.ListLaws.{nothing_left}
 use Rattle.packed.specs.Reading.{read_at}
-use Rattle.packed.specs.declared.read.Read.TheVariants.{Found}
 use Rattle.packed.specs.RestLaws.{bytes_all, found_later}
 use Rattle.table.proofs.Rest.{Standing}
 use Rattle.table.proofs.Rest.{standing_begins, standing_more, standing_refused, standing_ended}
