@@ -1,30 +1,5 @@
 -- A line of our own listing is read as the claim that its answer is. Assumes nothing.
-use Rattle.std.specs.Prelude.{
-  ℕ,
-  zero,
-  suc,
-  ◌+◌,
-  ◌/◌,
-  ◌%◌,
-  ◌^◌,
-  ◌≤◌,
-  ◌<◌,
-  ◌≡◌,
-  refl,
-  Bool,
-  true,
-  false,
-  ◌&&◌,
-  cond,
-  List,
-  [],
-  ◌∷◌,
-  ◌++◌,
-  T,
-  ltb,
-  Ok,
-  Err,
-}
+use Rattle.std.specs.Prelude.{ℕ, zero, suc, ◌+◌, ◌/◌, ◌%◌, ◌^◌, ◌≤◌, ◌<◌, ◌≡◌, refl, Bool, true, false, ◌&&◌, cond, List, [], ◌∷◌, ◌++◌, T, ltb, Some, None}
 use Rattle.std.proofs.Common.{ap, ◌∙◌, append_assoc, arith, le-ltb, ne_eqb, ltb→lt, lit<, lit≤}
 use Rattle.std.specs.Float.{binary64}
 use Rattle.std.specs.Float.Ieee.{to_bits}
@@ -34,7 +9,6 @@ use Rattle.carlson.specs.declared.answer.Found.{Found}
 use Rattle.carlson.specs.Answer.{Answer}
 use Rattle.digits.specs.Digits.{glyph_of, digits, word_text}
 use Rattle.digits.proofs.DigitLaws.{digits_length, read_written}
-use Rattle.digits.specs.declared.Word.TheVariants.{Is, Not}
 use Rattle.writing.specs.Decimal.{places_of, decimal}
 use Rattle.writing.specs.Places.{places_most, places_some, places_hold}
 use Rattle.calls.specs.Calls.{name_of}
@@ -104,7 +78,7 @@ unfolding decimal
 decimal_over more n = digits_over 10 (places_of more n) n
 
 -- ---- a number in decimal is read back
-count_back : (n : ℕ) → n < 10 ^ 10 → count_of (decimal 9 n) ≡ Is n
+count_back : (n : ℕ) → n < 10 ^ 10 → count_of (decimal 9 n) ≡ Some n
 unfolding count_of decimal
 count_back n h =
     let k = places_of 9 n in
@@ -112,11 +86,11 @@ count_back n h =
       digits_length,
       ne_eqb k 0 (λ e. omega (arith, places_some 9 n)),
       le-ltb 10 k (places_most 9 n),
-    ) (read_written 10 (lit< tt) (lit≤ tt) k 0 n (places_hold 9 n h) ∙ ap Is (omega arith))
+    ) (read_written 10 (lit< tt) (lit≤ tt) k 0 n (places_hold 9 n h) ∙ ap Some (omega arith))
 
-word_back : (w : ℕ) → w < 2 ^ 64 → value_of (digits 16 16 w) ≡ Is w
+word_back : (w : ℕ) → w < 2 ^ 64 → value_of (digits 16 16 w) ≡ Some w
 unfolding value_of
-word_back w h = rw digits_length (read_written 16 (lit< tt) (lit≤ tt) 16 0 w h ∙ ap Is (omega arith))
+word_back w h = rw digits_length (read_written 16 (lit< tt) (lit≤ tt) 16 0 w h ∙ ap Some (omega arith))
 
 -- ---- our own line, without its end
 unfoldable pub way_line : Found → List ℕ
@@ -136,7 +110,7 @@ own_text c (Ok f) = simp append_assoc
 own_text c (Err r) = simp append_assoc
 
 -- THE LAW
-no_value : value_of refused_word ≡ Not
+no_value : value_of refused_word ≡ None
 unfolding value_of
 no_value = refl
 

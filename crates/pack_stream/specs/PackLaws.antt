@@ -3,8 +3,6 @@ use Rattle.std.specs.Prelude.{ℕ, ◌≡◌, refl, Bool, true, false, cond, Lis
 use Rattle.std.proofs.Common.{ap, ◌∙◌}
 use Rattle.listing_read.specs.Lines.{call_of}
 use Rattle.listing_read.specs.LineLaws.{held_call}
-use Rattle.listing_read.specs.declared.Line.{Line}
-use Rattle.listing_read.specs.declared.Line.TheVariants.{Good, Bad}
 use Rattle.writing.specs.Fed.{Ran, quiet, and_ran, run}
 use Rattle.writing.specs.FedLaws.{quiet_and, and_assoc, run_over}
 use Rattle.writing.specs.Input.{last_line, lines_from}

@@ -5,7 +5,7 @@ ghost use Rattle.listing_read.specs.Lines.{call_of};
 ghost use Rattle.pack_stream.specs.Pack.{holding, line_end, pack_byte, pack_from, pack_last, held_length, job_room, Packs};
 
 use crate::jobs::put_call;
-use listing_read::{LONGEST, Line, call_of};
+use listing_read::{LONGEST, call_of};
 use writing::{OUT, least, push};
 
 // So many bytes are held of a line: one more than the longest good line has, so that a longer one is told by its length.
@@ -42,13 +42,13 @@ fn ended(line: &[u8], out: &mut [u8], used: usize) -> Progress
     ensures held_value { result.held ≡ 0 }
 {
     match call_of(line) {
-        Line::Good(call) => Progress {
+        Some(call) => Progress {
             held: 0,
             used: put_call(call, out, used),
             lines: 1,
             bad: false,
         },
-        Line::Bad => Progress {
+        None => Progress {
             held: 0,
             used,
             lines: 1,

@@ -9,7 +9,7 @@ ghost use Rattle.std.specs.Prelude.{◌<◌};
 use crate::pair::{Verdict, asked, judge, place};
 use calls::Call;
 use console::write_out;
-use listing_read::{Line, call_of};
+use listing_read::call_of;
 use rows::{BLOCK, ROW, begin, next};
 use writing::{least, put_decimal};
 
@@ -114,13 +114,13 @@ fn take_asked(rt: HostRuntime, row: &[u8], call: Call, tally: Tally) -> Tally {
 
 fn take_row(rt: HostRuntime, row: &[u8], tally: Tally) -> Tally {
     match call_of(row) {
-        Line::Good(call) => {
+        Some(call) => {
             if asked(call) {
                 return take_asked(rt, row, call, tally);
             }
             count_odd(tally)
         }
-        Line::Bad => count_odd(tally),
+        None => count_odd(tally),
     }
 }
 
