@@ -1,6 +1,5 @@
 -- `against` meets its contract, case by case. Assumes nothing.
 use mathlib.Core.Path.{sym, subst}
-use borrow.Author.Rules.{rules}
 use Rattle.carlson.specs.declared.answer.Found.{Found}
 use Rattle.carlson.specs.declared.answer.Answer.TheVariants.{Value}
 use Rattle.between.specs.Between.{Between}
