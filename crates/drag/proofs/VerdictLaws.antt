@@ -11,8 +11,6 @@ use Rattle.binary64.specs.Operators.{bits}
 use Rattle.carlson.specs.Answer.{Answer}
 use Rattle.swing.specs.Period.{period_of}
 use Rattle.drag.specs.Verdict.{passes, judged_of, drag_of, weighed}
-use Rattle.drag.specs.declared.knee.Judged.{Judged}
-use Rattle.drag.specs.declared.knee.Judged.TheVariants.{Weighed, Refused as NoVerdict}
 use Rattle.drag.specs.VerdictLaws.{Passing}
 
 module _ (v : Float) where

@@ -1,7 +1,6 @@
 -- `against` meets its contract, case by case. Assumes nothing.
 use Rattle.std.proofs.Common.{Ok}
 use mathlib.Core.Path.{sym, subst}
-use borrow.Author.Rules.{rules}
 use Rattle.carlson.specs.declared.answer.Found.{Found}
 use Rattle.between.specs.Between.{Between}
 use Rattle.swing.specs.Ratios.{power}
