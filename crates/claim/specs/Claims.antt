@@ -2,6 +2,7 @@
 use Rattle.std.specs.Prelude.{ℕ, Bool, ◌&&◌, eqb, leb, Ok, Err}
 use Rattle.std.specs.Float.{binary64}
 use Rattle.std.specs.Float.Ieee.{to_bits}
+use Rattle.refusals.specs.Numbers.{refusal_number}
 use Rattle.distance.specs.Steps.{apart_of, finite_pattern}
 use Rattle.carlson.specs.Answer.{Answer}
 use Rattle.claim.specs.declared.meeting.Claim.{Claim}
@@ -16,9 +17,9 @@ refusal_meets n c = eqb c.kind 1 && eqb c.word n
 
 unfoldable pub meets_of : ℕ → Answer → Claim → Bool
 meets_of tolerance (Ok f) c = value_meets tolerance (to_bits binary64 f.value) c
-meets_of tolerance (Err n) c = refusal_meets n c
+meets_of tolerance (Err r) c = refusal_meets (refusal_number r) c
 
 -- what we say ourselves, as a claim
 unfoldable pub own_claim : Answer → Claim
 own_claim (Ok f) = record { kind = 0; word = to_bits binary64 f.value }
-own_claim (Err n) = record { kind = 1; word = n }
+own_claim (Err r) = record { kind = 1; word = refusal_number r }

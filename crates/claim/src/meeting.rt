@@ -40,6 +40,6 @@ pub fn meets(tolerance: u64, answer: Answer, claim: Claim) -> bool
 {
     match answer {
         Ok(found) => value_meets(tolerance, split(found.value), claim),
-        Err(number) => refusal_meets(number, claim),
+        Err(refusal) => refusal_meets(refusal.number(), claim),
     }
 }

@@ -1,7 +1,7 @@
 -- What is answered to a line (document 01, the listing): its call's answer, or that it is none. The flag says who answers: the
 -- bench profile's entries (document 02, 2026-14) if it is true, the base's if it is false. Definitions only.
 use Rattle.std.specs.Prelude.{ℕ, Bool, ◌&&◌, cond, List, Option, Some, None}
-use Rattle.carlson.specs.declared.answer.Answer.{Answer}
+use Rattle.carlson.specs.Answer.{Answer}
 use Rattle.calls.specs.declared.Call.{Call}
 use Rattle.listing_read.specs.Lines.{call_of}
 use Rattle.answers.specs.Answers.{answer_of}

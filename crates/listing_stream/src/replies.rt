@@ -7,7 +7,6 @@ ghost use Rattle.listing_stream.specs.Replies.{answer_by, admitted, reply_of};
 use answers::answer_of;
 use calls::Call;
 use carlson::answer::Answer;
-use carlson_arguments::checks::both;
 use listing_read::call_of;
 use listing_write::{is_cel, put_answer};
 use profile_answers::profile_of;
@@ -27,7 +26,7 @@ fn answer_by(profile: bool, call: Call) -> Answer
 fn admitted(profile: bool, line: Option<Call>) -> Option<Call>
     ensures { result ≡ admitted profile line }
 {
-    line.filter(|call| !both(profile, is_cel(*call)))
+    line.filter(|call| !(profile && is_cel(*call)))
 }
 
 // The reply to a line that was given without its end.

@@ -5,11 +5,11 @@ use Rattle.std.specs.Float.{binary64}
 use Rattle.std.specs.Float.Ieee.{to_bits}
 use Rattle.std.specs.Float.Ieee.Nearest.{closest}
 use Rattle.std.specs.Float.Ieee.Positive.{num, den}
+use Rattle.refusals.specs.Numbers.{refusal_number}
 use Rattle.digits.specs.Digits.{digits}
 use Rattle.writing.specs.Decimal.{decimal}
 use Rattle.carlson.specs.declared.answer.Found.{Found}
-use Rattle.carlson.specs.declared.answer.Answer.{Answer}
-use Rattle.carlson.specs.declared.answer.Answer.TheVariants.{Value, Refused}
+use Rattle.carlson.specs.Answer.{Answer}
 use Rattle.refusals.specs.declared.Refusal.{Refusal}
 use Rattle.refusals.specs.Numbers.{refusal_number}
 
@@ -35,7 +35,7 @@ refused_text n = (114 ∷ 101 ∷ 102 ∷ 117 ∷ 115 ∷ 101 ∷ 100 ∷ 32 ∷
 
 unfoldable pub swing_text : Answer → List ℕ
 swing_text (Ok f) = period_text f
-swing_text (Err n) = refused_text n
+swing_text (Err r) = refused_text (refusal_number r)
 
 unfoldable pub total_text : Result ℕ Refusal → List ℕ
 total_text (Ok t) = number_text t 10

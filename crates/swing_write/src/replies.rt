@@ -73,7 +73,7 @@ fn write_swing(answer: Answer, out: &mut [u8], at: usize) -> usize
 {
     match answer {
         Ok(found) => put_period(found, out, at),
-        Err(number) => put_refused(number, out, at),
+        Err(refusal) => put_refused(refusal.number(), out, at),
     }
 }
 

@@ -1,4 +1,5 @@
 -- `meets` meets its contract, case by case as its definition. Assumes nothing.
+use Rattle.std.proofs.Common.{sym}
 use borrow.Author.Rules.{rules}
 use Rattle.claim.specs.Claims.{meets_of}
 use Rattle.claim.proofs.meeting.meets.Goals as goal
@@ -11,4 +12,4 @@ returns-in-Ok c =
 pub returns-in-Err : goal.returns-in-Err
 unfolding meets_of
 returns-in-Err c =
-    rw c.in-Err.is c.refusal_meets.ensures
+    rw (c.in-Err.is, sym c.number.ensures) c.refusal_meets.ensures

@@ -1,6 +1,6 @@
--- `against` meets its contract, case by case. Assumes nothing.
-use Rattle.std.proofs.Common.{Ok}
-use mathlib.Core.Path.{sym, subst}
+-- `against` meets its contract: a refusal goes through. Assumes nothing.
+use Rattle.std.proofs.Common.{Ok, sym, subst}
+use Rattle.std.proofs.lemmas.Result.{err_from_is_err_and}
 use Rattle.carlson.specs.declared.answer.Found.{Found}
 use Rattle.between.specs.Between.{Between}
 use Rattle.swing.specs.Ratios.{power}
@@ -13,16 +13,13 @@ bounded : (f : Found) → Bounded (Ok f) → Between (power 1012) (power 1042) f
 bounded f (value_in v) = v
 
 pub weigh-requires : goal.weigh-requires
-unfolding judged_of
-weigh-requires c =
-    period_measured _ (bounded _ (subst Bounded c.in-Ok.is c.requires))
+weigh-requires c = period_measured _ (bounded _ (subst Bounded c.in_ok-found.was c.requires))
 
-pub returns-in-Ok : goal.returns-in-Ok
+pub returns : goal.returns
 unfolding judged_of
-returns-in-Ok c =
-    rw (c.in-Ok.is, sym c.weigh.ensures)
+returns c = rw (c.in_ok-found.was, sym c.weigh.ensures)
 
-pub returns-in-Err : goal.returns-in-Err
+pub returns-in_err-found : goal.returns-in_err-found
 unfolding judged_of
-returns-in-Err c =
-    rw c.in-Err.is
+returns-in_err-found c =
+    let p = err_from_is_err_and c.from_residual.result c.from_residual.ensures.1 in rw (c.in_err-found.was, p.1, p.2)

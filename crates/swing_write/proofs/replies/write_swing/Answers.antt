@@ -1,5 +1,6 @@
 -- `write_swing` meets its contract, case by case. Assumes nothing.
 use Rattle.std.proofs.Common.{Ok}
+use Rattle.std.proofs.Common.{sym}
 use mathlib.Core.Path.{subst}
 use native.Mathlib.Omega.{arith}
 use borrow.Author.Rules.{rules}
@@ -19,4 +20,4 @@ returns-in-Ok c =
 pub returns-in-Err : goal.returns-in-Err
 unfolding swing_text
 returns-in-Err c =
-    rw c.in-Err.is c.put_refused.ensures
+    rw (c.in-Err.is, sym c.number.ensures) c.put_refused.ensures
