@@ -11,14 +11,8 @@ use table_lines::{is_header, judged_line};
 use writing::least;
 
 // A number in decimal.
-pub fn tolerance_of(text: &[u8]) -> Line {
-    let mut read = start();
-    let mut i = 0;
-    while i < text.len() {
-        read = step(read, text[i]);
-        i += 1;
-    }
-    close(read)
+pub fn tolerance_of(text: &[u8]) -> Option<Line> {
+    close(text.iter().fold(Some(start()), |read, b| step(read, *b)))
 }
 
 fn headed(rows: Rows, held: &[u8]) -> bool {
