@@ -4,20 +4,13 @@ use Rattle.std.proofs.Math.Path.{refl}
 use Rattle.std.proofs.Math.Bool.{true, false}
 use Rattle.std.proofs.Math.Dec.{eqb}
 use Rattle.millimetres.specs.Measured.{last_begun}
-use Rattle.bench_read.specs.Rows.{open_at, staged_of, field_at, swing_fed, times_fed, swing_blank, blank_in, blank_after}
+use Rattle.bench_read.specs.Rows.{open_at, fresh_at, staged_of, field_at, swing_fed, times_fed, swing_blank, blank_in, blank_after}
 use Rattle.bench_read.specs.Rows.{other_in, other_after, row_after}
 use Rattle.bench_read.specs.declared.rows.Stage.{Stage}
 use Rattle.bench_read.specs.declared.rows.Stage.TheVariants.{NothingYet, Begun, Returned, Spoilt}
 use Rattle.bench_read.specs.declared.rows.Field.{Field}
 use Rattle.bench_read.specs.declared.rows.Field.TheVariants.{Name, Swing, Times}
 use Rattle.bench_read.specs.declared.rows.Row.{Row}
-
--- nothing has come of the line
-unfoldable pub fresh_at : Stage → Bool
-fresh_at NothingYet = true
-fresh_at Begun = false
-fresh_at Returned = false
-fresh_at Spoilt = false
 
 pub begins : (r : Row) (b : ℕ) → fresh_at (row_after r b).stage ≡ false
 unfolding row_after staged_of fresh_at

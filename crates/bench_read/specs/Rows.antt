@@ -16,6 +16,13 @@ use Rattle.bench_read.specs.declared.rows.Row.{Row}
 use Rattle.bench_read.specs.declared.ends.Knee.{Knee}
 use Rattle.bench_read.specs.declared.ends.Peaks.{Peaks}
 
+-- nothing has come of the line
+unfoldable pub fresh_at : Stage → Bool
+fresh_at NothingYet = true
+fresh_at Begun = false
+fresh_at Returned = false
+fresh_at Spoilt = false
+
 -- no carriage return has come
 unfoldable pub open_at : Stage → Bool
 open_at NothingYet = true

@@ -1,6 +1,6 @@
 // What is known of a line that has not ended.
 ghost use Rattle.std.specs.Prelude.{◌≡◌};
-ghost use Rattle.bench_read.specs.Rows.{open_at, times_from, row_from, named, staged_of, field_at, swing_fed, times_fed};
+ghost use Rattle.bench_read.specs.Rows.{fresh_at, open_at, times_from, row_from, named, staged_of, field_at, swing_fed, times_fed};
 ghost use Rattle.bench_read.specs.Rows.{swing_blank, blank_after, other_after, row_after};
 ghost use Rattle.bench_read.specs.declared.rows.Field.TheVariants.{Name, Times};
 
@@ -79,6 +79,17 @@ pub fn peaks_start() -> Row
     ensures { result ≡ row_from Times }
 {
     row_from(Field::Times)
+}
+
+// Whether nothing has come of the line.
+#[tactic(auto, unfolding(crate::specs::Rows::fresh_at))]
+pub fn unbegun(r: Row) -> bool
+    ensures { result ≡ fresh_at r.stage }
+{
+    match r.stage {
+        Stage::NothingYet => true,
+        Stage::Begun | Stage::Returned | Stage::Spoilt => false,
+    }
 }
 
 // Whether the byte is one of the name.

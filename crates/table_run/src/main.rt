@@ -89,8 +89,7 @@ fn main(rt: HostRuntime) {
     let mut text = [0u8; PATH];
     let length = argument(rt, 1, &mut text);
     match tolerance_of(&text[..length]) {
-        Line::One(tolerance) => with_list(rt, tolerance),
-        Line::Three(_, _, _) => complain(rt),
-        Line::Bad => complain(rt),
+        Some(Line::One(tolerance)) => with_list(rt, tolerance),
+        Some(Line::Three(_, _, _)) | None => complain(rt),
     }
 }
