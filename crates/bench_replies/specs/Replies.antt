@@ -14,9 +14,9 @@ use Rattle.bench_write.specs.declared.said.Said.TheVariants.{Weighed, NoVerdict,
 use Rattle.bench_write.specs.declared.tallies.Tally.{Tally}
 
 -- what is said to a verdict or a decrement, or to a refusal
-unfoldable pub of_judged : Result Verdict ℕ → Said
+unfoldable pub of_judged : Result Verdict Refusal → Said
 of_judged (Ok v) = Weighed v
-of_judged (Err n) = NoVerdict n
+of_judged (Err r) = NoVerdict (refusal_number r)
 
 unfoldable pub of_decay : Result Float Refusal → Said
 of_decay (Ok x) = Decrement x

@@ -12,10 +12,10 @@ use Rattle.refusals.specs.declared.Refusal.{Refusal}
 use Rattle.bench_write.specs.Texts.{longest_reply, longest_of}
 use Rattle.bench_replies.specs.Replies.{of_judged, of_decay, knee_reply, peaks_reply, reply_of}
 
-judged_room : (j : Result Verdict ℕ) → longest_of (of_judged j) ≡ longest_reply
+judged_room : (j : Result Verdict Refusal) → longest_of (of_judged j) ≡ longest_reply
 unfolding longest_of of_judged
 judged_room (Ok v) = refl
-judged_room (Err n) = refl
+judged_room (Err r) = refl
 
 decay_room : (d : Result Float Refusal) → longest_of (of_decay d) ≡ longest_reply
 unfolding longest_of of_decay

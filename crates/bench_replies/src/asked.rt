@@ -9,12 +9,12 @@ use drag::{Verdict, judge};
 use refusals::Refusal;
 
 #[tactic(auto, unfolding(crate::specs::Replies::of_judged))]
-fn of_judged(judged: Result<Verdict, u32>) -> Said
+fn of_judged(judged: Result<Verdict, Refusal>) -> Said
     ensures { result ≡ of_judged judged }
 {
     match judged {
         Ok(verdict) => Said::Weighed(verdict),
-        Err(number) => Said::NoVerdict(number),
+        Err(refusal) => Said::NoVerdict(refusal.number()),
     }
 }
 

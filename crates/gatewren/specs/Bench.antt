@@ -12,26 +12,26 @@ word_of passes = cond passes 1 2
 unfoldable pub minus_of : Bool → ℕ
 minus_of quicker = cond quicker 1 0
 
-unfoldable pub judged_number : Result Verdict ℕ → ℕ
+unfoldable pub judged_number : Result Verdict Refusal → ℕ
 judged_number (Ok v) = 0
-judged_number (Err n) = n
+judged_number (Err r) = refusal_number r
 
 -- what stands in each place afterwards, and what stood there before
-unfoldable pub verdict_after : Result Verdict ℕ → ℕ → ℕ
+unfoldable pub verdict_after : Result Verdict Refusal → ℕ → ℕ
 verdict_after (Ok v) before = word_of v.passes
-verdict_after (Err n) before = before
+verdict_after (Err r) before = before
 
-unfoldable pub minus_after : Result Verdict ℕ → ℕ → ℕ
+unfoldable pub minus_after : Result Verdict Refusal → ℕ → ℕ
 minus_after (Ok v) before = minus_of v.quicker
-minus_after (Err n) before = before
+minus_after (Err r) before = before
 
-unfoldable pub excess_after : Result Verdict ℕ → ℕ → ℕ
+unfoldable pub excess_after : Result Verdict Refusal → ℕ → ℕ
 excess_after (Ok v) before = v.excess
-excess_after (Err n) before = before
+excess_after (Err r) before = before
 
-unfoldable pub period_after : Result Verdict ℕ → Float → Float
+unfoldable pub period_after : Result Verdict Refusal → Float → Float
 period_after (Ok v) before = v.period
-period_after (Err n) before = before
+period_after (Err r) before = before
 
 unfoldable pub decay_number : Result Float Refusal → ℕ
 decay_number (Ok x) = 0

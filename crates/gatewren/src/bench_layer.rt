@@ -7,6 +7,7 @@ ghost use Rattle.gatewren.specs.Bench.{word_of, minus_of, judged_number, verdict
 ghost use Rattle.gatewren.specs.Bench.{decay_number, decrement_after};
 
 use drag::Verdict;
+use refusals::Refusal;
 
 fn word(passes: bool) -> u32
     ensures { result ≡ word_of passes }
@@ -27,7 +28,7 @@ fn minus(quicker: bool) -> u32
 }
 
 fn told_verdict(
-    judged: Result<Verdict, u32>,
+    judged: Result<Verdict, Refusal>,
     verdict: &mut u32,
     below: &mut u32,
     excess: &mut u64,
@@ -47,7 +48,7 @@ fn told_verdict(
             *period = v.period;
             0
         }
-        Err(number) => number,
+        Err(refusal) => refusal.number(),
     }
 }
 

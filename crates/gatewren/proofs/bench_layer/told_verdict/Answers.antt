@@ -11,4 +11,4 @@ returns-in-Ok c =
 pub returns-in-Err : goal.returns-in-Err
 unfolding judged_number verdict_after minus_after excess_after period_after
 returns-in-Err c =
-    let e = c.in-Err.is in record { value = rw e; verdict_after = rw e; below_after = rw e; excess_after = rw e; period_after = rw e }
+    let e = c.in-Err.is in record { value = rw e c.number.ensures; verdict_after = rw e; below_after = rw e; excess_after = rw e; period_after = rw e }
