@@ -1,14 +1,11 @@
 -- What it is to meet our answer. Assumes nothing.
-use Rattle.std.specs.Prelude.{ℕ, ◌≤◌, ◌≡◌, refl, true, ◌&&◌, eqb, leb, Ok, Err}
-use Rattle.std.proofs.Common.{arith, eq-eqb, eqb-true, le-leb, leb-true}
+use Rattle.std.specs.Prelude.{ℕ, ◌≤◌, ◌≡◌, true, Ok, Err}
 use Rattle.std.specs.Float.{binary64}
 use Rattle.std.specs.Float.Ieee.{to_bits}
 use Rattle.refusals.specs.Numbers.{refusal_number}
+use Rattle.refusals.specs.Numbers.{refusal_number}
 use Rattle.distance.specs.Steps.{apart_of, finite_pattern}
-use Rattle.distance.proofs.StepLaws.{apart_self}
-use Rattle.carlson_arguments.proofs.DoorLaws.{both_true}
 use Rattle.carlson.specs.Answer.{Answer}
-use Rattle.claim.specs.Claims.{value_meets, refusal_meets, meets_of, own_claim}
 use Rattle.claim.specs.declared.meeting.Claim.{Claim}
 
 -- "each claim is the same refusal or a finite value within the tolerance of ours"

@@ -1,5 +1,4 @@
 -- What is known of a table after each row (document 02, 2026-11). Definitions only.
-use Rattle.refusals.specs.declared.Refusal.{Refusal}
 use Rattle.refusals.specs.declared.Refusal.TheVariants.{NumbersDiffer}
 use Rattle.std.specs.Prelude.{ℕ, Bool, cond}
 use Rattle.claim.specs.declared.rows.Checked.{Checked}

@@ -2,6 +2,7 @@
 use console::{say_bad, say_number};
 use refusals::Refusal;
 use report_read::{is_header, take_line};
+use report_text::LINES;
 use report_words::join_reports;
 use writing::{least, push};
 
@@ -9,8 +10,6 @@ pub const BLOCK: usize = 2048;
 
 // So much is held of a line; a report's has 556 bytes at most, with its end.
 pub const LINE: usize = 640;
-
-const LINES: usize = 192;
 
 // Which line may come next, 0 a header and 1 more than its number else; how many lines came, and how much is held of the next.
 #[derive(Clone, Copy)]

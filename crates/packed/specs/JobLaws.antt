@@ -257,6 +257,7 @@ module _ (l : List ℕ) (at : ℕ) (b : Bytes l) where
   unfolding read_at
   read_is got e = go (ltb at (length l)) refl e
     where
-      go : (t : Bool) → ltb at (length l) ≡ t → cond t (found (job_at l at)) (Ok None) ≡ Ok (Some got) → (at < length l) × Is l at got
+      go : (t : Bool) → ltb at (length l) ≡ t → cond t (found (job_at l at)) (Ok None) ≡ Ok (Some got)
+          → (at < length l) × Is l at got
       go true t e = (ltb-true at (length l) t, job_is got (was_found (job_at l at) got e))
       go false t e = let z : ◌≡◌ {A = ℕ} 0 1 = cc in absurd (omega arith)

@@ -79,7 +79,8 @@ argument_more l m g k h = go (ltb k (arity_of g.job.function)) h
         (λ e. h (ap (λ (n : Result Number Refusal). argument_read g.job k n) e)))
     go false h = refl
 
-after_more : (l m : List ℕ) (r : Result Got Refusal) (k : ℕ) → Uncut (argument_after l r k) → argument_after (l ++ m) r k ≡ argument_after l r k
+after_more : (l m : List ℕ) (r : Result Got Refusal) (k : ℕ) → Uncut (argument_after l r k)
+    → argument_after (l ++ m) r k ≡ argument_after l r k
 unfolding argument_after
 after_more l m (Ok g) k h = argument_more l m g k h
 after_more l m (Err n) k h = refl
@@ -155,7 +156,8 @@ from_next (suc left) w v at [] x next e = let z : ◌≡◌ {A = ℕ} 0 1 = cc i
 from_next (suc left) w v at (b ∷ xs) x next e = go (ltb b 128) e (from_next left (w * 128) (v + (b - 128) * w) (at + 1) xs x next)
   where
     go :
-        (t : Bool) → cond t (last_group w v (at + 1) b) (number_from left (w * 128) (v + (b - 128) * w) (at + 1) xs) ≡ whole x next
+        (t : Bool) → cond t (last_group w v (at + 1) b) (number_from left (w * 128) (v + (b - 128) * w) (at + 1) xs)
+        ≡ whole x next
         → (number_from left (w * 128) (v + (b - 128) * w) (at + 1) xs ≡ whole x next → next ≤ at + 1 + suc left)
         → next ≤ at + suc (suc left)
     go true e more = omega (arith, last_next w v (at + 1) b x next e)
@@ -178,7 +180,8 @@ argument_near : (l : List ℕ) (b : ℕ) (g : Got) (k : ℕ) → g.next ≤ b �
 unfolding argument_at argument_read
 argument_near l b g k h = go (ltb k (arity_of g.job.function)) (number_at l g.next) refl
   where
-    go : (t : Bool) (n : Result Number Refusal) → number_at l g.next ≡ n → Near l (b + 10) (cond t (argument_read g.job k n) (Ok g))
+    go : (t : Bool) (n : Result Number Refusal) → number_at l g.next ≡ n
+        → Near l (b + 10) (cond t (argument_read g.job k n) (Ok g))
     go true (Ok n) e = record {
       cut = λ f. let z : ◌≡◌ {A = ℕ} 0 1 = cc in absurd (omega arith);
       found = λ g' f. let y : ◌≡◌ {A = Got} (record { job = with_argument g.job k n.value; next = n.next }) g' = cc in

@@ -143,7 +143,9 @@ found_places k (Err r) = refl
 
 pub read_later_lem : (l : List ℕ) (k at : ℕ) → read_at l (k + at) ≡ read_later k (read_at (drop k l) at)
 unfolding read_at read_later
-read_later_lem l k at = rw (inside_later l k at, job_later l k at, found_places k (job_at (drop k l) at)) (go (ltb at (length (drop k l))))
+read_later_lem l k at =
+    rw (inside_later l k at, job_later l k at, found_places k (job_at (drop k l) at))
+    (go (ltb at (length (drop k l))))
   where
     go : (t : Bool) → cond t (read_later k (found (job_at (drop k l) at))) (Ok None)
         ≡ read_later k (cond t (found (job_at (drop k l) at)) (Ok None))

@@ -11,8 +11,8 @@ pub struct Job {
     pub d: u64,
 }
 
-// How many arguments the function of this number has; 0 for an unknown one. The numbers are the file's: a list may hold any, and it
-// is read and written as it stands.
+// How many arguments the function of this number has; 0 for an unknown one. It stays a number: it is the file's, and a list may
+// hold any.
 #[tactic(auto, unfolding(crate::specs::Jobs::arity_of))]
 pub fn arity(function: u64) -> usize
     ensures { result ≡ arity_of function }

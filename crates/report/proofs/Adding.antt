@@ -1,8 +1,7 @@
 -- A list's answers added job by job. Assumes nothing.
 use Prim.Native.Nat.{ℕ, ◌≤◌}
 use mathlib.Core.Path.{◌≡◌, refl, sym, ap, ◌∙◌}
-use mathlib.Core.List.{List, [], ◌∷◌}
-use borrow.Author.Tests.{eq-eqb, ne_eqb}
+use mathlib.Core.List.{List, ◌∷◌}
 use native.Mathlib.Omega.{arith}
 use lib.ListN.{length}
 use Rattle.packed_number.specs.NumberLaws.{Bytes}
@@ -13,7 +12,7 @@ use Rattle.packed.specs.declared.jobs.Job.{Job}
 use Rattle.packed.specs.declared.read.Got.{Got}
 use Rattle.worklist.specs.Count.{count_of}
 use Rattle.refusals.specs.declared.Refusal.{Refusal}
-use Rattle.std.specs.Prelude.{Bool, true, false, Option, Some, None, Result, Ok, Err}
+use Rattle.std.specs.Prelude.{true, false, Some, None, Result, Ok, Err}
 use Rattle.std.specs.Result.{is_ok}
 use Rattle.report_words.specs.Room.{list_judged}
 use Rattle.report.specs.Report.{job_added, jobs_added, jobs_of, report_judged, list_after}
@@ -37,7 +36,8 @@ adding_begins {before} {list} = record {
 }
 
 module _ {before list words : List ℕ} {place : ℕ} (a : Adding before list words place) where
-  pub adding_more : {got : Got} {after : List ℕ} → Bytes list → read_at list place ≡ Ok (Some got) → after ≡ job_added words got.job
+  pub adding_more : {got : Got} {after : List ℕ} → Bytes list → read_at list place ≡ Ok (Some got)
+      → after ≡ job_added words got.job
       → length after ≡ length words → Adding before list after got.next
   unfolding jobs_added
   adding_more {got} b e f h = record {
@@ -63,7 +63,8 @@ pub judged : (ws list : List ℕ) (c : Result ℕ Refusal) (r : Result (Unit {0}
 unfolding report_judged
 judged ws list c r e f = rw (← e) f
 
-pub all_added : (ws list : List ℕ) → is_ok (report_judged ws list) ≡ true → jobs_added ws (jobs_of (read_all list)) ≡ list_after ws list
+pub all_added : (ws list : List ℕ) → is_ok (report_judged ws list) ≡ true
+    → jobs_added ws (jobs_of (read_all list)) ≡ list_after ws list
 unfolding list_after
 all_added ws list e = rw e
 

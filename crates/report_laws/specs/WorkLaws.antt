@@ -206,7 +206,8 @@ module _ (ws list : List ℕ) where
           let f = list_numbers list (is ∙ ap (stopped js place) z) in absurd (omega (arith, f))
       go (jobs js) is e = (js, is, many (leb (calls_in_all ws + (0 + length js)) most_calls) refl e)
         where
-          many : (t : Bool) → leb (calls_in_all ws + (0 + length js)) most_calls ≡ t → cond t (Ok (tt {0})) (Err TooMany) ≡ Err TooMany
+          many : (t : Bool) → leb (calls_in_all ws + (0 + length js)) most_calls ≡ t
+              → cond t (Ok (tt {0})) (Err TooMany) ≡ Err TooMany
               → most_calls < calls_in_all ws + length js
           many true p e = let z : ◌≡◌ {A = ℕ} 0 1 = cc in absurd (omega arith)
           many false p e = let l = leb-false (calls_in_all ws + (0 + length js)) most_calls p in omega arith

@@ -6,10 +6,8 @@ ghost use Rattle.report_read.specs.Reading.{line_taken, answer_of, words_of};
 
 use crate::line::{is_tally, try_line};
 use listing_read::is_name;
-
-const WORDS: usize = 384;
-
-const LINES: usize = 192;
+use report_text::LINES;
+use report_words::WORDS;
 
 // "report 1"
 pub fn is_header(line: &[u8]) -> bool

@@ -2,10 +2,8 @@
 #![tactic(auto)]
 
 use console::written;
-use report_text::{put_header, put_line};
+use report_text::{LINES, put_header, put_line};
 use writing::OUT;
-
-const LINES: usize = 192;
 
 // All its lines go into one buffer: they are some twelve thousand bytes at most.
 pub fn say_report(rt: HostRuntime, words: &[u64; 384], out: &mut [u8; OUT]) -> bool {

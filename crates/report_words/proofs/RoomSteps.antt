@@ -68,7 +68,8 @@ pub both_left : (ws os : List ℕ) (left : ℕ) → room_after 4294967295 ws ≡
 unfolding room_both
 both_left ws os left e =
     let f = for_left ws 4294967295 left e in
-    some_room os left ∙ same_leb (calls_in_all os) left (calls_in_all ws + calls_in_all os) 4294967295 (λ h. omega arith) (λ h. omega arith)
+    some_room os left
+    ∙ same_leb (calls_in_all os) left (calls_in_all ws + calls_in_all os) 4294967295 (λ h. omega arith) (λ h. omega arith)
 
 pub both_over : (ws os : List ℕ) → room_after 4294967295 ws ≡ None → false ≡ room_both ws os
 unfolding room_both

@@ -7,7 +7,8 @@ use crate::place::BLOCK;
 
 const FUNCTIONS: usize = 6;
 
-// What is left of `room` calls after those of a report; None where there are more calls already. Words in another number hold none.
+// What is left of `room` calls after those of a report; None where there are more calls already. Words in another number hold
+// none.
 pub fn room_after(room: u64, report: &[u64]) -> Option<u64>
     ensures { result ≡ room_after room report.now }
 {

@@ -13,7 +13,6 @@ use Rattle.packed.specs.Reading.{Jobs, jobs, stopped, read_all}
 use Rattle.packed.specs.declared.jobs.Job.{Job}
 use Rattle.answers.specs.Answers.{answer_of}
 use Rattle.job_answers.specs.JobAnswers.{call_of_job}
-use Rattle.claim.specs.Claims.{own_claim}
 use Rattle.claim.specs.ClaimLaws.{Finite}
 use Rattle.claim.proofs.ClaimLaws.{meets_wider, own_meets}
 use Rattle.claim.specs.declared.meeting.Claim.{Claim}
@@ -89,7 +88,8 @@ claims_length (suc n) (k ∷ w ∷ words) h = ap suc (claims_length n words (ome
 -- ---- THE LAWS
 module _ (t : ℕ) (list words : List ℕ) where
   -- "the work list's own" refusals come first
-  pub list_first : {js : List Job} {place : ℕ} {n : Refusal} → read_all list ≡ stopped js place n → check_of t list words ≡ Refused n
+  pub list_first : {js : List Job} {place : ℕ} {n : Refusal} → read_all list ≡ stopped js place n
+      → check_of t list words ≡ Refused n
   unfolding check_of table_of
   list_first e = rw e
 

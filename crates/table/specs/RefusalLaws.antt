@@ -1,26 +1,9 @@
 -- A list's own refusals are 14, 15 and 16, so that 22 is never one of them. Assumes nothing.
-use Rattle.std.specs.Prelude.{ℕ, zero, suc, ◌+◌, ◌-◌, ◌*◌, ◌≤◌, ◌≡◌, List, Option, Some, None, Result, Ok, Err, [], ◌∷◌, eqb, ltb, length, drop}
+use Rattle.std.specs.Prelude.{ℕ, zero, suc, ◌+◌, ◌-◌, ◌*◌, ◌≤◌, ◌≡◌, List, Some, None, Result, Ok, Err, [], ◌∷◌, eqb, ltb, length, drop}
 use Rattle.std.proofs.Common.{subst, arith}
 use Rattle.packed_number.specs.Numbers.{last_group, number_from, number_at}
 use Rattle.packed.specs.Jobs.{arity_of}
-use Rattle.packed.specs.Reading.{
-  begun,
-  function_read,
-  argument_read,
-  argument_at,
-  argument_after,
-  job_at,
-  Read,
-  found,
-  read_at,
-  Jobs,
-  jobs,
-  stopped,
-  with_job,
-  read_on,
-  read_from,
-  read_all,
-}
+use Rattle.packed.specs.Reading.{function_read, argument_read, argument_at, argument_after, job_at, Read, found, read_at, Jobs, jobs, stopped, with_job, read_on, read_from, read_all}
 use Rattle.packed_number.specs.declared.Number.{Number}
 use Rattle.packed.specs.declared.read.Got.{Got}
 use Rattle.packed.specs.declared.jobs.Job.{Job}

@@ -1,5 +1,4 @@
 -- What is right of a table (document 02, 2026-11). Definitions only.
-use Rattle.refusals.specs.declared.Refusal.{Refusal}
 use Rattle.refusals.specs.declared.Refusal.TheVariants.{NumbersDiffer}
 use Rattle.std.specs.Prelude.{ℕ, ◌+◌, ◌*◌, Bool, cond, List, [], ◌∷◌, eqb, length}
 use Rattle.packed.specs.Reading.{Jobs, jobs, stopped, read_all}

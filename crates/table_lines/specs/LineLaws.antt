@@ -1,5 +1,4 @@
 -- Row by row, the lines of a listing give what the definition says of all. Assumes nothing.
-use Rattle.refusals.specs.declared.Refusal.{Refusal}
 use Rattle.refusals.specs.declared.Refusal.TheVariants.{NumbersDiffer}
 use Rattle.std.specs.Prelude.{ℕ, suc, ◌+◌, ◌≤◌, ◌<◌, ◌≡◌, refl, Bool, true, false, cond, List, [], ◌∷◌, eqb, length, take}
 use Rattle.std.proofs.Common.{ap, ◌∙◌, arith, lt-ltb}

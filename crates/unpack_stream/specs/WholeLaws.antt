@@ -98,7 +98,8 @@ ends_there h b got bytes w e = ⊎_elim inside (λ k. omega (arith, all, size)) 
         (λ z. let y : ◌≡◌ {A = ℕ} 0 1 = cc in absurd (omega arith)) w
 
 -- the first job is refused
-refused_first : (l : List ℕ) (most : ℕ) (n : Refusal) → read_at l 0 ≡ Err n → quiet (refused n) ≡ unpack_of (read_from (suc most) l 0)
+refused_first : (l : List ℕ) (most : ℕ) (n : Refusal) → read_at l 0 ≡ Err n
+    → quiet (refused n) ≡ unpack_of (read_from (suc most) l 0)
 unfolding read_from read_on unpack_of lines_of
 refused_first l most n e = rw e
 

@@ -45,7 +45,8 @@ module _ {list : List ℕ} {n place : ℕ} (c : Counting list n place) where
   unfolding count_of
   counting_refused e = sym (ap (count_of n) (rest_refused list place e)) ∙ c.rest
 
-  pub counting_ended : (o : Option Got) → read_at list place ≡ Ok o → ((got : Got) → o ≡ Some got → ⊥) → Ok n ≡ count_of 0 (read_all list)
+  pub counting_ended : (o : Option Got) → read_at list place ≡ Ok o → ((got : Got) → o ≡ Some got → ⊥)
+      → Ok n ≡ count_of 0 (read_all list)
   unfolding count_of
   counting_ended (Some got) e none = absurd (none got refl)
   counting_ended None e none =

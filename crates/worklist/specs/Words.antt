@@ -43,7 +43,8 @@ read_words (Ok None) before = before
 read_words (Err r) before = before
 
 -- ---- both at once
-pub record WroteAs (w : Result ℕ Refusal) (before : List ℕ) (place : ℕ) (j : Job) (bytes : List ℕ) (next number : ℕ) : Type 0 where
+pub record WroteAs (w : Result ℕ Refusal) (before : List ℕ) (place : ℕ) (j : Job) (bytes : List ℕ) (next number : ℕ)
+    : Type 0 where
   pub number_is : number ≡ written_number w
   pub place_is : next ≡ written_place w place
   pub bytes_are : bytes ≡ bytes_after w before place j

@@ -1,4 +1,5 @@
-// A job as five words in a row: its function's number, then four arguments. The two functions are what C sees, so they give numbers.
+// A job as five words in a row: its function's number, then four arguments. The two functions are what C sees, so they give
+// numbers.
 ghost use Rattle.packed.specs.Reading.{read_at};
 ghost use Rattle.worklist.specs.Words.{WriteWords, ReadWords};
 

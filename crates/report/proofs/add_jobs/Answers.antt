@@ -1,7 +1,7 @@
 -- `add_jobs` meets its contract, by `Adding`. Assumes nothing.
 use Rattle.std.proofs.Common.{ℕ, ◌≡◌, sym, ap, ◌∙◌, arith}
-use Rattle.std.specs.Prelude.{Option, Some, None, Result, Ok, Err}
-use Rattle.packed.specs.Reading.{Read, read_at}
+use Rattle.std.specs.Prelude.{Option, Some, None, Ok}
+use Rattle.packed.specs.Reading.{read_at}
 use Rattle.packed.specs.RestLaws.{bytes_all, found_later}
 use Rattle.packed.specs.declared.read.Got.{Got}
 use Rattle.report.proofs.Adding.{adding_begins, adding_more, adding_ended}
@@ -18,11 +18,13 @@ read c = sym c.read_job.ensures ∙ c.in-Ok-Some.is ∙ ap (λ (o : Option Got).
 pub loop-got-smaller : goal.loop-got-smaller
 loop-got-smaller c =
     let l = c.args.list.now in
-    omega (arith, found_later l c.loop-got.place c.in-Ok-Some.got (bytes_all l (λ k. omega (arith, c.type_inv.list k))) (read (goal.at.loop-got-smaller c).In-Ok-Some))
+    omega (arith, found_later l c.loop-got.place c.in-Ok-Some.got (bytes_all l (λ k. omega (arith, c.type_inv.list k)))
+        (read (goal.at.loop-got-smaller c).In-Ok-Some))
 
 pub loop-got-preserved : goal.loop-got-preserved
 loop-got-preserved c =
-    adding_more c.loop-got.invariant (bytes_all c.args.list.now (λ k. omega (arith, c.type_inv.list k))) (read (goal.at.loop-got-preserved c).In-Ok-Some)
+    adding_more c.loop-got.invariant (bytes_all c.args.list.now (λ k. omega (arith, c.type_inv.list k)))
+    (read (goal.at.loop-got-preserved c).In-Ok-Some)
     c.add_job.ensures (omega arith)
 
 pub returns-in_default : goal.returns-in_default

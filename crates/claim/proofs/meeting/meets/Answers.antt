@@ -1,6 +1,4 @@
 -- `meets` meets its contract, case by case as its definition. Assumes nothing.
-use Rattle.std.proofs.Common.{sym}
-use borrow.Author.Rules.{rules}
 use Rattle.claim.specs.Claims.{meets_of}
 use Rattle.claim.proofs.meeting.meets.Goals as goal
 

@@ -3,7 +3,6 @@ use Prim.Native.Nat.{ℕ, ◌+◌, ◌-◌, ◌≤◌}
 use mathlib.Core.Path.{◌≡◌}
 use mathlib.Core.List.{List}
 use native.Mathlib.Omega.{arith}
-use borrow.Author.Rules.{rules}
 use borrow.Author.Tests.{ne_eqb, le-ltb}
 use lib.ListN.{length}
 use Rattle.calls.specs.Calls.{number_of}
@@ -47,7 +46,8 @@ put l out at next c j w h e f g k =
     let z : next ≡ at + job_length (job_of c) = cc in
     record { bytes = rw (k, e) at g; place = z }
 
-never : (l at : ℕ) (n : Refusal) (c : Call) (j : Job) (w : Result ℕ Refusal) {P : Type 0} → at + job_room ≤ l → j ≡ job_of c → w ≡ write_at l at j
+never : (l at : ℕ) (n : Refusal) (c : Call) (j : Job) (w : Result ℕ Refusal) {P : Type 0} → at + job_room ≤ l
+    → j ≡ job_of c → w ≡ write_at l at j
     → w ≡ Err n → P
 never l at n c j w h e f g =
     let m : write_at l at j ≡ Ok (at + job_length (job_of c)) = rw e (fits l at c h) in

@@ -4,7 +4,6 @@ use Prim.Native.Nat.{ℕ}
 use mathlib.Core.Path.{◌≡◌, refl, sym, ◌∙◌}
 use mathlib.Core.Bool.{true, false}
 use mathlib.Core.List.{List, []}
-use borrow.Author.Rules.{rules}
 use Rattle.calls.specs.declared.Call.{Call}
 use Rattle.packed.specs.Jobs.{job_bytes}
 use Rattle.writing.specs.Written.{Put, put_none}

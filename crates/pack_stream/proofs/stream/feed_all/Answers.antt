@@ -1,14 +1,14 @@
 -- `feed_all` meets its contract. The invariant: what was fed so far is the block's beginning, and no line in it was bad.
 -- Assumes nothing.
-use Prim.Native.Nat.{ℕ, ◌+◌, ◌-◌, ◌*◌, ◌^◌, ◌≤◌, ◌<◌}
+use Prim.Native.Nat.{ℕ, ◌+◌, ◌*◌, ◌^◌, ◌≤◌, ◌<◌}
 use mathlib.Core.Path.{◌≡◌, refl, sym, ◌∙◌}
 use mathlib.Core.Bool.{false}
 use mathlib.Core.List.{List}
 use native.Mathlib.Omega.{arith}
 use lib.ListN.{length, take}
-use Rattle.writing.specs.FedLaws.{Upto, upto_none, upto_byte, upto_all, upto_stop}
+use Rattle.writing.specs.FedLaws.{upto_none, upto_byte, upto_all, upto_stop}
 use Rattle.writing.specs.Written.{put_length}
-use Rattle.pack_stream.specs.Pack.{holding, pack_byte, held_length, job_room, state_of}
+use Rattle.pack_stream.specs.Pack.{pack_byte, held_length, job_room}
 use Rattle.pack_stream.specs.declared.stream.Progress.{Progress}
 use Rattle.pack_stream.proofs.Bounds.{byte_short}
 use Rattle.pack_stream.proofs.stream.feed_all.Goals as goal

@@ -1,15 +1,12 @@
 -- What stays so in the loop.
-use Prim.Native.Nat.{ℕ, ◌+◌, ◌-◌, ◌*◌, ◌^◌, ◌≤◌, ◌<◌}
-use mathlib.Core.Path.{◌≡◌, refl, sym, ◌∙◌}
+use Prim.Native.Nat.{ℕ, ◌≤◌}
+use mathlib.Core.Path.{◌≡◌}
 use mathlib.Core.Bool.{false}
 use mathlib.Core.List.{List}
-use native.Mathlib.Omega.{arith}
 use lib.ListN.{length, take}
-use Rattle.writing.specs.FedLaws.{Upto, upto_none, upto_byte, upto_all, upto_stop}
-use Rattle.writing.specs.Written.{put_length}
+use Rattle.writing.specs.FedLaws.{Upto}
 use Rattle.pack_stream.specs.Pack.{holding, pack_byte, held_length, job_room, state_of}
 use Rattle.pack_stream.specs.declared.stream.Progress.{Progress}
-use Rattle.pack_stream.proofs.Bounds.{byte_short}
 use Rattle.pack_stream.proofs.stream.feed_all.Given as goal
 
 -- the block's first i bytes were fed, from what was held, and brought it there

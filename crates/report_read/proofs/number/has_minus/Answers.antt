@@ -1,11 +1,7 @@
 -- `has_minus` meets its contract. Assumes nothing.
-use Prim.Native.Nat.{◌-◌, ◌≤◌}
-use mathlib.Core.Path.{◌≡◌, refl, sym, ◌∙◌}
-use lib.ListN.{length, drop}
-use Rattle.report_read.specs.Reading.{has_minus}
+use mathlib.Core.Path.{refl, sym, ◌∙◌}
 use native.Mathlib.Omega.{arith}
 use Rattle.report_read.proofs.Numbers.{minus_here, minus_on, minus_none}
-use borrow.Author.Rules.{rules}
 use Rattle.report_read.proofs.number.has_minus.Goals as goal
 
 pub loop-b-init : goal.loop-b-init

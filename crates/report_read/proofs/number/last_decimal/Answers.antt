@@ -1,11 +1,8 @@
 -- `last_decimal` meets its contract. Assumes nothing.
-use Prim.Native.Nat.{◌-◌, ◌^◌, ◌≤◌}
-use mathlib.Core.Path.{◌≡◌, refl, sym, ◌∙◌}
-use lib.ListN.{length, drop}
-use Rattle.report_read.specs.Reading.{trailing}
+use Prim.Native.Nat.{◌^◌}
+use mathlib.Core.Path.{refl, sym, ◌∙◌}
 use native.Mathlib.Omega.{arith}
 use Rattle.report_read.proofs.Numbers.{trailing_on, trailing_all}
-use borrow.Author.Rules.{rules}
 use Rattle.report_read.proofs.number.last_decimal.Goals as goal
 
 pub loop-b-init : goal.loop-b-init

@@ -1,11 +1,8 @@
 -- What stays so in the loop.
-use Prim.Native.Nat.{◌-◌, ◌^◌, ◌≤◌}
-use mathlib.Core.Path.{◌≡◌, refl, sym, ◌∙◌}
-use lib.ListN.{length, drop}
+use Prim.Native.Nat.{◌^◌}
+use mathlib.Core.Path.{◌≡◌}
+use lib.ListN.{drop}
 use Rattle.report_read.specs.Reading.{trailing}
-use native.Mathlib.Omega.{arith}
-use Rattle.report_read.proofs.Numbers.{trailing_on, trailing_all}
-use borrow.Author.Rules.{rules}
 use Rattle.report_read.proofs.number.last_decimal.Given as goal
 
 abbrev pub invariant-loop-b : goal.invariant-loop-b

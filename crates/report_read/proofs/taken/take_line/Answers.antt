@@ -1,11 +1,8 @@
 -- `take_line` meets its contract. Assumes nothing.
-use Prim.Native.Nat.{◌-◌}
-use mathlib.Core.Path.{◌≡◌, refl, sym, ap, ◌∙◌}
+use mathlib.Core.Path.{refl, sym, ap, ◌∙◌}
 use lib.ListN.{length}
-use Rattle.report_read.specs.Reading.{take_line}
 use native.Mathlib.Omega.{arith}
 use Rattle.report_read.proofs.Tries.{no_report, takes_bad, takes_found, takes_none, take_spent, stays, goes_on}
-use borrow.Author.Rules.{rules}
 use Rattle.report_read.proofs.taken.take_line.Goals as goal
 
 pub returns-then-words-ne-WORDS : goal.returns-then-words-ne-WORDS

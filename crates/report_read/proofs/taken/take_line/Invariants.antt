@@ -1,11 +1,8 @@
 -- What stays so in the loop.
 use Prim.Native.Nat.{◌-◌}
-use mathlib.Core.Path.{◌≡◌, refl, sym, ap, ◌∙◌}
+use mathlib.Core.Path.{◌≡◌}
 use lib.ListN.{length}
 use Rattle.report_read.specs.Reading.{take_line}
-use native.Mathlib.Omega.{arith}
-use Rattle.report_read.proofs.Tries.{no_report, takes_bad, takes_found, takes_none, take_spent, stays, goes_on}
-use borrow.Author.Rules.{rules}
 use Rattle.report_read.proofs.taken.take_line.Given as goal
 
 abbrev pub invariant-loop-k : goal.invariant-loop-k

@@ -46,11 +46,13 @@ bytes_all : (l : List ℕ) → ((k : ℕ) → get_or l k 0 < 256) → Bytes l
 bytes_all [] h = tt
 bytes_all (b ∷ l) h = (h 0, bytes_all l (λ k. h (suc k)))
 
-is-ahead : (bytes : List ℕ) (i n : ℕ) (got : Got) → ahead_at bytes i n ≡ Ok (Some got) → (n ≡ 0) × (read_at bytes i ≡ Ok (Some got))
+is-ahead : (bytes : List ℕ) (i n : ℕ) (got : Got) → ahead_at bytes i n ≡ Ok (Some got)
+    → (n ≡ 0) × (read_at bytes i ≡ Ok (Some got))
 unfolding ahead_at
 is-ahead bytes i n got = go (eqb n 0) refl
   where
-    go : (t : Bool) → eqb n 0 ≡ t → cond t (read_at bytes i) (Ok None) ≡ Ok (Some got) → (n ≡ 0) × (read_at bytes i ≡ Ok (Some got))
+    go : (t : Bool) → eqb n 0 ≡ t → cond t (read_at bytes i) (Ok None) ≡ Ok (Some got)
+        → (n ≡ 0) × (read_at bytes i ≡ Ok (Some got))
     go true e f = (eqb-true n 0 e, f)
     go false e f = let z : ◌≡◌ {A = ℕ} 0 1 = cc in absurd (omega arith)
 
@@ -102,8 +104,13 @@ returns-in_default c =
 
 pub overflow_sub-result : goal.overflow_sub-result
 overflow_sub-result c =
-    omega (arith, (long _ _ _ _ (good (goal.at.overflow_sub-result c).After-ahead) (sym c.ahead.ensures ∙ c.in-Ok-Some.is ∙ ap (λ (o : Option Got). Ok o) c.in-Ok-Some.field-0-is)).0)
+    omega (
+      arith,
+      (long _ _ _ _ (good (goal.at.overflow_sub-result c).After-ahead)
+          (sym c.ahead.ensures ∙ c.in-Ok-Some.is ∙ ap (λ (o : Option Got). Ok o) c.in-Ok-Some.field-0-is)).0,
+    )
 
 pub returns : goal.returns
 returns c =
-    leaps _ _ _ _ (good (goal.at.returns c).After-ahead) (sym c.ahead.ensures ∙ c.in-Ok-Some.is ∙ ap (λ (o : Option Got). Ok o) c.in-Ok-Some.field-0-is) _ _ _ _ _ _ c.put_job_text.ensures
+    leaps _ _ _ _ (good (goal.at.returns c).After-ahead)
+    (sym c.ahead.ensures ∙ c.in-Ok-Some.is ∙ ap (λ (o : Option Got). Ok o) c.in-Ok-Some.field-0-is) _ _ _ _ _ _ c.put_job_text.ensures
