@@ -13,10 +13,8 @@ use writing::least;
 // A number in decimal.
 pub fn tolerance_of(text: &[u8]) -> Line {
     let mut read = start();
-    let mut i = 0;
-    while i < text.len() {
-        read = step(read, text[i]);
-        i += 1;
+    for b in text {
+        read = step(read, *b);
     }
     close(read)
 }
@@ -72,13 +70,11 @@ pub fn check(
     let mut block = [0u8; BLOCK];
     let mut held = [0u8; ROW];
     let mut so = Checked::Accepted;
-    let mut row: u64 = 0;
     let mut stands = jobs_in::begin();
     let mut meter = progress::begin(rt, wanted, list);
     let mut rows = first_line(rt, claims, &mut block, &mut held);
     // A proved loop has to end, and nothing says that the list does: so many turns no run uses up.
-    let mut turns = u64::MAX;
-    while turns > 0 {
+    for row in 0..u64::MAX {
         if rows.failed {
             return Ended::Failed;
         }
@@ -94,8 +90,6 @@ pub fn check(
             Pulled::Refused(number) => return Ended::With(Checked::Refused(number)),
             Pulled::Failed => return Ended::Failed,
         }
-        row = std::num::wrapping_add_u64(row, 1);
-        turns -= 1;
     }
     Ended::Failed
 }
