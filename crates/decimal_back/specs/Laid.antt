@@ -121,7 +121,8 @@ module _ (m : Bool) (f : Figures) (w : ℕ) (F : f.digits ≤ 20) where
         phase = Places;
         figures = o;
         goes = goes_on (point_goes m false f 0 0 w)
-            (subst (λ (x : ℕ). Goes (at Point m f 0 false 0) w (digits 10 (suc k) c) (at Places m o x false 0) (w * 10 ^ suc k + c)) j
+            (subst
+            (λ (x : ℕ). Goes (at Point m f 0 false 0) w (digits 10 (suc k) c) (at Places m o x false 0) (w * 10 ^ suc k + c)) j
             (digits_goes m false 0 (after_point m false 0) (after m false 0) f 0 w k c C (omega arith) (omega arith)));
         power = places_e m false o (suc k) 0 (w * 10 ^ suc k + c);
         ended = refl;
@@ -138,7 +139,8 @@ abbrev tens_text : Bool → List ℕ → List ℕ
 tens_text b l = cond b (45 ∷ []) [] ++ l
 
 module _ (m : Bool) (f : Figures) (j w : ℕ) where
-  power_digits : (b : Bool) (n : ℕ) → n < 1000 → Goes (at Power m f j false 0) w (tens_text b (decimal 9 n)) (at PowerDigits m f j b n) w
+  power_digits : (b : Bool) (n : ℕ) → n < 1000
+      → Goes (at Power m f j false 0) w (tens_text b (decimal 9 n)) (at PowerDigits m f j b n) w
   unfolding decimal
   power_digits b n h =
       subst (λ (p : ℕ). Goes (at Power m f j false 0) w (tens_text b (digits 10 p n)) (at PowerDigits m f j b n) w) (sym c.is) (go b)

@@ -11,7 +11,8 @@ use Rattle.decimal_read.specs.Scanned.{ended_at, scanned_from}
 -- ---- a byte more, and the end
 scanned_next : (l : List ℕ) (s : Scan) (i : ℕ) → i < length l
     → scanned_from s i (drop i l)
-    ≡ cond (is_bad (byte_after s (get_or l i 0)).phase) (Err (NoNumber i)) (scanned_from (byte_after s (get_or l i 0)) (i + 1) (drop (i + 1) l))
+    ≡ cond (is_bad (byte_after s (get_or l i 0)).phase) (Err (NoNumber i))
+    (scanned_from (byte_after s (get_or l i 0)) (i + 1) (drop (i + 1) l))
 unfolding scanned_from
 scanned_next l s i h = rw (drop-cons l i 0 h, add-one)
 

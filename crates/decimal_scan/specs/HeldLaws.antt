@@ -82,7 +82,8 @@ unfolding sign_after at_phase
 sign_keeps s b = go (is_power s.phase)
   where
     go : (t : Bool)
-        → (cond t (record { phase = PowerSign; minus = s.minus; figures = s.figures; places = s.places; below = b; tens = s.tens })
+        → (cond t
+        (record { phase = PowerSign; minus = s.minus; figures = s.figures; places = s.places; below = b; tens = s.tens })
         (at_phase s Bad)).figures
         ≡ s.figures
     go true = refl
@@ -168,7 +169,8 @@ module _ (s : Scan) (w : ℕ) (h : Held w s.figures) where
     where
       go : (t : Bool) → of_whole s.phase ≡ t → (u : Bool) → of_number s.phase ≡ u
           → is_bad (cond t (digit_after s d 0 Digits) (cond u (digit_after s d 1 Places) (tens_after s d))).phase ≡ false
-          → Held (cond u (w * 10 + d) w) (cond t (digit_after s d 0 Digits) (cond u (digit_after s d 1 Places) (tens_after s d))).figures
+          → Held (cond u (w * 10 + d) w)
+          (cond t (digit_after s d 0 Digits) (cond u (digit_after s d 1 Places) (tens_after s d))).figures
       go true e true g n = digit_held d 0 Digits D n
       go true e false g n = absurd (true≢false (sym (whole_number s.phase e) ∙ g))
       go false e true g n = digit_held d 1 Places D n

@@ -95,7 +95,8 @@ tens_after s d =
 
 -- a digit, by where it stands
 unfoldable pub figure_after : Scan → ℕ → Scan
-figure_after s d = cond (of_whole s.phase) (digit_after s d 0 Digits) (cond (of_number s.phase) (digit_after s d 1 Places) (tens_after s d))
+figure_after s d =
+    cond (of_whole s.phase) (digit_after s d 0 Digits) (cond (of_number s.phase) (digit_after s d 1 Places) (tens_after s d))
 
 -- the sign of the power
 unfoldable pub sign_after : Scan → Bool → Scan

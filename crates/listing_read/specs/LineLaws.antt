@@ -75,7 +75,8 @@ word_is l i x h e = go (eqb (get_or l i 0) 32) refl e
         f ∙ rw (eqb-true (get_or l i 0) 32 t, w, ← r, take-append-drop)
     go false t e = cc
 
-words_are : (n : ℕ) (l : List ℕ) (i : ℕ) (xs : List ℕ) → i + n * 17 ≡ length l → words_at n l i ≡ Some xs → drop i l ≡ word_texts xs
+words_are : (n : ℕ) (l : List ℕ) (i : ℕ) (xs : List ℕ) → i + n * 17 ≡ length l → words_at n l i ≡ Some xs
+    → drop i l ≡ word_texts xs
 unfolding words_at word_texts
 words_are zero l i [] h e = drop_of_length-le l {i = i} (omega arith)
 words_are zero l i (x ∷ xs) h e = cc
@@ -115,7 +116,8 @@ same_own (a ∷ l) = rw (eq-eqb a a refl, same_own l)
 abbrev Fits : List ℕ → Option (List ℕ) → Call → Type 0
 Fits name ws c = (name ≡ name_of c) × (ws ≡ Some (arguments_of c))
 
-tried : (name : List ℕ) (a c : Call) (ws : Option (List ℕ)) (rest : Option Call) → ws ≡ Some (arguments_of a) → (rest ≡ Some c → Fits name ws c)
+tried : (name : List ℕ) (a c : Call) (ws : Option (List ℕ)) (rest : Option Call) → ws ≡ Some (arguments_of a)
+    → (rest ≡ Some c → Fits name ws c)
     → called_by name a rest ≡ Some c → Fits name ws c
 tried name a c ws rest f g e = go (same name (name_of a)) refl e
   where

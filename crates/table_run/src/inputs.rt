@@ -11,8 +11,12 @@ use table_lines::{is_header, judged_line};
 use writing::least;
 
 // A number in decimal.
-pub fn tolerance_of(text: &[u8]) -> Option<Line> {
-    close(text.iter().fold(Some(start()), |read, b| step(read, *b)))
+pub fn tolerance_of(text: &[u8]) -> Line {
+    let mut read = start();
+    for b in text {
+        read = step(read, *b);
+    }
+    close(read)
 }
 
 fn headed(rows: Rows, held: &[u8]) -> bool {
@@ -66,12 +70,11 @@ pub fn check(
     let mut block = [0u8; BLOCK];
     let mut held = [0u8; ROW];
     let mut so = Checked::Accepted;
-    let mut row: u64 = 0;
     let mut stands = jobs_in::begin();
     let mut meter = progress::begin(rt, wanted, list);
     let mut rows = first_line(rt, claims, &mut block, &mut held);
     // A proved loop has to end, and nothing says that the list does: so many turns no run uses up.
-    for _ in 0..u64::MAX {
+    for row in 0..u64::MAX {
         if rows.failed {
             return Ended::Failed;
         }
@@ -86,7 +89,6 @@ pub fn check(
             Pulled::Refused(refusal) => return Ended::With(Checked::Refused(refusal)),
             Pulled::Failed => return Ended::Failed,
         }
-        row = std::num::wrapping_add_u64(row, 1);
     }
     Ended::Failed
 }

@@ -1,4 +1,5 @@
--- What stays so in the loop: there is room for the digits so far, and those that are left give, after their number, what all give.
+-- What stays so in the loop: there is room for the digits so far, and those that are left give, after their number, what all
+-- give.
 use Rattle.std.proofs.Common.{◌≡◌, ◌^◌, ◌<◌, drop}
 use Rattle.digits.specs.Digits.{number_from}
 use Rattle.digits.proofs.number.Given as goal

@@ -12,12 +12,14 @@ loop-i-init c = rw c.start-s.ensures
 
 pub returns-then-is_bad : goal.returns-then-is_bad
 returns-then-is_bad c =
-    sym (scanned_bad c.args.text.now c.loop-i.s _ c.loop-i.i (omega arith) c.step-s.ensures (sym c.is_bad.ensures ∙ c.if-is_bad.true))
+    let told = sym c.is_bad.ensures ∙ c.if-is_bad.true in
+    sym (scanned_bad c.args.text.now c.loop-i.s _ c.loop-i.i (omega arith) c.step-s.ensures told)
     ∙ c.loop-i.invariant
 
 pub loop-i-preserved : goal.loop-i-preserved
 loop-i-preserved c =
-    sym (scanned_on c.args.text.now c.loop-i.s _ c.loop-i.i (omega arith) c.step-s.ensures (sym c.is_bad.ensures ∙ c.if-is_bad.false))
+    let told = sym c.is_bad.ensures ∙ c.if-is_bad.false in
+    sym (scanned_on c.args.text.now c.loop-i.s _ c.loop-i.i (omega arith) c.step-s.ensures told)
     ∙ c.loop-i.invariant
 
 -- no byte is left

@@ -10,7 +10,8 @@ use Rattle.writing.specs.Written.{Put, put_none}
 use Rattle.pack_stream.specs.Pack.{job_of, line_end, Packs}
 use Rattle.pack_stream.proofs.stream.ended.Goals as goal
 
-good : (r : Option Call) (c : Call) (before out : List ℕ) (at next : ℕ) → r ≡ Some c → Put before at (job_bytes (job_of c)) out next
+good : (r : Option Call) (c : Call) (before out : List ℕ) (at next : ℕ) → r ≡ Some c
+    → Put before at (job_bytes (job_of c)) out next
     → Packs (line_end r) [] before at out (record { held = 0; used = next; lines = 1; bad = false })
 unfolding line_end
 good r c before out at next e p = rw e (record { left = refl; said = p; counted = refl })
