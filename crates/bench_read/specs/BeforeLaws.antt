@@ -6,7 +6,8 @@ use Rattle.std.proofs.Common.{sym, ap, subst, ◌∙◌, true≢false, arith, lt
 use Rattle.std.proofs.Math.Bool.{true, false}
 use mathlib.Core.List.{List, [], ◌∷◌}
 use Rattle.std.proofs.Math.Dec.{eqb}
-use Rattle.swing_read.specs.Reading.{start_of, ending, blank_after as blankRead, figure_of, longer_value, longer_after, zero_alone}
+use Rattle.swing_read.specs.Reading.{start_of, ending, blank_after as blankRead, figure_of, longer_value, longer_after}
+use Rattle.swing_read.specs.Reading.{zero_alone}
 use Rattle.swing_read.specs.Reading.{digit_after, byte_after, line_of}
 use Rattle.swing_read.specs.ReadingLaws.{at}
 use Rattle.swing_read.specs.declared.Ended.{Ended}
@@ -14,13 +15,15 @@ use Rattle.swing_read.specs.declared.Ended.TheVariants.{NoneYet, First, Second}
 use Rattle.swing_read.specs.declared.Reading.{Reading}
 use Rattle.swing_read.specs.declared.Line.{Line}
 use Rattle.swing_read.specs.declared.Line.TheVariants.{One, Three}
-use Rattle.millimetres.specs.Measured.{told, lengths_from, plain_from, byte_behind, byte_measured, end_behind, at_end, third, third_begun}
+use Rattle.millimetres.specs.Measured.{told, lengths_from, plain_from, byte_behind, byte_measured, end_behind, at_end, third}
+use Rattle.millimetres.specs.Measured.{third_begun}
 use Rattle.millimetres.specs.MeasuredLaws.{whole_text, begun, Whole}
 use Rattle.millimetres.proofs.MeasuredLaws.{whole_head, whole_byte, whole_end, whole_last, start_whole, no_line}
 use Rattle.millimetres.specs.declared.Part.TheVariants.{Plain}
 use Rattle.millimetres.specs.declared.Measured.{Measured}
 use Rattle.bench_read.specs.Rows.{open_at, row_from, times_from, in_name as named_in, named, staged_of, field_at, swing_fed}
-use Rattle.bench_read.specs.Rows.{times_fed, swing_blank, blank_in, blank_after, other_in, other_after, row_after, paired, pair_of}
+use Rattle.bench_read.specs.Rows.{times_fed, swing_blank, blank_in, blank_after, other_in, other_after, row_after, paired}
+use Rattle.bench_read.specs.Rows.{pair_of}
 use Rattle.bench_read.specs.Rows.{with_times, with_swing, knee_of, peaks_of}
 use Rattle.bench_read.specs.Before.{Was, was, was_from, was_blank, was_other, was_after, named_then, knee_then, peaks_then}
 use Rattle.bench_read.specs.Before.{rows_after, were_after, whole_behind}
@@ -32,7 +35,8 @@ use Rattle.bench_read.specs.declared.rows.Row.{Row}
 
 -- ---- what a byte that is neither a point nor an m keeps, all such bytes keep
 module _ (Alike : Row → Was → Type 0)
-    (byte : (r : Row) (o : Was) (b : ℕ) → eqb b 46 ≡ false → eqb b 109 ≡ false → Alike r o → Alike (row_after r b) (was_after o b))
+    (byte : (r : Row) (o : Was) (b : ℕ) → eqb b 46 ≡ false → eqb b 109 ≡ false → Alike r o
+    → Alike (row_after r b) (was_after o b))
   where
     line_keeps : (l : List ℕ) (r : Row) (o : Was) → whole_text l ≡ true → Alike r o → Alike (rows_after r l) (were_after o l)
     unfolding rows_after were_after
@@ -55,9 +59,11 @@ module _ (Alike : Row → Was → Type 0) (field : Field) (ended : ℕ) (m n : M
     byte_keeps stage = go (open_at stage) (eqb b 13) (eqb b 32) refl
       where
         go : (x y z : Bool) → eqb b 32 ≡ z → Alike
-            (cond x (cond y (row Returned field m n) (cond z (blank_after (row stage field m n)) (other_after (row stage field m n) b)))
+            (cond x (cond y (row Returned field m n)
+            (cond z (blank_after (row stage field m n)) (other_after (row stage field m n) b)))
             (row Spoilt field m n))
-            (cond x (cond y (was Returned ended s t) (cond z (was_blank ended s t) (was_other ended s t b))) (was Spoilt ended s t))
+            (cond x (cond y (was Returned ended s t)
+            (cond z (was_blank ended s t) (was_other ended s t b))) (was Spoilt ended s t))
         go false y z e = staged Spoilt
         go true true z e = staged Returned
         go true false true e = blank stage e
@@ -65,7 +71,8 @@ module _ (Alike : Row → Was → Type 0) (field : Field) (ended : ℕ) (m n : M
 
 -- ---- two peaks
 data Pair (r : Row) (o : Was) : Type 0 where
-  pair : (stage : Stage) (m n : Measured) (s t : Option Reading) → Whole n t → r ≡ row stage Times m n → o ≡ was stage 4 s t → Pair r o
+  pair : (stage : Stage) (m n : Measured) (s t : Option Reading) → Whole n t → r ≡ row stage Times m n → o ≡ was stage 4 s t
+      → Pair r o
 
 pair_byte : (r : Row) (o : Was) (b : ℕ) → eqb b 46 ≡ false → eqb b 109 ≡ false → Pair r o → Pair (row_after r b) (was_after o b)
 unfolding blank_after blank_in other_after other_in times_fed was_blank was_other
@@ -85,7 +92,8 @@ no_pair None e = refl
 no_pair (Some r) e = paired_none r.value r.ended e
 
 -- THE LAW: a line of two peaks without a point and without an m
-pub peaks_whole : (l : List ℕ) → whole_text l ≡ true → peaks_of (rows_after (row_from Times) l) ≡ peaks_then (were_after (was_from 4) l)
+pub peaks_whole : (l : List ℕ) → whole_text l ≡ true
+    → peaks_of (rows_after (row_from Times) l) ≡ peaks_then (were_after (was_from 4) l)
 unfolding row_from was_from times_from
 peaks_whole l e =
     go (line_keeps Pair pair_byte l (row_from Times) (was_from 4) e
@@ -137,13 +145,15 @@ data Beside (s : Option Reading) (ended : ℕ) (swing times : Option Reading) : 
 
 -- now and then, in the name, in the swing and behind it; of a swing that is lost the bytes may have gone to the times then
 data Knees (r : Row) (o : Was) : Type 0 where
-  in_name : (stage : Stage) → r ≡ row stage Name lengths_from plain_from → o ≡ was stage 0 (Some start_of) (Some start_of) → Knees r o
+  in_name : (stage : Stage) → r ≡ row stage Name lengths_from plain_from → o ≡ was stage 0 (Some start_of) (Some start_of)
+      → Knees r o
   in_swing : (stage : Stage) (m : Measured) (s : Option Reading) (ended : ℕ) (swing times : Option Reading) → Whole m s
       → Beside s ended swing times → r ≡ row stage Swing m plain_from → o ≡ was stage ended swing times → Knees r o
   in_times : (stage : Stage) (m : Measured) (swing times : Option Reading) → line_of (at_end m) ≡ line_of swing
       → r ≡ row stage Times m (told Plain times) → o ≡ was stage 4 swing times → Knees r o
 
-name_byte : (stage : Stage) (b : ℕ) → Knees (row_after (row stage Name lengths_from plain_from) b) (was_after (was stage 0 (Some start_of) (Some start_of)) b)
+name_byte : (stage : Stage) (b : ℕ)
+    → Knees (row_after (row stage Name lengths_from plain_from) b) (was_after (was stage 0 (Some start_of) (Some start_of)) b)
 unfolding blank_after blank_in other_after other_in field_at was_blank was_other count
 name_byte stage b =
     byte_keeps Knees Name 0 lengths_from plain_from (Some start_of) (Some start_of) b (λ stage. in_name stage refl refl)
@@ -170,10 +180,12 @@ was_swinging ended swing times b h k = rw (ne_eqb ended 0 (λ e. omega arith), l
 -- what is lost stays so, whatever comes of it
 module _ (m : Measured) (w : Whole m None) where
   -- a row of which the swing's reader has nothing good
-  bad_row : (ended : ℕ) (swing times : Option Reading) → Lost ended swing → Knees (row Begun Swing m plain_from) (was Begun ended swing times)
+  bad_row : (ended : ℕ) (swing times : Option Reading) → Lost ended swing
+      → Knees (row Begun Swing m plain_from) (was Begun ended swing times)
   bad_row ended swing times h = in_swing Begun m None ended swing times w (lost refl h) refl refl
 
-  lost_blank : (ended : ℕ) (swing times : Option Reading) → Lost ended swing → Knees (row Begun Swing m plain_from) (was_blank ended swing times)
+  lost_blank : (ended : ℕ) (swing times : Option Reading) → Lost ended swing
+      → Knees (row Begun Swing m plain_from) (was_blank ended swing times)
   lost_blank ended swing times (past e l) = unfold was_blank in rw e (bad_row 4 swing (byte_after times 32) (past refl l))
   lost_blank ended swing times (spoilt e h) =
       unfold was_blank in rw (ne_eqb ended 0 (λ f. omega arith)) (go (eqb ended 3) (ltb ended 3))
@@ -194,7 +206,9 @@ module _ (m : Measured) (w : Whole m None) where
     where
       go : (t : Bool) → Knees (row Begun Swing m plain_from)
           (cond t (was Begun ended (byte_after swing b) times) (was Begun ended swing (byte_after times b)))
-      go true = bad_row ended (byte_after swing b) times (spoilt (ap (λ (r : Option Reading). byte_after r b) e ∙ spoilt_stays b) h)
+      go true =
+          bad_row ended (byte_after swing b) times
+          (spoilt (ap (λ (r : Option Reading). byte_after r b) e ∙ spoilt_stays b) h)
       go false = bad_row ended swing (byte_after times b) (spoilt e h)
 
 blanked : (m : Measured) (s : Option Reading) → Whole m s → (ended : ℕ) (swing times : Option Reading)
@@ -273,7 +287,8 @@ module _ (m : Measured) where
   swing_blank_lem stage s ended swing times w (lost i h) =
       rw (whole_last w, i)
       (unfold third_begun in
-      lost_blank (byte_measured m 32) (bad_whole 32 refl refl (subst (λ (r : Option Reading). Whole m r) i w)) ended swing times h)
+      lost_blank (byte_measured m 32)
+      (bad_whole 32 refl refl (subst (λ (r : Option Reading). Whole m r) i w)) ended swing times h)
 
   swing_other : (stage : Stage) (s : Option Reading) (ended : ℕ) (swing times : Option Reading) (b : ℕ) → Whole m s
       → eqb b 46 ≡ false → eqb b 109 ≡ false → eqb b 32 ≡ false
@@ -308,8 +323,10 @@ name_line [] stage e = in_name stage refl refl
 name_line (b ∷ l) stage e = go (eqb b 32) refl e (λ stage e. name_line l stage e)
   where
     go : (t : Bool) → eqb b 32 ≡ t → cond t (whole_text l) (whole_behind l) ≡ true
-        → ((stage : Stage) → whole_behind l ≡ true → Behind l (row stage Name lengths_from plain_from) (was stage 0 (Some start_of) (Some start_of)))
-        → Behind l (row_after (row stage Name lengths_from plain_from) b) (was_after (was stage 0 (Some start_of) (Some start_of)) b)
+        → ((stage : Stage) → whole_behind l ≡ true → Behind l (row stage Name lengths_from plain_from)
+        (was stage 0 (Some start_of) (Some start_of)))
+        → Behind l (row_after (row stage Name lengths_from plain_from) b)
+        (was_after (was stage 0 (Some start_of) (Some start_of)) b)
     go true p e rest = line_keeps Knees knee_byte l _ _ e (name_byte stage b)
     go false p e rest =
         byte_keeps (Behind l) Name 0 lengths_from plain_from (Some start_of) (Some start_of) b (λ stage. rest stage e)

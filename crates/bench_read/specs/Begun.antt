@@ -4,7 +4,8 @@ use Rattle.std.proofs.Math.Path.{refl}
 use Rattle.std.proofs.Math.Bool.{true, false}
 use Rattle.std.proofs.Math.Dec.{eqb}
 use Rattle.millimetres.specs.Measured.{last_begun}
-use Rattle.bench_read.specs.Rows.{open_at, fresh_at, staged_of, field_at, swing_fed, times_fed, swing_blank, blank_in, blank_after}
+use Rattle.bench_read.specs.Rows.{open_at, fresh_at, staged_of, field_at, swing_fed, times_fed, swing_blank, blank_in}
+use Rattle.bench_read.specs.Rows.{blank_after}
 use Rattle.bench_read.specs.Rows.{other_in, other_after, row_after}
 use Rattle.bench_read.specs.declared.rows.Stage.{Stage}
 use Rattle.bench_read.specs.declared.rows.Stage.TheVariants.{NothingYet, Begun, Returned, Spoilt}

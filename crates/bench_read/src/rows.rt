@@ -1,6 +1,7 @@
 // What is known of a line that has not ended.
 ghost use Rattle.std.specs.Prelude.{◌≡◌};
-ghost use Rattle.bench_read.specs.Rows.{fresh_at, open_at, times_from, row_from, named, staged_of, field_at, swing_fed, times_fed};
+ghost use Rattle.bench_read.specs.Rows.{fresh_at, open_at, times_from, row_from, named, staged_of, field_at, swing_fed};
+ghost use Rattle.bench_read.specs.Rows.{times_fed};
 ghost use Rattle.bench_read.specs.Rows.{swing_blank, blank_after, other_after, row_after};
 ghost use Rattle.bench_read.specs.declared.rows.Field.TheVariants.{Name, Times};
 

@@ -7,7 +7,7 @@ use Rattle.writing.specs.Fed.{Ran, quiet, and_ran, run}
 use Rattle.writing.specs.Input.{last_line, lines_from}
 use Rattle.bench_read.specs.Rows.{row_from, fresh_at}
 use Rattle.bench_read.specs.Begun.{begins}
-use Rattle.bench_stream.specs.Lines.{Open, start_row, state_after, state_heard, open_after, said, heard, line_end}
+use Rattle.bench_stream.specs.Lines.{Open, start_row, state_after, state_heard, open_after, heard, line_end}
 use Rattle.bench_stream.specs.Lines.{bench_byte, bench_from}
 use Rattle.bench_stream.specs.Stream.{input_end, said_last, opened, replies_from}
 

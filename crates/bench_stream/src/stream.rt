@@ -60,13 +60,7 @@ fn byte(b: u8, s: State, held: &mut [u8], n: usize, out: &mut [u8], used: usize)
     }
 }
 
-fn feed_all(
-    part: &[u8],
-    s: State,
-    held: &mut [u8],
-    held_before: usize,
-    out: &mut [u8],
-) -> Progress
+fn feed_all(part: &[u8], s: State, held: &mut [u8], held_before: usize, out: &mut [u8]) -> Progress
     requires held_len { length held.old ≡ held_length }
     requires held_before_le_held_length { held_before ≤ held_length }
     requires part_in_bounds { longest_reply * length part.now ≤ length out.old }
@@ -106,13 +100,7 @@ pub fn feed(
     ensures held_le_held_length { result.held ≤ held_length }
     ensures prefix_len { IsPrefixLen result.used out.new }
 {
-    feed_all(
-        &block[..least(BLOCK, size)],
-        s,
-        held,
-        least(HELD, n),
-        out,
-    )
+    feed_all(&block[..least(BLOCK, size)], s, held, least(HELD, n), out)
 }
 
 // A line that has begun ends with the input.

@@ -11,7 +11,8 @@ use borrow.Author.Tests.{eqb-true, ne_eqb}
 use Rattle.std.proofs.Math.Dec.{eqb}
 use Rattle.digits.specs.Digits.{glyph_of, digits}
 use Rattle.writing.specs.Decimal.{places_of, decimal}
-use Rattle.swing_read.specs.Reading.{start_of, ending, blank_after, longer_after, byte_after, bytes_after, closing, line_of, read_line}
+use Rattle.swing_read.specs.Reading.{start_of, ending, blank_after, longer_after, byte_after, bytes_after, closing, line_of}
+use Rattle.swing_read.specs.Reading.{read_line}
 use Rattle.swing_read.specs.ReadingLaws.{at}
 use Rattle.swing_read.proofs.ReadingLaws.{bytes_more, glyph, figure_is, next_room, u64_read}
 use Rattle.swing_read.specs.declared.Ended.{Ended}
@@ -196,13 +197,15 @@ module _ (k : Ended) (K : early k ≡ true) where
   letter_whole true s x p q = unfold length_after in rw (p, q)
   letter_whole false s x p q = refl
 
-  figure_whole : (d : ℕ) (s : Option Reading) → d < 10 → bytes_measured (told Figures s) (glyph_of d ∷ []) ≡ told Figures (bytes_after s (glyph_of d ∷ []))
+  figure_whole : (d : ℕ) (s : Option Reading) → d < 10
+      → bytes_measured (told Figures s) (glyph_of d ∷ []) ≡ told Figures (bytes_after s (glyph_of d ∷ []))
   figure_whole d s h =
       unfold bytes_measured byte_measured byte_behind whole_after bytes_after in
       rw (glyph d h)
       (letter_whole (may_be_length s) s (48 + d) (ne_eqb (48 + d) 32 (λ e. omega arith)) (ne_eqb (48 + d) 46 (λ e. omega arith)))
 
-  figures_whole : (p n : ℕ) (r : Option Reading) → bytes_measured (told Figures r) (digits 10 p n) ≡ told Figures (bytes_after r (digits 10 p n))
+  figures_whole : (p n : ℕ) (r : Option Reading)
+      → bytes_measured (told Figures r) (digits 10 p n) ≡ told Figures (bytes_after r (digits 10 p n))
   unfolding digits
   figures_whole zero n r = unfold bytes_measured bytes_after in refl
   figures_whole (suc p) n r =

@@ -1,6 +1,8 @@
 -- The sum of the advances is the number of steps taken, and how a loop over the readings comes to it. Assumes nothing.
-use Rattle.std.specs.Prelude.{◌≡◌, ℕ, ◌+◌, ◌-◌, ◌%◌, ◌^◌, ◌<◌, ◌≤◌, List, [], ◌∷◌, length, drop, slice_index, Some, Result, Ok, Err, refl}
-use Rattle.std.proofs.Common.{sym, ap, ◌∙◌, inl, inr, add-one, add_assoc, add-zero, arith, lt-ltb, le-ltb, drop_of_length-le, drop-cons}
+use Rattle.std.specs.Prelude.{◌≡◌, ℕ, ◌+◌, ◌-◌, ◌%◌, ◌^◌, ◌<◌, ◌≤◌, List, [], ◌∷◌, length, drop, slice_index, Some, Result, Ok}
+use Rattle.std.specs.Prelude.{Err, refl}
+use Rattle.std.proofs.Common.{sym, ap, ◌∙◌, inl, inr, add-one, add_assoc, add-zero, arith, lt-ltb, le-ltb, drop_of_length-le}
+use Rattle.std.proofs.Common.{drop-cons}
 use Rattle.algebra.specs.Order.{lt_or_le}
 use Rattle.steplog.specs.Steps.{
   advance_of,
@@ -43,7 +45,8 @@ pub advances_counted : (c : ℕ) (cs : List ℕ) → Rising c cs → advances (s
 unfolding advances shown
 advances_counted c cs r = from_counted c cs r
 
-pub steps_taken : (total : ℕ) (readings : List ℕ) (r : Result ℕ Refusal) → r ≡ steps_of total readings → StepsTaken total readings r
+pub steps_taken : (total : ℕ) (readings : List ℕ) (r : Result ℕ Refusal) → r ≡ steps_of total readings
+    → StepsTaken total readings r
 unfolding steps_of
 steps_taken total readings r e = record { taken = λ c cs up s. e ∙ rw (s, advances_counted c cs up) }
 

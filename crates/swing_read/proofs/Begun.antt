@@ -2,7 +2,8 @@
 use Rattle.std.specs.Prelude.{ℕ, ◌≡◌, Bool, true, false, cond, List, [], ◌∷◌, eqb, Option, Some, None}
 use Rattle.std.specs.Option.{option_and_then}
 use Rattle.std.proofs.Math.Path.{refl}
-use Rattle.swing_read.specs.Reading.{start_of, ending, blank_after, figure_of, longer_value, longer_after, zero_alone, digit_after}
+use Rattle.swing_read.specs.Reading.{start_of, ending, blank_after, figure_of, longer_value, longer_after, zero_alone}
+use Rattle.swing_read.specs.Reading.{digit_after}
 use Rattle.swing_read.specs.Reading.{byte_after, bytes_after, unbegun, at_start}
 use Rattle.swing_read.specs.declared.Ended.{Ended}
 use Rattle.swing_read.specs.declared.Ended.TheVariants.{NoneYet, First, Second}

@@ -15,7 +15,8 @@ use Rattle.algebra.specs.Order.{lt_or_le}
 use Rattle.digits.specs.Digits.{glyph_of, digits}
 use Rattle.writing.specs.Decimal.{places_of, decimal}
 use Rattle.writing.specs.Places.{places_same}
-use Rattle.swing_read.specs.Reading.{start_of, ending, blank_after, figure_of, longer_value, longer_after, zero_alone, digit_after}
+use Rattle.swing_read.specs.Reading.{start_of, ending, blank_after, figure_of, longer_value, longer_after, zero_alone}
+use Rattle.swing_read.specs.Reading.{digit_after}
 use Rattle.swing_read.specs.Reading.{byte_after, bytes_after, closing, line_of, read_line}
 use Rattle.swing_read.specs.declared.Ended.{Ended}
 use Rattle.swing_read.specs.declared.Ended.TheVariants.{NoneYet, First, Second}

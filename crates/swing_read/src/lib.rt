@@ -3,7 +3,8 @@
 #![tactic(auto)]
 
 ghost use Rattle.std.specs.Prelude.{◌≡◌};
-ghost use Rattle.swing_read.specs.Reading.{start_of, figure_of, ended_so, blank_after, longer_after, digit_after, byte_after, line_of, at_start};
+ghost use Rattle.swing_read.specs.Reading.{start_of, figure_of, ended_so, blank_after, longer_after, digit_after, byte_after};
+ghost use Rattle.swing_read.specs.Reading.{line_of, at_start};
 
 // The numbers that have ended.
 #[derive(Clone, Copy)]

@@ -8,7 +8,6 @@ use Rattle.std.proofs.Common.{true, false, ◌∙◌}
 use Rattle.bench_read.specs.Rows.{fresh_at}
 use Rattle.writing.specs.Fed.{quiet, Fed}
 use Rattle.writing.specs.FedLaws.{fed_quiet}
-use Rattle.writing.specs.Written.{put_length}
 use Rattle.bench_stream.specs.Lines.{Open, under, line_end}
 use Rattle.bench_stream.specs.Stream.{input_end}
 use Rattle.bench_stream.specs.declared.lines.State.{State}

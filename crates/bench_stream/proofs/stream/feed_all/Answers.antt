@@ -1,10 +1,8 @@
 -- `feed_all` meets its contract. The invariant: what was fed so far is the beginning. Assumes nothing.
-use Rattle.std.proofs.Common.{◌≡◌, ◌≤◌, length, take, refl, arith, sym, ◌∙◌}
+use Rattle.std.proofs.Common.{length, refl, arith, sym, ◌∙◌}
 use Rattle.std.proofs.Math.Seq.{take-length}
-use Rattle.writing.specs.FedLaws.{Upto, upto_none, upto_byte, upto_all}
+use Rattle.writing.specs.FedLaws.{upto_none, upto_byte, upto_all}
 use Rattle.writing.specs.Written.{put_length}
-use Rattle.bench_write.specs.Texts.{longest_reply}
-use Rattle.bench_stream.specs.Lines.{under, bench_byte, held_length}
 use Rattle.bench_stream.proofs.Lengths.{byte_short}
 use Rattle.bench_stream.proofs.stream.feed_all.Goals as goal
 
