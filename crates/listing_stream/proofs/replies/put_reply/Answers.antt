@@ -5,7 +5,7 @@ use mathlib.Core.Path.{◌≡◌, sym, ap, ◌∙◌}
 use mathlib.Core.Bool.{Bool}
 use mathlib.Core.List.{List}
 use native.Mathlib.Omega.{arith}
-use Rattle.carlson.specs.declared.answer.Answer.{Answer}
+use Rattle.carlson.specs.Answer.{Answer}
 use Rattle.listing_read.specs.Lines.{call_of}
 use Rattle.listing_stream.specs.Replies.{answer_by, admitted, reply_to, reply_of}
 use Rattle.listing_write.specs.Text.{text_of}
