@@ -35,4 +35,3 @@ epsilon = bits 0x3CB0_0000_0000_0000
 
 abbrev pub infinity : Float
 infinity = bits 0x7FF0_0000_0000_0000
-

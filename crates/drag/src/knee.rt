@@ -18,7 +18,13 @@ fn against(answer: Answer, time: u64, limit: u64) -> Result<Verdict, Refusal>
 
 // Any five numbers: the swing's length, height and gravity, the time that one swing took and the excess that is allowed, both in
 // nanoseconds; or the swing's 11 or 12.
-pub fn judge(length: u64, height: u64, gravity: u64, time: u64, limit: u64) -> Result<Verdict, Refusal>
+pub fn judge(
+    length: u64,
+    height: u64,
+    gravity: u64,
+    time: u64,
+    limit: u64,
+) -> Result<Verdict, Refusal>
     ensures { result ≡ drag_of length height gravity time limit }
 {
     against(period(length, height, gravity), time, limit)

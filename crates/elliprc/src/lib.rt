@@ -10,8 +10,8 @@ use carlson_arguments::checks::{any_infinite2, any_nan2};
 use carlson_arguments::door::{moderate, moderate2};
 use carlson_arguments::rescaling::{rescales2, scale2};
 use rc_cases::cases::{cases, steps};
-use root::sqrt;
 use refusals::Refusal;
+use root::sqrt;
 
 fn found(x: f64, y: f64) -> Found
     ensures { result ≡ rc_found x y }

@@ -13,9 +13,9 @@ use carlson_arguments::checks::{any_infinite3, any_nan3, below3, zeros3};
 use carlson_arguments::door::moderate3;
 use carlson_arguments::rescaling::{rescales3, scale3};
 use elliprc::{elliprc_unchecked, over_root};
+use refusals::Refusal;
 use rf_duplicate::duplicate::duplicated;
 use root::sqrt;
-use refusals::Refusal;
 
 // RF(x, x, x)
 fn all_equal(x: f64) -> Found

@@ -23,11 +23,11 @@ use carlson_arguments::checks::{any_nan3, below3};
 use carlson_arguments::door::moderate3;
 use carlson_arguments::rescaling::{rescales3, scale3};
 use elliprc::elliprc_unchecked;
+use refusals::Refusal;
 use rg_joint::joined;
 use rg_means::agm_of;
 use root::sqrt;
 use sorting::{Triple, largest_first};
-use refusals::Refusal;
 
 // RG(x, x, x)
 fn all_equal(x: f64) -> Answer

@@ -8,9 +8,9 @@ ghost use Rattle.elliprj.specs.Rj.{rj_settled, rj_rest, rj_signed, rj_of_positiv
 use carlson::answer::{Answer, handed, infinite, settle};
 use carlson_arguments::checks::{any_infinite4, any_nan4, below3, zeros3};
 use carlson_arguments::door::moderate4;
+use refusals::Refusal;
 use rj_calls::elliprj_unchecked;
 use rj_positive::positive::positive;
-use refusals::Refusal;
 
 // What was found is put together anew, field by field: copied whole, the bytes between its fields are copied too, one by one.
 fn settled(a: Answer) -> Answer

@@ -6,9 +6,9 @@ use carlson::answer::{Answer, agm};
 use carlson::common::{MEAN_CAP, still_apart};
 use carlson::constants::PI;
 use fused::mul_add;
+use refusals::Refusal;
 use root::{sqrt, sqrt_ahead};
 use root_guess::{Ahead, nearly_twice, ready, unready};
-use refusals::Refusal;
 
 // 8 * 2.7 * 2 ^ -52: no answer rests on it.
 const TOO_FAR: f64 = 4.8e-15;

@@ -10,9 +10,9 @@ use crate::plan::{Plan, planned};
 use carlson::answer::Answer;
 use carlson_arguments::rescaling::{rescales4, scale4};
 use elliprd::over_scale;
+use refusals::Refusal;
 use rj_negative::carried;
 use rj_positive::positive::positive;
-use refusals::Refusal;
 
 // Document 01, Rounds: at most four calls deep, the first included.
 const ALLOWANCE: u32 = 4;

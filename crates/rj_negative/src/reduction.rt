@@ -59,12 +59,7 @@ pub fn carried(r: Reduced, inner: Answer) -> Answer
     ensures { result ≡ wrapped_answer r inner }
 {
     match inner {
-        Ok(rj) => Ok(together(
-            r,
-            rj,
-            elliprf_unchecked(r.x, r.y, r.z),
-            rc_of(r),
-        )),
+        Ok(rj) => Ok(together(r, rj, elliprf_unchecked(r.x, r.y, r.z), rc_of(r))),
         Err(n) => Err(n),
     }
 }

@@ -5,8 +5,8 @@ ghost use Rattle.carlson.specs.Only.{Only, Finite};
 
 use carlson::answer::{Answer, handed};
 use elliprf::elliprf;
-use root::sqrt;
 use refusals::Refusal;
+use root::sqrt;
 
 const MOST_LENGTH: u64 = 10_000_000;
 

@@ -18,8 +18,11 @@ read c = sym c.read_job.ensures ∙ c.in-Ok-Some.is ∙ ap (λ (o : Option Got).
 pub loop-got-smaller : goal.loop-got-smaller
 loop-got-smaller c =
     let l = c.args.list.now in
-    omega (arith, found_later l c.loop-got.place c.in-Ok-Some.got (bytes_all l (λ k. omega (arith, c.type_inv.list k)))
-        (read (goal.at.loop-got-smaller c).In-Ok-Some))
+    omega (
+      arith,
+      found_later l c.loop-got.place c.in-Ok-Some.got (bytes_all l (λ k. omega (arith, c.type_inv.list k)))
+          (read (goal.at.loop-got-smaller c).In-Ok-Some),
+    )
 
 pub loop-got-preserved : goal.loop-got-preserved
 loop-got-preserved c =
