@@ -1,7 +1,7 @@
 -- Where a field ends. Assumes nothing.
-use Rattle.std.specs.Prelude.{ℕ, suc, ◌≤◌, ◌<◌, ◌≡◌, refl, Bool, true, false, cond, List, [], ◌∷◌, ◌++◌, eqb, length, take}
-use Rattle.std.proofs.Common.{ap, arith}
-use borrow.Author.Tests.{ne_eqb}
+use Rattle.std.specs.Prelude.{ℕ, suc, ◌+◌, ◌≤◌, ◌<◌, ◌≡◌, refl, Bool, true, false, cond, List, [], ◌∷◌, ◌++◌, eqb, length, get_or, take, drop}
+use Rattle.std.proofs.Common.{ap, add-one, arith, drop_of_length-le, drop-cons}
+use borrow.Author.Tests.{eq-eqb, ne_eqb}
 use Rattle.std.proofs.Math.Seq.{drop-append-add}
 use Rattle.claim_read.specs.Line.{field_of, after_field}
 
@@ -24,6 +24,20 @@ field_take (b ∷ l) = go (eqb b 32) (field_take l)
         → take (length (cond t [] (b ∷ field_of l))) (b ∷ l) ≡ cond t [] (b ∷ field_of l)
     go true e = refl
     go false e = ap (λ (m : List ℕ). b ∷ m) e
+
+-- ---- from a place on
+module _ (l : List ℕ) (i : ℕ) where
+  pub field_blank : i < length l → get_or l i 0 ≡ 32 → length (field_of (drop i l)) ≡ 0
+  unfolding field_of
+  field_blank h e = rw (drop-cons l i 0 h, eq-eqb (get_or l i 0) 32 e)
+
+  pub field_more : i < length l → (get_or l i 0 ≡ 32 → ⊥) → length (field_of (drop i l)) ≡ suc (length (field_of (drop (i + 1) l)))
+  unfolding field_of
+  field_more h e = rw (drop-cons l i 0 h, ne_eqb (get_or l i 0) 32 e, add-one)
+
+  pub field_end : length l ≤ i → length (field_of (drop i l)) ≡ 0
+  unfolding field_of
+  field_end h = rw (drop_of_length-le l {i = i} h)
 
 -- ---- a field that is known
 -- every byte is above k

@@ -1,6 +1,6 @@
 -- How the ends of lines are counted by parts. Assumes nothing.
-use Rattle.std.specs.Prelude.{ℕ, ◌+◌, ◌≤◌, ◌<◌, min, ◌≡◌, Bool, true, false, cond, List, [], ◌∷◌, ◌++◌, eqb, length, drop, take, get_or}
-use Rattle.std.proofs.Common.{sym, ap, ◌∙◌, inl, inr, add_assoc, zero-add, add-one, arith, drop-cons, take_all}
+use Rattle.std.specs.Prelude.{ℕ, ◌+◌, ◌-◌, ◌≤◌, ◌<◌, min, ◌≡◌, Bool, true, false, cond, List, [], ◌∷◌, ◌++◌, eqb, length, drop, take, get_or}
+use Rattle.std.proofs.Common.{sym, ap, ◌∙◌, inl, inr, add_assoc, zero-add, add-one, arith, length-take, drop-cons, take-add, take_all}
 use Rattle.algebra.specs.Order.{lt_or_le}
 use Rattle.pace.specs.Numbers.{ends_of, newlines}
 
@@ -27,6 +27,25 @@ newlines_both (b ∷ bs) m = rw (newlines_both bs m) (sym (add_assoc (ends_of b)
 pub newlines_next : (l : List ℕ) (i : ℕ) → i < length l → newlines (drop i l) ≡ ends_of (get_or l i 0) + newlines (drop (i + 1) l)
 unfolding newlines
 newlines_next l i h = rw (drop-cons l i 0 h, add-one)
+
+-- what ends in a part is added to what ended before it
+pub newlines_part :
+    (l : List ℕ) (at step n r : ℕ) → n ≡ newlines (take at l) → r ≡ newlines (take (at + step - at) (drop at l))
+    → n + r ≡ newlines (take (at + step) l)
+newlines_part l at step n r e f =
+    let s : at + step - at ≡ step = omega arith in
+    rw (e, f, s) (sym (ap newlines (take-add at step l) ∙ newlines_both (take at l) (take step (drop at l))))
+
+pub part_short : (l : List ℕ) (at step k : ℕ) → step ≤ k → length (take (at + step - at) (drop at l)) ≤ k
+part_short l at step k h = rw length-take (omega arith)
+
+pub newlines_few : (l : List ℕ) (at step r : ℕ) → r ≡ newlines (take (at + step - at) (drop at l)) → r ≤ step
+newlines_few l at step r e = omega (
+  arith,
+  newlines_most (take (at + step - at) (drop at l)),
+  part_short l at step step
+      (omega arith),
+)
 
 -- more than all is all
 take_min : (l : List ℕ) (size : ℕ) → take (min (length l) size) l ≡ take size l
