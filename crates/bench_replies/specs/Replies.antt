@@ -8,7 +8,6 @@ use Rattle.drag.specs.Verdict.{drag_of}
 use Rattle.drag.specs.declared.nanoseconds.Verdict.{Verdict}
 use Rattle.decay.specs.Decrement.{decay_of}
 use Rattle.refusals.specs.declared.Refusal.{Refusal}
-use Rattle.refusals.specs.Numbers.{refusal_number}
 use Rattle.bench_write.specs.declared.said.Said.{Said}
 use Rattle.bench_write.specs.declared.said.Said.TheVariants.{Weighed, NoVerdict, Decrement, NoDecrement, Bad, Tallies}
 use Rattle.bench_write.specs.declared.tallies.Tally.{Tally}
@@ -20,7 +19,7 @@ of_judged (Err r) = NoVerdict (refusal_number r)
 
 unfoldable pub of_decay : Result Float Refusal → Said
 of_decay (Ok x) = Decrement x
-of_decay (Err r) = NoDecrement (refusal_number r)
+of_decay (Err r) = NoDecrement r
 
 unfoldable pub knee_reply : Option Knee → Said
 knee_reply (Some k) = of_judged (drag_of k.length k.height k.gravity k.time k.limit)

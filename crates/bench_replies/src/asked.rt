@@ -24,7 +24,7 @@ fn of_decay(decay: Result<f64, Refusal>) -> Said
 {
     match decay {
         Ok(value) => Said::Decrement(value),
-        Err(refusal) => Said::NoDecrement(refusal.number()),
+        Err(refusal) => Said::NoDecrement(refusal),
     }
 }
 
