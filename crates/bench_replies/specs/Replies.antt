@@ -15,7 +15,7 @@ use Rattle.bench_write.specs.declared.tallies.Tally.{Tally}
 -- what is said to a verdict or a decrement, or to a refusal
 unfoldable pub of_judged : Result Verdict Refusal → Said
 of_judged (Ok v) = Weighed v
-of_judged (Err r) = NoVerdict (refusal_number r)
+of_judged (Err r) = NoVerdict r
 
 unfoldable pub of_decay : Result Float Refusal → Said
 of_decay (Ok x) = Decrement x
@@ -36,9 +36,9 @@ reply_of decays row name = cond decays (peaks_reply (peaks_of row)) (knee_reply 
 -- ---- which tally a reply is told in: 0 passed, 1 drags, 2 refused, 3 a bad line, 4 none
 unfoldable pub kind_of : Said → ℕ
 kind_of (Weighed v) = cond v.passes 0 1
-kind_of (NoVerdict n) = 2
+kind_of (NoVerdict r) = 2
 kind_of (Decrement x) = 4
-kind_of (NoDecrement n) = 4
+kind_of (NoDecrement r) = 4
 kind_of Bad = 3
 kind_of (Tallies t) = 4
 

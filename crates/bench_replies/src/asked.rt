@@ -14,7 +14,7 @@ fn of_judged(judged: Result<Verdict, Refusal>) -> Said
 {
     match judged {
         Ok(verdict) => Said::Weighed(verdict),
-        Err(refusal) => Said::NoVerdict(refusal.number()),
+        Err(refusal) => Said::NoVerdict(refusal),
     }
 }
 

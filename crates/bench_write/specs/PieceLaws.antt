@@ -99,7 +99,7 @@ tallies_is t = rw (knees_line t [], passed_line t, drags_line t, refused_line t,
 pub pieces_are : (s : Said) → up_to (piece_of s) (pieces_of s) ≡ said_text s
 unfolding piece_of pieces_of
 pieces_are (Weighed v) = unfold said_text in weighed_is v
-pieces_are (NoVerdict n) = unfold said_text in no_verdict_is n
+pieces_are (NoVerdict r) = unfold said_text in no_verdict_is (refusal_number r)
 pieces_are (Decrement x) = unfold said_text in decrement_is x
 pieces_are (NoDecrement r) = count_is r
 pieces_are Bad = bad_is
@@ -124,7 +124,7 @@ pub pieces_fit : (s : Said) → shown_of s + room_to (piece_of s) (pieces_of s) 
 unfolding piece_of pieces_of shown_of longest_of room_to room_of weighed_piece no_verdict_piece decrement_piece sized_piece bad_piece
     tallies_piece count_piece label_piece
 pieces_fit (Weighed v) = omega (arith, passes_room v.passes)
-pieces_fit (NoVerdict n) = omega arith
+pieces_fit (NoVerdict r) = omega arith
 pieces_fit (Decrement x) = omega (arith, minus_room (to_bits binary64 x))
 pieces_fit (NoDecrement r) = omega arith
 pieces_fit Bad = omega arith

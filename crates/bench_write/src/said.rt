@@ -20,7 +20,7 @@ const NAME: usize = 32;
 #[derive(Clone, Copy)]
 pub enum Said {
     Weighed(Verdict),
-    NoVerdict(u32),
+    NoVerdict(Refusal),
     Decrement(f64),
     NoDecrement(Refusal),
     Bad,
@@ -32,7 +32,7 @@ pub fn piece_at(said: Said, i: u64) -> Piece
 {
     match said {
         Said::Weighed(verdict) => weighed_piece(verdict, i),
-        Said::NoVerdict(number) => no_verdict_piece(number as u64, i),
+        Said::NoVerdict(refusal) => no_verdict_piece(refusal.number() as u64, i),
         Said::Decrement(value) => decrement_piece(value, i),
         Said::NoDecrement(refusal) => count_piece(3, refusal.number() as u64, i),
         Said::Bad => bad_piece(i),

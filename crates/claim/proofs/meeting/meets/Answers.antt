@@ -1,4 +1,5 @@
 -- `meets` meets its contract, case by case as its definition. Assumes nothing.
+use Rattle.std.proofs.Common.{sym}
 use Rattle.claim.specs.Claims.{meets_of}
 use Rattle.claim.proofs.meeting.meets.Goals as goal
 
