@@ -1,5 +1,4 @@
 // The list's jobs and the listing's lines, side by side.
-use crate::say::Ended;
 use claim::{Checked, ended, missing};
 use console::Source;
 use jobs_in::{Pulled, place, pull};
@@ -65,7 +64,7 @@ pub fn check(
     list: Source<'_>,
     claims: Source<'_>,
     wanted: bool,
-) -> Ended {
+) -> Option<Checked> {
     let mut window = [0u8; 4096];
     let mut block = [0u8; BLOCK];
     let mut held = [0u8; ROW];
@@ -76,7 +75,7 @@ pub fn check(
     // A proved loop has to end, and nothing says that the list does: so many turns no run uses up.
     for row in 0..u64::MAX {
         if rows.failed {
-            return Ended::Failed;
+            return None;
         }
         match pull(rt, list, &mut window, stands) {
             Pulled::Job(job, next) => {
@@ -85,10 +84,10 @@ pub fn check(
                 stands = next;
                 meter = jobs(rt, meter, row, place(stands));
             }
-            Pulled::End => return Ended::With(ended(so, rows.whole)),
-            Pulled::Refused(refusal) => return Ended::With(Checked::Refused(refusal)),
-            Pulled::Failed => return Ended::Failed,
+            Pulled::End => return Some(ended(so, rows.whole)),
+            Pulled::Refused(refusal) => return Some(Checked::Refused(refusal)),
+            Pulled::Failed => return None,
         }
     }
-    Ended::Failed
+    None
 }

@@ -3,14 +3,6 @@ use claim::Checked;
 use console::write_out;
 use writing::{least, put_decimal, put_text};
 
-// What the inputs led to.
-#[derive(Clone, Copy)]
-pub enum Ended {
-    With(Checked),
-    // A read failed, and that was said.
-    Failed,
-}
-
 fn say(rt: HostRuntime, text: &[u8], used: usize) {
     if write_out(rt, &text[..least(text.len(), used)]) {
         return;
@@ -36,15 +28,10 @@ fn put_checked(checked: Checked, text: &mut [u8]) -> usize {
     }
 }
 
-pub fn say_checked(rt: HostRuntime, ended: Ended) {
-    match ended {
-        Ended::With(checked) => {
-            let mut text = [0u8; 64];
-            let used = put_checked(checked, &mut text);
-            say(rt, &text, used);
-        }
-        Ended::Failed => {}
-    }
+pub fn say_checked(rt: HostRuntime, checked: Checked) {
+    let mut text = [0u8; 64];
+    let used = put_checked(checked, &mut text);
+    say(rt, &text, used);
 }
 
 pub fn complain(rt: HostRuntime) {
