@@ -10,12 +10,8 @@ use table_lines::{is_header, judged_line};
 use writing::least;
 
 // A number in decimal.
-pub fn tolerance_of(text: &[u8]) -> Line {
-    let mut read = start();
-    for b in text {
-        read = step(read, *b);
-    }
-    close(read)
+pub fn tolerance_of(text: &[u8]) -> Option<Line> {
+    close(text.iter().fold(Some(start()), |read, b| step(read, *b)))
 }
 
 fn headed(rows: Rows, held: &[u8]) -> bool {
