@@ -76,6 +76,7 @@ pub fn read_all(line: &[u8], start: usize) -> Result<Numbers, Bad>
         d: 0,
     };
     let mut at = begins(line, start);
+    // Each word says itself where the next one begins, so there is no index to count.
     while at < line.len() {
         let end = ends(line, at);
         match read(&line[at..end]) {
