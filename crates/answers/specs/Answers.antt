@@ -2,7 +2,7 @@
 use Rattle.std.specs.Prelude.{ℕ, Float}
 use Rattle.std.specs.Float.{binary64}
 use Rattle.std.specs.Float.Ieee.{of_bits}
-use Rattle.carlson.specs.declared.answer.Answer.{Answer}
+use Rattle.carlson.specs.Answer.{Answer}
 use Rattle.elliprc.specs.Rc.{rc}
 use Rattle.elliprf.specs.Rf.{rf}
 use Rattle.elliprd.specs.Rd.{rd}

@@ -6,4 +6,4 @@ mod ends;
 mod rows;
 
 pub use crate::ends::{Knee, Peaks, knee_of, peaks_of};
-pub use crate::rows::{Row, knee_start, naming, peaks_start, row_step};
+pub use crate::rows::{Field, Row, Stage, knee_start, naming, peaks_start, row_step, unbegun};

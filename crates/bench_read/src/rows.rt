@@ -1,35 +1,68 @@
 // What is known of a line that has not ended.
 ghost use Rattle.std.specs.Prelude.{◌≡◌};
-ghost use Rattle.bench_read.specs.Rows.{times_from, row_from, named, staged_of, field_at, swing_fed, times_fed};
+ghost use Rattle.bench_read.specs.Rows.{fresh_at, open_at, times_from, row_from, named, staged_of, field_at, swing_fed};
+ghost use Rattle.bench_read.specs.Rows.{times_fed};
 ghost use Rattle.bench_read.specs.Rows.{swing_blank, blank_after, other_after, row_after};
+ghost use Rattle.bench_read.specs.declared.rows.Field.TheVariants.{Name, Times};
 
 use millimetres::{Measured, last_begun, lengths, measure, plain};
 
-// How far the line is: 0 nothing has come, 1 something, 2 a carriage return last, 3 something after that, which makes it bad.
-// Where it is: 0 in the name, 1 in the swing, 2 behind it. What is read of `L h g`, and of the two numbers that come last.
+// How far the line is.
+#[derive(Clone, Copy)]
+pub enum Stage {
+    NothingYet,
+    Begun,
+    // a carriage return came last
+    Returned,
+    // and something after that, which makes the line bad
+    Spoilt,
+}
+
+// Where the line is: in the name, in the swing, or behind it.
+#[derive(Clone, Copy)]
+pub enum Field {
+    Name,
+    Swing,
+    Times,
+}
+
+// Beside these, what is read of `L h g`, and of the two numbers that come last.
 #[derive(Clone, Copy)]
 pub struct Row {
-    pub stage: u64,
-    pub field: u64,
+    pub stage: Stage,
+    pub field: Field,
     pub swing: Measured,
     pub times: Measured,
 }
 
-// A knee's last two numbers are times; two peaks are lengths.
-fn times_from(field: u64) -> Measured
-    ensures { result ≡ times_from field }
+// Whether no carriage return has come.
+#[tactic(auto, unfolding(crate::specs::Rows::open_at))]
+fn open(stage: Stage) -> bool
+    ensures { result ≡ open_at stage }
 {
-    if field == 0 {
-        return plain();
+    match stage {
+        Stage::NothingYet | Stage::Begun => true,
+        Stage::Returned | Stage::Spoilt => false,
     }
-    lengths()
 }
 
-fn row_from(field: u64) -> Row
+// A knee's last two numbers are times; two peaks are lengths.
+#[tactic(auto, unfolding(crate::specs::Rows::times_from))]
+fn times_from(field: Field) -> Measured
+    ensures { result ≡ times_from field }
+{
+    match field {
+        Field::Name => plain(),
+        Field::Swing | Field::Times => lengths(),
+    }
+}
+
+#[tactic(auto, unfolding(crate::specs::Rows::row_from))]
+fn row_from(field: Field) -> Row
     ensures { result ≡ row_from field }
 {
     Row {
-        stage: 0,
+        stage: Stage::NothingYet,
         field,
         swing: lengths(),
         times: times_from(field),
@@ -37,134 +70,127 @@ fn row_from(field: u64) -> Row
 }
 
 pub fn knee_start() -> Row
-    ensures { result ≡ row_from 0 }
+    ensures { result ≡ row_from Name }
 {
-    row_from(0)
+    row_from(Field::Name)
 }
 
 // Peaks have no name and no swing: what comes are the last two numbers.
 pub fn peaks_start() -> Row
-    ensures { result ≡ row_from 2 }
+    ensures { result ≡ row_from Times }
 {
-    row_from(2)
+    row_from(Field::Times)
+}
+
+// Whether nothing has come of the line.
+#[tactic(auto, unfolding(crate::specs::Rows::fresh_at))]
+pub fn unbegun(r: Row) -> bool
+    ensures { result ≡ fresh_at r.stage }
+{
+    match r.stage {
+        Stage::NothingYet => true,
+        Stage::Begun | Stage::Returned | Stage::Spoilt => false,
+    }
 }
 
 // Whether the byte is one of the name.
+#[tactic(auto, unfolding(crate::specs::Rows::named, crate::specs::Rows::in_name))]
 pub fn naming(r: Row, b: u8) -> bool
     ensures { result ≡ named r b }
 {
-    if r.stage < 2 {
-        if r.field == 0 {
-            if b == b'\r' {
-                return false;
-            }
-            return b != b' ';
-        }
-        return false;
+    match r.field {
+        Field::Name => open(r.stage) && b != b'\r' && b != b' ',
+        Field::Swing | Field::Times => false,
     }
-    false
 }
 
-fn staged(r: Row, stage: u64) -> Row
+#[tactic(auto, unfolding(crate::specs::Rows::staged_of))]
+fn staged(r: Row, stage: Stage) -> Row
     ensures { result ≡ staged_of r stage }
 {
-    let swing = r.swing;
-    let times = r.times;
-    Row {
-        stage,
-        field: r.field,
-        swing,
-        times,
-    }
+    Row { stage, ..r }
 }
 
-fn field_at(r: Row, field: u64) -> Row
+#[tactic(auto, unfolding(crate::specs::Rows::field_at))]
+fn field_at(r: Row, field: Field) -> Row
     ensures { result ≡ field_at r field }
 {
-    let swing = r.swing;
-    let times = r.times;
     Row {
-        stage: 1,
+        stage: Stage::Begun,
         field,
-        swing,
-        times,
+        ..r
     }
 }
 
+#[tactic(auto, unfolding(crate::specs::Rows::swing_fed))]
 fn swing_fed(r: Row, b: u8) -> Row
     ensures { result ≡ swing_fed r b }
 {
-    let swing = r.swing;
-    let times = r.times;
     Row {
-        stage: 1,
-        field: r.field,
-        swing: measure(swing, b),
-        times,
+        stage: Stage::Begun,
+        swing: measure(r.swing, b),
+        ..r
     }
 }
 
+#[tactic(auto, unfolding(crate::specs::Rows::times_fed))]
 fn times_fed(r: Row, b: u8) -> Row
     ensures { result ≡ times_fed r b }
 {
-    let swing = r.swing;
-    let times = r.times;
     Row {
-        stage: 1,
-        field: r.field,
-        swing,
-        times: measure(times, b),
+        stage: Stage::Begun,
+        times: measure(r.times, b),
+        ..r
     }
 }
 
 // The swing ends behind its third number, which is no length.
+#[tactic(auto, unfolding(crate::specs::Rows::swing_blank))]
 fn swing_blank(r: Row) -> Row
     ensures { result ≡ swing_blank r }
 {
-    let swing = r.swing;
-    if last_begun(swing) {
-        return field_at(r, 2);
+    if last_begun(r.swing) {
+        field_at(r, Field::Times)
+    } else {
+        swing_fed(r, b' ')
     }
-    swing_fed(r, b' ')
 }
 
 // The first blank ends the name.
+#[tactic(auto, unfolding(crate::specs::Rows::blank_after, crate::specs::Rows::blank_in))]
 fn blank(r: Row) -> Row
     ensures { result ≡ blank_after r }
 {
-    if r.field == 0 {
-        return field_at(r, 1);
+    match r.field {
+        Field::Name => field_at(r, Field::Swing),
+        Field::Swing => swing_blank(r),
+        Field::Times => times_fed(r, b' '),
     }
-    if r.field == 1 {
-        return swing_blank(r);
-    }
-    times_fed(r, b' ')
 }
 
+#[tactic(auto, unfolding(crate::specs::Rows::other_after, crate::specs::Rows::other_in))]
 fn other(r: Row, b: u8) -> Row
     ensures { result ≡ other_after r b }
 {
-    if r.field == 0 {
-        return field_at(r, 0);
+    match r.field {
+        Field::Name => field_at(r, Field::Name),
+        Field::Swing => swing_fed(r, b),
+        Field::Times => times_fed(r, b),
     }
-    if r.field == 1 {
-        return swing_fed(r, b);
-    }
-    times_fed(r, b)
 }
 
 // One byte more of the line.
+#[tactic(auto, unfolding(crate::specs::Rows::row_after))]
 pub fn row_step(r: Row, b: u8) -> Row
     ensures { result ≡ row_after r b }
 {
-    if r.stage < 2 {
-        if b == b'\r' {
-            return staged(r, 2);
+    if open(r.stage) {
+        match b {
+            b'\r' => staged(r, Stage::Returned),
+            b' ' => blank(r),
+            _ => other(r, b),
         }
-        if b == b' ' {
-            return blank(r);
-        }
-        return other(r, b);
+    } else {
+        staged(r, Stage::Spoilt)
     }
-    staged(r, 3)
 }

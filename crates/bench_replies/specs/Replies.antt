@@ -1,37 +1,33 @@
 -- A line of the bench that has ended: its reply, and the tally that it is told in. Definitions only.
-use Rattle.std.specs.Prelude.{ℕ, ◌+◌, ◌%◌, ◌^◌, Bool, cond, ◌==◌}
+use Rattle.std.specs.Prelude.{ℕ, ◌+◌, ◌%◌, ◌^◌, Bool, cond, ◌==◌, Float, Option, Some, None, Result, Ok, Err}
 use Rattle.bench_read.specs.Rows.{knee_of, peaks_of}
 use Rattle.bench_read.specs.declared.rows.Row.{Row}
 use Rattle.bench_read.specs.declared.ends.Knee.{Knee}
-use Rattle.bench_read.specs.declared.ends.Knee.TheVariants.{Good, Bad as NoKnee}
 use Rattle.bench_read.specs.declared.ends.Peaks.{Peaks}
-use Rattle.bench_read.specs.declared.ends.Peaks.TheVariants.{Two, Bad as NoPeaks}
 use Rattle.drag.specs.Verdict.{drag_of}
-use Rattle.drag.specs.declared.knee.Judged.{Judged}
-use Rattle.drag.specs.declared.knee.Judged.TheVariants.{Weighed as Judgement, Refused as NoJudgement}
+use Rattle.drag.specs.declared.nanoseconds.Verdict.{Verdict}
 use Rattle.decay.specs.Decrement.{decay_of}
-use Rattle.decay.specs.declared.Decay.{Decay}
-use Rattle.decay.specs.declared.Decay.TheVariants.{Decrement as Decayed, Refused as NoDecay}
+use Rattle.refusals.specs.declared.Refusal.{Refusal}
 use Rattle.bench_write.specs.declared.said.Said.{Said}
 use Rattle.bench_write.specs.declared.said.Said.TheVariants.{Weighed, NoVerdict, Decrement, NoDecrement, Bad, Tallies}
 use Rattle.bench_write.specs.declared.tallies.Tally.{Tally}
 
 -- what is said to a verdict or a decrement, or to a refusal
-unfoldable pub of_judged : Judged → Said
-of_judged (Judgement v) = Weighed v
-of_judged (NoJudgement n) = NoVerdict n
+unfoldable pub of_judged : Result Verdict Refusal → Said
+of_judged (Ok v) = Weighed v
+of_judged (Err r) = NoVerdict r
 
-unfoldable pub of_decay : Decay → Said
-of_decay (Decayed x) = Decrement x
-of_decay (NoDecay n) = NoDecrement n
+unfoldable pub of_decay : Result Float Refusal → Said
+of_decay (Ok x) = Decrement x
+of_decay (Err r) = NoDecrement r
 
-unfoldable pub knee_reply : Knee → Said
-knee_reply (Good length height gravity time limit) = of_judged (drag_of length height gravity time limit)
-knee_reply NoKnee = Bad
+unfoldable pub knee_reply : Option Knee → Said
+knee_reply (Some k) = of_judged (drag_of k.length k.height k.gravity k.time k.limit)
+knee_reply None = Bad
 
-unfoldable pub peaks_reply : Peaks → Said
-peaks_reply (Two a b) = of_decay (decay_of a b)
-peaks_reply NoPeaks = Bad
+unfoldable pub peaks_reply : Option Peaks → Said
+peaks_reply (Some p) = of_decay (decay_of p.first p.second)
+peaks_reply None = Bad
 
 -- of two peaks, or of a knee whose name has so many bytes
 unfoldable pub reply_of : Bool → Row → ℕ → Said
@@ -40,9 +36,9 @@ reply_of decays row name = cond decays (peaks_reply (peaks_of row)) (knee_reply 
 -- ---- which tally a reply is told in: 0 passed, 1 drags, 2 refused, 3 a bad line, 4 none
 unfoldable pub kind_of : Said → ℕ
 kind_of (Weighed v) = cond v.passes 0 1
-kind_of (NoVerdict n) = 2
+kind_of (NoVerdict r) = 2
 kind_of (Decrement x) = 4
-kind_of (NoDecrement n) = 4
+kind_of (NoDecrement r) = 4
 kind_of Bad = 3
 kind_of (Tallies t) = 4
 

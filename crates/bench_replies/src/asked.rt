@@ -4,44 +4,53 @@ ghost use Rattle.bench_replies.specs.Replies.{of_judged, of_decay, knee_reply, p
 
 use bench_read::{Knee, Peaks, Row, knee_of, peaks_of};
 use bench_write::Said;
-use decay::{Decay, decrement};
-use drag::{Judged, judge};
+use decay::decrement;
+use drag::{Verdict, judge};
+use refusals::Refusal;
 
-fn of_judged(judged: Judged) -> Said
+#[tactic(auto, unfolding(crate::specs::Replies::of_judged))]
+fn of_judged(judged: Result<Verdict, Refusal>) -> Said
     ensures { result ≡ of_judged judged }
 {
     match judged {
-        Judged::Weighed(verdict) => Said::Weighed(verdict),
-        Judged::Refused(number) => Said::NoVerdict(number),
+        Ok(verdict) => Said::Weighed(verdict),
+        Err(refusal) => Said::NoVerdict(refusal),
     }
 }
 
-fn of_decay(decay: Decay) -> Said
+#[tactic(auto, unfolding(crate::specs::Replies::of_decay))]
+fn of_decay(decay: Result<f64, Refusal>) -> Said
     ensures { result ≡ of_decay decay }
 {
     match decay {
-        Decay::Decrement(value) => Said::Decrement(value),
-        Decay::Refused(number) => Said::NoDecrement(number),
+        Ok(value) => Said::Decrement(value),
+        Err(refusal) => Said::NoDecrement(refusal),
     }
 }
 
-fn knee_reply(knee: Knee) -> Said
+#[tactic(auto, unfolding(crate::specs::Replies::knee_reply))]
+fn knee_reply(knee: Option<Knee>) -> Said
     ensures { result ≡ knee_reply knee }
 {
     match knee {
-        Knee::Good(length, height, gravity, time, limit) => {
-            of_judged(judge(length, height, gravity, time, limit))
-        }
-        Knee::Bad => Said::Bad,
+        Some(knee) => of_judged(judge(
+            knee.length,
+            knee.height,
+            knee.gravity,
+            knee.time,
+            knee.limit,
+        )),
+        None => Said::Bad,
     }
 }
 
-fn peaks_reply(peaks: Peaks) -> Said
+#[tactic(auto, unfolding(crate::specs::Replies::peaks_reply))]
+fn peaks_reply(peaks: Option<Peaks>) -> Said
     ensures { result ≡ peaks_reply peaks }
 {
     match peaks {
-        Peaks::Two(a, b) => of_decay(decrement(a, b)),
-        Peaks::Bad => Said::Bad,
+        Some(peaks) => of_decay(decrement(peaks.first, peaks.second)),
+        None => Said::Bad,
     }
 }
 

@@ -14,8 +14,7 @@ pub fn run(rt: HostRuntime, decays: bool, summary: bool, wanted: bool) {
     let mut n: usize = 0;
     let mut meter = progress::begin(rt, wanted, Source::Standard);
     // A proved loop has to end, and nothing says that the input does: so many turns no run uses up.
-    let mut turns = u64::MAX;
-    while turns > 0 {
+    for _ in 0..u64::MAX {
         match read_block(rt, &mut block) {
             Got::Bytes(size) => {
                 let fed = feed(&block, size, state, &mut held, n, &mut out);
@@ -32,10 +31,7 @@ pub fn run(rt: HostRuntime, decays: bool, summary: bool, wanted: bool) {
                 written(rt, &out, used);
                 return;
             }
-            Got::Failed => {
-                return;
-            }
+            Got::Failed => return,
         }
-        turns -= 1;
     }
 }

@@ -7,6 +7,7 @@ use lib.Dec.{eqb}
 use lib.ListN.{length, length-append}
 use Rattle.writing.specs.Fed.{quiet}
 use Rattle.writing.specs.FedLaws.{Short}
+use Rattle.bench_read.specs.Rows.{fresh_at}
 use Rattle.bench_write.specs.Texts.{said_text, shown_of, text_under, tallies_text, longest_reply, longest_tallies, longest_of}
 use Rattle.bench_write.specs.PieceLaws.{under_length}
 use Rattle.bench_write.specs.declared.said.Said.TheVariants.{Tallies}
@@ -41,7 +42,7 @@ at_end_length false t = omega arith
 
 pub end_length : (s : Open) → length (input_end s).said ≤ longest_reply
 unfolding input_end
-end_length s = go (eqb s.state.row.stage 0)
+end_length s = go (fresh_at s.state.row.stage)
   where
     go : (t : Bool) → length (cond t (quiet s) (line_end s)).said ≤ longest_reply
     go true = omega arith

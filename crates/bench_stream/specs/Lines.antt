@@ -2,6 +2,7 @@
 use Rattle.std.specs.Prelude.{ℕ, Bool, false, cond, List, [], ◌∷◌, ◌++◌, eqb, length, take}
 use Rattle.writing.specs.Fed.{Ran, quiet, run}
 use Rattle.bench_read.specs.Rows.{row_from, named, row_after}
+use Rattle.bench_read.specs.declared.rows.Field.TheVariants.{Name, Times}
 use Rattle.bench_read.specs.declared.rows.Row.{Row}
 use Rattle.bench_write.specs.Texts.{text_under}
 use Rattle.bench_write.specs.declared.said.Said.{Said}
@@ -11,7 +12,7 @@ use Rattle.bench_stream.specs.declared.lines.State.{State}
 -- ---- the code's state
 -- at a line's start: of peaks, or of a knee
 unfoldable pub start_row : Bool → Row
-start_row decays = cond decays (row_from 2) (row_from 0)
+start_row decays = cond decays (row_from Times) (row_from Name)
 
 -- before the first byte
 unfoldable pub state_from : Bool → State

@@ -1,6 +1,7 @@
 -- The bench's input as a whole: a reply to each line, and the tallies at its end, if they are asked for. Definitions only.
-use Rattle.std.specs.Prelude.{ℕ, Bool, cond, List, [], ◌∷◌, ◌++◌, eqb, take}
+use Rattle.std.specs.Prelude.{ℕ, Bool, cond, List, [], ◌∷◌, ◌++◌, take}
 use Rattle.writing.specs.Fed.{Ran, quiet, Fed}
+use Rattle.bench_read.specs.Rows.{fresh_at}
 use Rattle.bench_write.specs.Texts.{tallies_text}
 use Rattle.bench_write.specs.declared.tallies.Tally.{Tally}
 use Rattle.bench_stream.specs.Lines.{Open, under, open_after, said, heard, line_end}
@@ -11,7 +12,7 @@ unfoldable pub said_at_end : Bool → Tally → List ℕ
 said_at_end summary tally = cond summary (tallies_text tally) []
 
 unfoldable pub input_end : Open → Ran Open
-input_end s = cond (eqb s.state.row.stage 0) (quiet s) (line_end s)
+input_end s = cond (fresh_at s.state.row.stage) (quiet s) (line_end s)
 
 unfoldable pub said_last : Bool → Open → List ℕ
 said_last summary s = (input_end s).said ++ said_at_end summary (input_end s).left.state.tally

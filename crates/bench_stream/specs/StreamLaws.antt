@@ -5,18 +5,18 @@ use Rattle.std.proofs.Math.Bool.{false}
 use mathlib.Core.List.{List, [], ◌∷◌, ◌++◌, append_assoc}
 use Rattle.writing.specs.Fed.{Ran, quiet, and_ran, run}
 use Rattle.writing.specs.Input.{last_line, lines_from}
-use Rattle.bench_read.specs.Rows.{row_from}
+use Rattle.bench_read.specs.Rows.{row_from, fresh_at}
 use Rattle.bench_read.specs.Begun.{begins}
-use Rattle.bench_stream.specs.Lines.{Open, start_row, state_after, state_heard, open_after, said, heard, line_end}
+use Rattle.bench_stream.specs.Lines.{Open, start_row, state_after, state_heard, open_after, heard, line_end}
 use Rattle.bench_stream.specs.Lines.{bench_byte, bench_from}
 use Rattle.bench_stream.specs.Stream.{input_end, said_last, opened, replies_from}
 
 -- nothing of a line has come
 abbrev pub fresh : Open → Bool
-fresh s = eqb s.state.row.stage 0
+fresh s = fresh_at s.state.row.stage
 
-pub start_fresh : (decays : Bool) → eqb (start_row decays).stage 0 ≡ true
-unfolding start_row row_from
+pub start_fresh : (decays : Bool) → fresh_at (start_row decays).stage ≡ true
+unfolding start_row row_from fresh_at
 start_fresh true = refl
 start_fresh false = refl
 

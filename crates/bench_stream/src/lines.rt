@@ -44,12 +44,9 @@ pub fn begin(decays: bool) -> State
 pub fn after_byte(s: State, b: u8) -> State
     ensures { result ≡ state_after s b }
 {
-    let row = s.row;
-    let tally = s.tally;
     State {
-        decays: s.decays,
-        row: row_step(row, b),
-        tally,
+        row: row_step(s.row, b),
+        ..s
     }
 }
 
@@ -57,11 +54,10 @@ pub fn after_byte(s: State, b: u8) -> State
 pub fn after_line(s: State, reply: Said) -> State
     ensures { result ≡ state_heard s reply }
 {
-    let tally = s.tally;
     State {
-        decays: s.decays,
         row: start_row(s.decays),
-        tally: tallied(tally, reply),
+        tally: tallied(s.tally, reply),
+        ..s
     }
 }
 
@@ -72,8 +68,7 @@ pub fn held_after(s: State, b: u8, held: &mut [u8], n: usize) -> usize
     ensures held_after { take result held.new ≡ name_after s.row (take n held.old) b }
     ensures upper_bound { result ≤ held_length }
 {
-    let row = s.row;
-    if naming(row, b) {
+    if naming(s.row, b) {
         return push(held, n, b);
     }
     n

@@ -7,6 +7,7 @@ ghost use Rattle.bench_stream.specs.Lines.{held_length, under, line_end, bench_b
 ghost use Rattle.bench_stream.specs.Stream.{input_end, said_last, Benches};
 
 use crate::lines::{State, after_byte, after_line, held_after};
+use bench_read::unbegun;
 use bench_replies::reply_to;
 use bench_write::{Said, put_said};
 use writing::{OUT, least};
@@ -33,8 +34,7 @@ fn line_end(s: State, held: &[u8], n: usize, out: &mut [u8], used: usize) -> Pro
         out.new result }
     ensures held_value { result.held ≡ 0 }
 {
-    let row = s.row;
-    let reply = reply_to(s.decays, row, n);
+    let reply = reply_to(s.decays, s.row, n);
     Progress {
         state: after_line(s, reply),
         held: 0,
@@ -60,34 +60,23 @@ fn byte(b: u8, s: State, held: &mut [u8], n: usize, out: &mut [u8], used: usize)
     }
 }
 
-// Feeds the first `size` bytes.
-fn feed_all(
-    block: &[u8],
-    size: usize,
-    s: State,
-    held: &mut [u8],
-    held_before: usize,
-    out: &mut [u8],
-) -> Progress
-    requires size_in_bounds { size ≤ length block.now }
+fn feed_all(part: &[u8], s: State, held: &mut [u8], held_before: usize, out: &mut [u8]) -> Progress
     requires held_len { length held.old ≡ held_length }
     requires held_before_le_held_length { held_before ≤ held_length }
-    requires size_in_bounds_2 { longest_reply * size ≤ length out.old }
-    ensures benches { Benches (bench_from (under s (take held_before held.old)) (take size block.now))
+    requires part_in_bounds { longest_reply * length part.now ≤ length out.old }
+    ensures benches { Benches (bench_from (under s (take held_before held.old)) part.now)
         held.new out.old 0 out.new result }
     ensures held_le_held_length { result.held ≤ held_length }
-    ensures used_bound { result.used ≤ longest_reply * size }
+    ensures used_bound { result.used ≤ longest_reply * length part.now }
 {
     let mut state = s;
     let mut n = held_before;
     let mut used: usize = 0;
-    let mut i = 0;
-    while i < size {
-        let told = byte(block[i], state, held, n, out, used);
+    for b in part {
+        let told = byte(*b, state, held, n, out, used);
         state = told.state;
         n = told.held;
         used = told.used;
-        i += 1;
     }
     Progress {
         state,
@@ -111,7 +100,7 @@ pub fn feed(
     ensures held_le_held_length { result.held ≤ held_length }
     ensures prefix_len { IsPrefixLen result.used out.new }
 {
-    feed_all(block, least(BLOCK, size), s, held, least(HELD, n), out)
+    feed_all(&block[..least(BLOCK, size)], s, held, least(HELD, n), out)
 }
 
 // A line that has begun ends with the input.
@@ -121,8 +110,7 @@ fn ended(s: State, held: &[u8], n: usize, out: &mut [u8]) -> Progress
     ensures { Benches (input_end (under s (take n held.now))) held.now out.old 0
         out.new result }
 {
-    let row = s.row;
-    if row.stage == 0 {
+    if unbegun(s.row) {
         return Progress {
             state: s,
             held: n,
@@ -138,10 +126,8 @@ pub fn finish(summary: bool, s: State, held: &[u8; HELD], n: usize, out: &mut [u
     ensures prefix_len { IsPrefixLen result out.new }
 {
     let told = ended(s, held, least(HELD, n), out);
-    let state = told.state;
-    let tally = state.tally;
     if summary {
-        return put_said(Said::Tallies(tally), b"", out, told.used);
+        return put_said(Said::Tallies(told.state.tally), b"", out, told.used);
     }
     told.used
 }

@@ -8,6 +8,8 @@ use Rattle.std.specs.Float.{binary64}
 use Rattle.phrases.specs.Pieces.{letters, piece_text, room_of, up_to, room_to}
 use Rattle.phrases.specs.PieceLaws.{upto_length}
 use Rattle.phrases.specs.declared.Piece.TheVariants.{Letters}
+use Rattle.refusals.specs.Numbers.{refusal_number}
+use Rattle.refusals.specs.declared.Refusal.{Refusal}
 use Rattle.drag.specs.declared.nanoseconds.Verdict.{Verdict}
 use Rattle.bench_write.specs.Texts.{fixed_text, count_text, word_text, sign_of, excess_text, weighed_text, no_verdict_text}
 use Rattle.bench_write.specs.Texts.{knees_of, minus_text, size_text, decrement_text}
@@ -50,9 +52,9 @@ decrement_is : (x : Float) → up_to (decrement_piece x) 7 ≡ decrement_text x
 unfolding up_to decrement_piece sized_piece piece_text letters decrement_text size_text fixed_text
 decrement_is x = rw (minus_is (to_bits binary64 x)) (simp append_assoc refl)
 
-count_is : (n : ℕ) → up_to (count_piece 3 n) 3 ≡ said_text (NoDecrement n)
+count_is : (r : Refusal) → up_to (count_piece 3 (refusal_number r)) 3 ≡ said_text (NoDecrement r)
 unfolding up_to count_piece label_piece piece_text letters said_text count_text
-count_is n = simp append_assoc refl
+count_is r = simp append_assoc refl
 
 bad_is : up_to bad_piece 2 ≡ said_text Bad
 unfolding up_to bad_piece piece_text letters said_text
@@ -97,9 +99,9 @@ tallies_is t = rw (knees_line t [], passed_line t, drags_line t, refused_line t,
 pub pieces_are : (s : Said) → up_to (piece_of s) (pieces_of s) ≡ said_text s
 unfolding piece_of pieces_of
 pieces_are (Weighed v) = unfold said_text in weighed_is v
-pieces_are (NoVerdict n) = unfold said_text in no_verdict_is n
+pieces_are (NoVerdict r) = unfold said_text in no_verdict_is (refusal_number r)
 pieces_are (Decrement x) = unfold said_text in decrement_is x
-pieces_are (NoDecrement n) = count_is n
+pieces_are (NoDecrement r) = count_is r
 pieces_are Bad = bad_is
 pieces_are (Tallies t) = unfold said_text in tallies_is t
 
@@ -122,9 +124,9 @@ pub pieces_fit : (s : Said) → shown_of s + room_to (piece_of s) (pieces_of s) 
 unfolding piece_of pieces_of shown_of longest_of room_to room_of weighed_piece no_verdict_piece decrement_piece sized_piece bad_piece
     tallies_piece count_piece label_piece
 pieces_fit (Weighed v) = omega (arith, passes_room v.passes)
-pieces_fit (NoVerdict n) = omega arith
+pieces_fit (NoVerdict r) = omega arith
 pieces_fit (Decrement x) = omega (arith, minus_room (to_bits binary64 x))
-pieces_fit (NoDecrement n) = omega arith
+pieces_fit (NoDecrement r) = omega arith
 pieces_fit Bad = omega arith
 pieces_fit (Tallies t) = omega arith
 

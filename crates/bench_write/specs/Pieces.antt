@@ -3,6 +3,7 @@ use Rattle.std.specs.Prelude.{ℕ, ◌/◌, ◌%◌, ◌^◌, Bool, cond, ◌==�
 use Rattle.std.specs.Float.{binary64}
 use Rattle.phrases.specs.declared.Piece.{Piece}
 use Rattle.phrases.specs.declared.Piece.TheVariants.{Letters, Number, Places, Bits}
+use Rattle.refusals.specs.Numbers.{refusal_number}
 use Rattle.drag.specs.declared.nanoseconds.Verdict.{Verdict}
 use Rattle.bench_write.specs.Texts.{sign_of, ticks_of, knees_of, shown_of, longest_of}
 use Rattle.bench_write.specs.declared.tallies.Tally.{Tally}
@@ -84,18 +85,18 @@ tallies_piece t i = count_piece (i / 3) (count_at t (i / 3)) (i % 3)
 -- ---- whatever is said
 unfoldable pub piece_of : Said → ℕ → Piece
 piece_of (Weighed v) i = weighed_piece v i
-piece_of (NoVerdict n) i = no_verdict_piece n i
+piece_of (NoVerdict r) i = no_verdict_piece (refusal_number r) i
 piece_of (Decrement x) i = decrement_piece x i
-piece_of (NoDecrement n) i = count_piece 3 n i
+piece_of (NoDecrement r) i = count_piece 3 (refusal_number r) i
 piece_of Bad i = bad_piece i
 piece_of (Tallies t) i = tallies_piece t i
 
 -- how many there are
 unfoldable pub pieces_of : Said → ℕ
 pieces_of (Weighed v) = 8
-pieces_of (NoVerdict n) = 4
+pieces_of (NoVerdict r) = 4
 pieces_of (Decrement x) = 7
-pieces_of (NoDecrement n) = 3
+pieces_of (NoDecrement r) = 3
 pieces_of Bad = 2
 pieces_of (Tallies t) = 15
 

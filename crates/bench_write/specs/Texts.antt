@@ -5,6 +5,7 @@ use Rattle.digits.specs.Digits.{digits}
 use Rattle.writing.specs.Bad.{bad_text}
 use Rattle.writing.specs.Decimal.{decimal}
 use Rattle.parted.specs.Parts.{parted_of, rounded_of}
+use Rattle.refusals.specs.Numbers.{refusal_number}
 use Rattle.drag.specs.declared.nanoseconds.Verdict.{Verdict}
 use Rattle.bench_write.specs.declared.tallies.Tally.{Tally}
 use Rattle.bench_write.specs.declared.said.Said.{Said}
@@ -78,18 +79,18 @@ tallies_text t = judged_counts t ++ other_counts t
 -- ---- what is said: to a knee, to two peaks, "or `bad line`"; and at the input's end
 unfoldable pub said_text : Said → List ℕ
 said_text (Weighed v) = weighed_text v
-said_text (NoVerdict n) = no_verdict_text n
+said_text (NoVerdict r) = no_verdict_text (refusal_number r)
 said_text (Decrement x) = decrement_text x
-said_text (NoDecrement n) = count_text refused_word n
+said_text (NoDecrement r) = count_text refused_word (refusal_number r)
 said_text Bad = bad_text
 said_text (Tallies t) = tallies_text t
 
 -- a knee's name stands before it, which has no more bytes than these
 unfoldable pub shown_of : Said → ℕ
 shown_of (Weighed v) = 32
-shown_of (NoVerdict n) = 32
+shown_of (NoVerdict r) = 32
 shown_of (Decrement x) = 0
-shown_of (NoDecrement n) = 0
+shown_of (NoDecrement r) = 0
 shown_of Bad = 0
 shown_of (Tallies t) = 0
 
@@ -105,8 +106,8 @@ longest_tallies = 145
 
 unfoldable pub longest_of : Said → ℕ
 longest_of (Weighed v) = longest_reply
-longest_of (NoVerdict n) = longest_reply
+longest_of (NoVerdict r) = longest_reply
 longest_of (Decrement x) = longest_reply
-longest_of (NoDecrement n) = longest_reply
+longest_of (NoDecrement r) = longest_reply
 longest_of Bad = longest_reply
 longest_of (Tallies t) = longest_tallies

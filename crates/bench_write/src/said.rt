@@ -6,6 +6,7 @@ use crate::tallies::{Tally, count_piece, tallies_piece};
 use crate::written_pieces::{bad_piece, decrement_piece, no_verdict_piece, weighed_piece};
 use drag::Verdict;
 use phrases::Piece;
+use refusals::Refusal;
 
 // No answer to a line is longer, its name counted, and no summary.
 const REPLY: usize = 88;
@@ -19,9 +20,9 @@ const NAME: usize = 32;
 #[derive(Clone, Copy)]
 pub enum Said {
     Weighed(Verdict),
-    NoVerdict(u32),
+    NoVerdict(Refusal),
     Decrement(f64),
-    NoDecrement(u32),
+    NoDecrement(Refusal),
     Bad,
     Tallies(Tally),
 }
@@ -31,9 +32,9 @@ pub fn piece_at(said: Said, i: u64) -> Piece
 {
     match said {
         Said::Weighed(verdict) => weighed_piece(verdict, i),
-        Said::NoVerdict(number) => no_verdict_piece(number as u64, i),
+        Said::NoVerdict(refusal) => no_verdict_piece(refusal.number() as u64, i),
         Said::Decrement(value) => decrement_piece(value, i),
-        Said::NoDecrement(number) => count_piece(3, number as u64, i),
+        Said::NoDecrement(refusal) => count_piece(3, refusal.number() as u64, i),
         Said::Bad => bad_piece(i),
         Said::Tallies(tally) => tallies_piece(tally, i),
     }

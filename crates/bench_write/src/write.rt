@@ -15,11 +15,9 @@ fn put_pieces(said: Said, n: u64, out: &mut [u8], at: usize) -> usize
     requires said_in_bounds { at + room_to (piece_of said) (pieces_of said) ≤ length out.old }
     ensures { Put out.old at (said_text said) out.new result }
 {
-    let mut i: u64 = 0;
     let mut next = at;
-    while i < n {
+    for i in 0..n {
         next = put_piece(piece_at(said, i), out, next);
-        i += 1;
     }
     next
 }

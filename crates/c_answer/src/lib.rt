@@ -5,7 +5,7 @@
 ghost use Rattle.std.specs.Prelude.{◌≡◌};
 ghost use Rattle.c_answer.specs.Told.{number_of, value_after, rounds_after, road_after, rescalings_after};
 
-use carlson::answer::{Answer, road_number};
+use carlson::answer::Answer;
 
 pub fn told(
     a: Answer,
@@ -21,14 +21,13 @@ pub fn told(
     ensures rescalings_after { rescalings.new ≡ rescalings_after a rescalings.old }
 {
     match a {
-        Answer::Value(found) => {
-            let taken = found.road;
+        Ok(found) => {
             *value = found.value;
             *rounds = found.way.rounds;
-            *road = road_number(taken);
+            *road = found.road.number();
             *rescalings = found.way.rescalings;
             0
         }
-        Answer::Refused(n) => n,
+        Err(refusal) => refusal.number(),
     }
 }

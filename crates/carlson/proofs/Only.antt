@@ -1,15 +1,16 @@
 -- Demand 1 (document 01): the only answers are a finite value, or one number out of a list. And how that, or any other property
 -- of what may be answered, goes through the steps that the entries share. Assumes nothing.
 use Rattle.std.specs.Prelude.{◌≡◌, ℕ, Bool, true, false, cond, ◌&&◌, ◌||◌, T, List, [], ◌∷◌, ◌==◌, refl}
-use Rattle.std.proofs.Common.{sym, subst, eqb-true}
+use Rattle.std.proofs.Common.{sym, subst, eqb-true, Ok, Err}
 use Rattle.std.specs.Float.Ieee.{of_bits}
 use Rattle.std.specs.Float.Ieee.Fits.{and_l, and_r}
 use Rattle.std.specs.Float.Ieee.Scale.{finite}
-use Rattle.carlson.specs.Constants.{nan_given}
+use Rattle.refusals.specs.declared.Refusal.TheVariants.{NanGiven}
+use Rattle.refusals.specs.Numbers.{refusal_number}
+use Rattle.refusals.specs.declared.Refusal.{Refusal}
 use Rattle.carlson.specs.Answer.{infinite_at, settled, settled_late}
 use Rattle.carlson.specs.declared.answer.Found.{Found}
-use Rattle.carlson.specs.declared.answer.Answer.{Answer}
-use Rattle.carlson.specs.declared.answer.Answer.TheVariants.{Value, Refused}
+use Rattle.carlson.specs.Answer.{Answer}
 use Rattle.carlson.specs.Only.{Any, Finite, Only, among, part, refused, value}
 
 -- ---- through the steps
@@ -24,7 +25,7 @@ among_part n (m ∷ ns) ms p h = go (n == m) refl h (among_part n ns ms (and_r (
 
 pub longer : {P : Found → Type 0} {a : Answer} (ns ms : List ℕ) → T (part ns ms) → Only P ns a → Only P ms a
 longer ns ms p (value v) = value v
-longer ns ms p (refused {n} h) = refused (among_part n ns ms p h)
+longer ns ms p (refused {r} h) = refused (among_part (refusal_number r) ns ms p h)
 
 -- whichever is chosen, with what the test said
 pub asked : {A : Type 0} (Q : A → Type 0) (b : Bool) {u v : A} → (b ≡ true → Q u) → (b ≡ false → Q v) → Q (cond b u v)
@@ -42,31 +43,31 @@ chosen_both R false p q = q
 
 -- settled: a value that is handed out is finite; else what stands in its place
 pub finite_or : {numbers : List ℕ} (f : Found) {a : Answer} → Only Finite numbers a
-    → Only Finite numbers (cond (finite f.value) (Value f) a)
+    → Only Finite numbers (cond (finite f.value) (Ok f) a)
 finite_or {numbers} f {a} h = go (finite f.value) refl
   where
-    go : (b : Bool) → finite f.value ≡ b → Only Finite numbers (cond b (Value f) a)
+    go : (b : Bool) → finite f.value ≡ b → Only Finite numbers (cond b (Ok f) a)
     go true e = value e
     go false e = h
 
-pub settled_only : (numbers : List ℕ) (f : Found) (n : ℕ) → T (among n numbers) → Only Finite numbers (settled f n)
+pub settled_only : (numbers : List ℕ) (f : Found) (r : Refusal) → T (among (refusal_number r) numbers) → Only Finite numbers (settled f r)
 unfolding settled
-settled_only numbers f n h = finite_or f (refused h)
+settled_only numbers f r h = finite_or f (refused h)
 
 pub infinite_only : (numbers : List ℕ) → Only Finite numbers infinite_at
 unfolding infinite_at of_bits
 infinite_only numbers = value refl
 
-pub late_only : (numbers : List ℕ) (f : Found) (nan unbounded : Bool) (n : ℕ) → T (among nan_given numbers) → T (among n numbers)
-    → Only Finite numbers (settled_late f nan unbounded n)
+pub late_only : (numbers : List ℕ) (f : Found) (nan unbounded : Bool) (r : Refusal) → T (among (refusal_number NanGiven) numbers)
+    → T (among (refusal_number r) numbers) → Only Finite numbers (settled_late f nan unbounded r)
 unfolding settled_late
-late_only numbers f nan unbounded n g h =
+late_only numbers f nan unbounded r g h =
     let Q = Only Finite numbers in
     finite_or f (chosen Q nan (refused g) (chosen Q unbounded (infinite_only numbers) (refused h)))
 
 -- what the inner parts answered: a value is settled, their own numbers go through
-pub told_only : {ns : List ℕ} (ms : List ℕ) (settle : Answer → Answer) → ((f : Found) → Only Finite ms (settle (Value f)))
-    → ((n : ℕ) → settle (Refused n) ≡ Refused n) → T (part ns ms) → (a : Answer) → Only Any ns a → Only Finite ms (settle a)
-told_only ms settle each through p (Value f) (value v) = each f
-told_only {ns} ms settle each through p (Refused n) (refused h) =
-    subst (Only Finite ms) (sym (through n)) (refused (among_part n ns ms p h))
+pub told_only : {ns : List ℕ} (ms : List ℕ) (settle : Answer → Answer) → ((f : Found) → Only Finite ms (settle (Ok f)))
+    → ((r : Refusal) → settle (Err r) ≡ Err r) → T (part ns ms) → (a : Answer) → Only Any ns a → Only Finite ms (settle a)
+told_only ms settle each through p (Ok f) (value v) = each f
+told_only {ns} ms settle each through p (Err r) (refused h) =
+    subst (Only Finite ms) (sym (through r)) (refused (among_part (refusal_number r) ns ms p h))

@@ -1,11 +1,10 @@
 -- How many rounds and rescalings a way has (document 02, 2026-12), so that the sums of u32 in code are plain. Assumes nothing.
 use Rattle.std.specs.Prelude.{◌≡◌, ℕ, ◌+◌, ◌%◌, ◌^◌, ◌<◌, ◌≤◌, Float}
-use Rattle.std.proofs.Common.{arith}
+use Rattle.std.proofs.Common.{arith, Ok, Err}
 use Rattle.carlson.specs.Answer.{way_of, both_ways, wrapped_ways, rescaled_at}
 use Rattle.carlson.specs.declared.answer.Way.{Way}
 use Rattle.carlson.specs.declared.answer.Found.{Found}
-use Rattle.carlson.specs.declared.answer.Answer.{Answer}
-use Rattle.carlson.specs.declared.answer.Answer.TheVariants.{Value, Refused}
+use Rattle.carlson.specs.Answer.{Answer}
 use Rattle.carlson.specs.Ways.{Few, Within}
 
 -- ---- through the steps
@@ -16,8 +15,8 @@ pub wider : {m k m' k' : ℕ} {w : Way} → m ≤ m' → k ≤ k' → Within m k
 wider h g r = record { begun = omega (arith, r.begun); scaled = omega (arith, r.scaled) }
 
 pub few_wider : {m k m' k' : ℕ} → m ≤ m' → k ≤ k' → (a : Answer) → Few m k a → Few m' k' a
-few_wider h g (Value f) r = wider h g r
-few_wider h g (Refused n) r = tt
+few_wider h g (Ok f) r = wider h g r
+few_wider h g (Err n) r = tt
 
 -- a rescaling more
 pub rescaled_within : {m k : ℕ} (f : Found) (v : Float) → Within m k f.way → Within m (k + 1) (rescaled_at f v).way

@@ -1,15 +1,19 @@
 -- What an answer holds, and how an entry settles it (document 01, "Rounds" and "Numbers for no"; document 02, 2026-04).
 -- Definitions only.
-use Rattle.std.specs.Prelude.{ℕ, ◌+◌, ◌%◌, ◌^◌, Bool, cond, Float}
+use Rattle.std.specs.Prelude.{ℕ, ◌+◌, ◌%◌, ◌^◌, Bool, cond, Float, Result, Ok, Err}
 use Rattle.std.specs.Float.Ieee.Scale.{finite}
-use Rattle.carlson.specs.Constants.{zero, nan_given}
+use Rattle.refusals.specs.declared.Refusal.TheVariants.{NanGiven}
+use Rattle.carlson.specs.Constants.{zero}
 use Rattle.carlson.specs.declared.answer.Way.{Way}
 use Rattle.carlson.specs.declared.answer.Found.{Found}
-use Rattle.carlson.specs.declared.answer.Answer.{Answer}
-use Rattle.carlson.specs.declared.answer.Answer.TheVariants.{Value, Refused}
+use Rattle.refusals.specs.declared.Refusal.{Refusal}
 use Rattle.carlson.specs.declared.answer.Road.{Road}
 use Rattle.carlson.specs.declared.answer.Road.TheVariants.{Closed, Infinite, Agm, Duplication, Joint, Taylor, Reduction}
 use Rattle.carlson.specs.declared.answer.Road.TheVariants.{Loop}
+
+-- ---- a value with its road and way, or the refusal that stands in its place
+abbrev pub Answer : Type 0
+Answer = Result Found Refusal
 
 -- ---- the way to a value: "the round count is the number of duplication or joint passes begun, plus AGM passes that replaced
 -- the means"
@@ -28,7 +32,7 @@ wrapped_ways a b = record {
 }
 
 -- ---- the roads' numbers for other programs, in the order in which document 02 names them
-unfoldable pub road_number : Road → ℕ
+abbrev pub road_number : Road → ℕ
 road_number Closed = 1
 road_number Infinite = 2
 road_number Agm = 3
@@ -49,7 +53,7 @@ carried_at v w = record { value = v; road = Closed; way = w }
 
 -- the zero for an infinite argument is +0 and counts none: "rescalings are then 0"
 unfoldable pub infinite_at : Answer
-infinite_at = Value (record { value = zero; road = Infinite; way = way_of 0 })
+infinite_at = Ok (record { value = zero; road = Infinite; way = way_of 0 })
 
 -- the mean counts the passes that replaced it
 unfoldable pub agm_at : Float → ℕ → Found
@@ -91,11 +95,11 @@ unfoldable pub handed_at : Found → Float → Found
 handed_at f v = record { value = v; road = f.road; way = f.way }
 
 -- ---- how an entry settles it
--- "steps, then 6": a finite value stands, else the number
-unfoldable pub settled : Found → ℕ → Answer
-settled f n = cond (finite f.value) (Value f) (Refused n)
+-- "steps, then 6": a finite value stands, else the refusal
+unfoldable pub settled : Found → Refusal → Answer
+settled f r = cond (finite f.value) (Ok f) (Err r)
 
--- "a finite result stands; else 1, then +infinity gives 0, then" the number
-unfoldable pub settled_late : Found → Bool → Bool → ℕ → Answer
-settled_late f nan unbounded n = cond (finite f.value) (Value f)
-    (cond nan (Refused nan_given) (cond unbounded infinite_at (Refused n)))
+-- "a finite result stands; else 1, then +infinity gives 0, then" the refusal
+unfoldable pub settled_late : Found → Bool → Bool → Refusal → Answer
+settled_late f nan unbounded r = cond (finite f.value) (Ok f)
+    (cond nan (Err NanGiven) (cond unbounded infinite_at (Err r)))

@@ -2,7 +2,7 @@
 -- this one.
 use Rattle.std.specs.Prelude.{◌≡◌, ℕ, zero, suc, ◌+◌, ◌-◌, ◌<◌, ◌≤◌, Bool, true, false}
 use Rattle.std.proofs.Math.Path.{refl}
-use Rattle.std.proofs.Common.{sym, ◌∙◌, add-one}
+use Rattle.std.proofs.Common.{sym, subst, ◌∙◌, add-one}
 use native.Mathlib.Omega.{arith}
 
 module _ {S A : Type 0} (step : S → S) (stop : S → Bool) (found spent : S → ℕ → A) where
@@ -96,6 +96,18 @@ module _ {S A : Type 0} {step : S → S} {stop : S → Bool} {found spent : S �
     pub left_spent : b ≡ false → n ≡ cap → spent s n ≡ a
     unfolding capped
     left_spent e h = let z : cap - n ≡ 0 = omega arith in rw (z, e) at l.gives
+
+    -- no pass is left, and the count is the cap
+    pub left_over : b ≡ false → n ≡ cap → spent s cap ≡ a
+    left_over e h = subst (λ (m : ℕ). spent s m ≡ a) h (left_spent e h)
+
+    -- no pass is left, whatever the test says, of a loop that answers alike both times
+    pub left_either : found s n ≡ spent s n → n ≡ cap → spent s cap ≡ a
+    left_either e h = go b refl
+      where
+        go : (t : Bool) → b ≡ t → spent s cap ≡ a
+        go true f = subst (λ (m : ℕ). spent s m ≡ a) h (sym e ∙ sym (stopped step stop found spent (cap - n) s n) ∙ (rw f at l.gives))
+        go false f = left_over f h
 
     -- the loop stops
     pub left_found : b ≡ true → found s n ≡ a

@@ -1,4 +1,4 @@
-// An answer is one of two cases: a value with its road and way, or the number of a refusal (document 01, "Numbers for no"). A
+// An answer is a value with its road and way, or the refusal that stands in its place (document 01, "Numbers for no"). A
 // `Found` is made by the functions here alone: one for each road to a value, and two that keep the road of what was found.
 ghost use Rattle.std.specs.Prelude.{◌≡◌};
 ghost use Rattle.std.specs.Float.{nan};
@@ -21,11 +21,11 @@ ghost use Rattle.carlson.specs.Answer.{
   settled_late,
 };
 
-use crate::constants::NAN_GIVEN;
 use binary64::is_finite;
+use refusals::Refusal;
 
 // Which formula answered (document 02, 2026-04; the loop is cel's alone, 2026-09).
-#[derive(Clone, Copy)]
+#[derive(Clone, Copy, Debug, PartialEq, Eq)]
 pub enum Road {
     Closed,
     Infinite,
@@ -37,24 +37,26 @@ pub enum Road {
     Loop,
 }
 
-// Their numbers for other programs, in the order in which document 02 names them.
-pub fn road_number(road: Road) -> u32
-    ensures { result ≡ road_number road }
-{
-    match road {
-        Road::Closed => 1,
-        Road::Infinite => 2,
-        Road::Agm => 3,
-        Road::Duplication => 4,
-        Road::Joint => 5,
-        Road::Taylor => 6,
-        Road::Reduction => 7,
-        Road::Loop => 8,
+impl Road {
+    // Its number for other programs, in the order in which document 02 names them.
+    pub fn number(self) -> u32
+        ensures { result ≡ road_number self }
+    {
+        match self {
+            Road::Closed => 1,
+            Road::Infinite => 2,
+            Road::Agm => 3,
+            Road::Duplication => 4,
+            Road::Joint => 5,
+            Road::Taylor => 6,
+            Road::Reduction => 7,
+            Road::Loop => 8,
+        }
     }
 }
 
 // What adds up over the call and all it calls: the rounds begun, and the rescalings.
-#[derive(Clone, Copy)]
+#[derive(Clone, Copy, Debug, PartialEq, Eq)]
 pub struct Way {
     pub rounds: u32,
     pub rescalings: u32,
@@ -68,11 +70,7 @@ pub struct Found {
     pub way: Way,
 }
 
-#[derive(Clone, Copy)]
-pub enum Answer {
-    Value(Found),
-    Refused(u32),
-}
+pub type Answer = Result<Found, Refusal>;
 
 // Two ways gone one after the other. A call's counts are so few that the sums never wrap (specs/Ways.antt, `few_ways`).
 pub fn both_ways(a: Way, b: Way) -> Way
@@ -113,7 +111,7 @@ pub fn carried(value: f64, way: Way) -> Found
 pub fn infinite() -> Answer
     ensures { result ≡ infinite_at }
 {
-    Answer::Value(Found {
+    Ok(Found {
         value: 0.0,
         road: Road::Infinite,
         way: Way {
@@ -240,32 +238,32 @@ pub fn handed(found: Found, value: f64) -> Found
     Found { value, road, way }
 }
 
-// A finite value stands; else the number says why there is none.
-pub fn settle(found: Found, number: u32) -> Answer
-    ensures { result ≡ settled found number }
+// A finite value stands; else the refusal says why there is none.
+pub fn settle(found: Found, refusal: Refusal) -> Answer
+    ensures { result ≡ settled found refusal }
 {
     let value = found.value;
     if is_finite(value) {
-        return Answer::Value(found);
+        return Ok(found);
     }
-    Answer::Refused(number)
+    Err(refusal)
 }
 
 // A finite value stands; else a NaN among the arguments is refused as such, then an infinite one gives the zero.
-pub fn settle_late(found: Found, nan: bool, unbounded: bool, number: u32) -> Answer
-    ensures { result ≡ settled_late found nan unbounded number }
+pub fn settle_late(found: Found, nan: bool, unbounded: bool, refusal: Refusal) -> Answer
+    ensures { result ≡ settled_late found nan unbounded refusal }
 {
     let value = found.value;
     if is_finite(value) {
-        return Answer::Value(found);
+        return Ok(found);
     }
     if nan {
-        return Answer::Refused(NAN_GIVEN);
+        return Err(Refusal::NanGiven);
     }
     if unbounded {
         return infinite();
     }
-    Answer::Refused(number)
+    Err(refusal)
 }
 
 // The value of a loop that was not left: no number.

@@ -32,13 +32,6 @@ pub fn lambda_with(rx: f64, ry: f64, rz: f64) -> Lambda
     }
 }
 
-// The lambda of a pass whose roots were guessed, and whether they were told to be right.
-#[derive(Clone, Copy)]
-pub struct Trial {
-    pub told: bool,
-    pub by: Lambda,
-}
-
 // The series of RD and RJ in the symmetric functions of their corrections (DLMF 19.36.2).
 pub fn third_kind(e2: f64, e3: f64, e4: f64, e5: f64) -> f64
     ensures { result ≡ third_kind e2 e3 e4 e5 }

@@ -9,24 +9,3 @@ pub const EPSILON: f64 = 2.220446049250313e-16; // 2 ^ -52
 pub const LIMIT: f64 = 3.4028236692093843e38;
 
 pub const RECIPROCAL: f64 = 2.9387358770557194e-39;
-
-// Document 01's numbers for no.
-pub const NAN_GIVEN: u32 = 1;
-
-pub const BELOW_ZERO: u32 = 2;
-
-pub const ZEROS: u32 = 3;
-
-pub const ZERO_GIVEN: u32 = 4;
-
-pub const Z_NOT_ABOVE: u32 = 5;
-
-pub const NO_RESULT: u32 = 6;
-
-pub const RC_NO_RESULT: u32 = 7;
-
-pub const RG_NO_RESULT: u32 = 8;
-
-pub const AGM_SPENT: u32 = 9;
-
-pub const TOO_DEEP: u32 = 10;

@@ -1,5 +1,5 @@
 // The tests on arguments, as the Rust's macros make them.
-ghost use Rattle.std.specs.Prelude.{◌≡◌, ◌&&◌, ◌||◌};
+ghost use Rattle.std.specs.Prelude.{◌≡◌};
 ghost use Rattle.std.specs.Float.Ieee.{eq, is_nan};
 ghost use Rattle.carlson_arguments.specs.Checks.{
   any_nan2,
@@ -15,46 +15,28 @@ ghost use Rattle.carlson.specs.Constants.{zero, infinity};
 
 use binary64::{abs, min};
 
-pub fn either(a: bool, b: bool) -> bool
-    ensures { result ≡ (a || b) }
-{
-    if a {
-        return true;
-    }
-    b
-}
-
-pub fn both(a: bool, b: bool) -> bool
-    ensures { result ≡ (a && b) }
-{
-    if a {
-        return b;
-    }
-    false
-}
-
 pub fn is_nan(x: f64) -> bool
     ensures { result ≡ is_nan x }
 {
-    x != x
+    x.is_nan()
 }
 
 pub fn any_nan2(x: f64, y: f64) -> bool
     ensures { result ≡ any_nan2 x y }
 {
-    either(is_nan(x), is_nan(y))
+    is_nan(x) || is_nan(y)
 }
 
 pub fn any_nan3(x: f64, y: f64, z: f64) -> bool
     ensures { result ≡ any_nan3 x y z }
 {
-    either(any_nan2(x, y), is_nan(z))
+    any_nan2(x, y) || is_nan(z)
 }
 
 pub fn any_nan4(x: f64, y: f64, z: f64, p: f64) -> bool
     ensures { result ≡ any_nan4 x y z p }
 {
-    either(any_nan3(x, y, z), is_nan(p))
+    any_nan3(x, y, z) || is_nan(p)
 }
 
 // +infinity: no constant can hold it, so it comes by its bits.
@@ -67,20 +49,20 @@ pub fn is_infinite(x: f64) -> bool
 pub fn any_infinite2(x: f64, y: f64) -> bool
     ensures { result ≡ any_infinite2 x y }
 {
-    either(is_infinite(x), is_infinite(y))
+    is_infinite(x) || is_infinite(y)
 }
 
 pub fn any_infinite3(x: f64, y: f64, z: f64) -> bool
     ensures { result ≡ any_infinite3 x y z }
 {
-    either(any_infinite2(x, y), is_infinite(z))
+    any_infinite2(x, y) || is_infinite(z)
 }
 
 // RJ's, whose p may be infinite with either sign.
 pub fn any_infinite4(x: f64, y: f64, z: f64, p: f64) -> bool
     ensures { result ≡ any_infinite4 x y z p }
 {
-    either(any_infinite3(x, y, z), is_infinite(abs(p)))
+    any_infinite3(x, y, z) || is_infinite(abs(p))
 }
 
 // By the smallest, which passes over a NaN.
@@ -97,5 +79,5 @@ pub fn zeros3(x: f64, y: f64, z: f64) -> bool
     let a = x == 0.0;
     let b = y == 0.0;
     let c = z == 0.0;
-    either(both(a, b), both(either(a, b), c))
+    (a && b) || ((a || b) && c)
 }

@@ -15,7 +15,6 @@ ghost use Rattle.carlson_arguments.specs.Rescaling.{
   rescales4,
 };
 
-use crate::checks::both;
 use binary64::{abs, is_finite, max};
 use carlson::constants::{LIMIT, RECIPROCAL};
 
@@ -40,69 +39,48 @@ pub fn scale4(x: f64, y: f64, z: f64, p: f64) -> f64
 fn beyond(scale: f64) -> bool
     ensures { result ≡ beyond_limits scale }
 {
-    if is_finite(scale) {
-        if scale > 0.0 {
-            if scale > LIMIT {
-                return true;
-            }
-            return scale < RECIPROCAL;
-        }
-        return false;
-    }
-    false
+    is_finite(scale) && scale > 0.0 && (scale > LIMIT || scale < RECIPROCAL)
 }
 
 fn stays(v: f64, scale: f64) -> bool
     ensures { result ≡ survives v scale }
 {
-    if v == 0.0 {
-        return true;
-    }
-    v / scale != 0.0
+    v == 0.0 || v / scale != 0.0
 }
 
 fn stay2(x: f64, y: f64, scale: f64) -> bool
     ensures { result ≡ survive2 x y scale }
 {
-    both(stays(x, scale), stays(y, scale))
+    stays(x, scale) && stays(y, scale)
 }
 
 fn stay3(x: f64, y: f64, z: f64, scale: f64) -> bool
     ensures { result ≡ survive3 x y z scale }
 {
-    both(stay2(x, y, scale), stays(z, scale))
+    stay2(x, y, scale) && stays(z, scale)
 }
 
 fn stay4(x: f64, y: f64, z: f64, p: f64, scale: f64) -> bool
     ensures { result ≡ survive4 x y z p scale }
 {
-    both(stay3(x, y, z, scale), stays(p, scale))
+    stay3(x, y, z, scale) && stays(p, scale)
 }
 
 // Whether the arguments are divided by their scale.
 pub fn rescales2(x: f64, y: f64, scale: f64) -> bool
     ensures { result ≡ rescales2 x y scale }
 {
-    if beyond(scale) {
-        return stay2(x, y, scale);
-    }
-    false
+    beyond(scale) && stay2(x, y, scale)
 }
 
 pub fn rescales3(x: f64, y: f64, z: f64, scale: f64) -> bool
     ensures { result ≡ rescales3 x y z scale }
 {
-    if beyond(scale) {
-        return stay3(x, y, z, scale);
-    }
-    false
+    beyond(scale) && stay3(x, y, z, scale)
 }
 
 pub fn rescales4(x: f64, y: f64, z: f64, p: f64, scale: f64) -> bool
     ensures { result ≡ rescales4 x y z p scale }
 {
-    if beyond(scale) {
-        return stay4(x, y, z, p, scale);
-    }
-    false
+    beyond(scale) && stay4(x, y, z, p, scale)
 }

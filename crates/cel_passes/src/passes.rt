@@ -155,7 +155,7 @@ fn value_of(s: Running) -> f64
     PI_2 * (s.aa * s.m + s.bb) / (s.m * (s.m + s.pp))
 }
 
-// From the first pass on, of which n more were begun.
+// From the first pass on, of which n more were begun. (No `for`: it would have to ask again behind its end whether it is far.)
 fn from(first: Running) -> Found
     ensures { result ≡ cel_from first }
 {

@@ -6,7 +6,8 @@ use binary64::split;
 use carlson::answer::Answer;
 use distance::{apart, is_finite_pattern};
 
-// Kind 0 and the value's bits, or kind 1 and the refusal's number; no claim of another kind meets anything.
+// Kind 0 and the value's bits, or kind 1 and the refusal's number; no claim of another kind meets anything. Two words as another
+// program hands them in, of any kind, so they stay words.
 #[derive(Clone, Copy)]
 pub struct Claim {
     pub kind: u64,
@@ -38,7 +39,7 @@ pub fn meets(tolerance: u64, answer: Answer, claim: Claim) -> bool
     ensures { result ≡ meets_of tolerance answer claim }
 {
     match answer {
-        Answer::Value(found) => value_meets(tolerance, split(found.value), claim),
-        Answer::Refused(number) => refusal_meets(number, claim),
+        Ok(found) => value_meets(tolerance, split(found.value), claim),
+        Err(refusal) => refusal_meets(refusal.number(), claim),
     }
 }

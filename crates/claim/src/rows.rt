@@ -2,15 +2,15 @@
 ghost use Rattle.std.specs.Prelude.{◌≡◌};
 ghost use Rattle.claim.specs.Rows.{row_after, missing_at, ended_at};
 
-// Document 02's number for no: claims and jobs differ in number.
-const NUMBERS_DIFFER: u32 = 22;
+use refusals::Refusal;
 
+// A verdict of its own: that a row is bad is neither a refusal nor a value, so a Result of an Option would say less.
 #[derive(Clone, Copy)]
 pub enum Checked {
     Accepted,
     // Counted from 0.
     BadRow(u64),
-    Refused(u32),
+    Refused(Refusal),
 }
 
 // After a row more, whose claim meets our answer or not.
@@ -18,7 +18,7 @@ pub fn row_after(so: Checked, row: u64, met: bool) -> Checked
     ensures { result ≡ row_after so row met }
 {
     match so {
-        Checked::Refused(number) => Checked::Refused(number),
+        Checked::Refused(refusal) => Checked::Refused(refusal),
         Checked::BadRow(first) => Checked::BadRow(first),
         Checked::Accepted => {
             if met {
@@ -34,9 +34,9 @@ pub fn missing(so: Checked) -> Checked
     ensures { result ≡ missing_at so }
 {
     match so {
-        Checked::Refused(number) => Checked::Refused(number),
-        Checked::BadRow(_) => Checked::Refused(NUMBERS_DIFFER),
-        Checked::Accepted => Checked::Refused(NUMBERS_DIFFER),
+        Checked::Refused(refusal) => Checked::Refused(refusal),
+        Checked::BadRow(_) => Checked::Refused(Refusal::NumbersDiffer),
+        Checked::Accepted => Checked::Refused(Refusal::NumbersDiffer),
     }
 }
 

@@ -1,10 +1,8 @@
 -- Of a line it is enough to hold its first bytes: what it claims hangs on no more. Assumes nothing.
-use Rattle.std.specs.Prelude.{ℕ, zero, suc, ◌+◌, ◌-◌, ◌≤◌, ◌<◌, ◌≡◌, Bool, true, false, cond, List, [], ◌∷◌, eqb, length, take, drop}
+use Rattle.std.specs.Prelude.{ℕ, zero, suc, ◌+◌, ◌-◌, ◌≤◌, ◌<◌, ◌≡◌, Bool, true, false, cond, List, [], ◌∷◌, eqb, length, take, drop, Option, Some, None}
 use Rattle.std.proofs.Math.Path.{refl}
 use Rattle.std.proofs.Common.{sym, ap, ◌∙◌, ⊎_elim, zero-add, suc-add, arith, ne_eqb, lt-ltb, take_all, length-take-le}
 use Rattle.algebra.specs.Order.{lt_or_le}
-use Rattle.digits.specs.declared.Word.{Word}
-use Rattle.digits.specs.declared.Word.TheVariants.{Is, Not}
 use Rattle.listing_read.specs.Lines.{same}
 use Rattle.listing_read.specs.LineLaws.{same_true}
 use Rattle.claim_read.specs.Line.{
@@ -54,11 +52,11 @@ no_name name l h = go (same l name) refl
     go true e = absurd (omega (arith, ap length (same_true l name e)))
     go false e = refl
 
-no_value : (l : List ℕ) → 16 < length l → value_of l ≡ Not
+no_value : (l : List ℕ) → 16 < length l → value_of l ≡ None
 unfolding value_of
 no_value l h = rw (ne_eqb (length l) 16 (λ e. omega arith))
 
-no_count : (l : List ℕ) → 10 < length l → count_of l ≡ Not
+no_count : (l : List ℕ) → 10 < length l → count_of l ≡ None
 unfolding count_of
 no_count l h = rw (ne_eqb (length l) 0 (λ e. omega arith), lt-ltb 10 (length l) h)
 
@@ -75,7 +73,7 @@ after_held n k l e h =
 
 -- a blank and ten digits, and a byte more to see their end
 count_held : (k : ℕ) (l : List ℕ) → 10 < k → count_of (field_of (take k l)) ≡ count_of (field_of l)
-count_held k l h = ap count_of (field_held k l) ∙ held count_of Not 10 no_count k (field_of l) h
+count_held k l h = ap count_of (field_held k l) ∙ held count_of None 10 no_count k (field_of l) h
 
 refusal_held : (k : ℕ) (l : List ℕ) → 18 < k → refusal_said (take k l) ≡ refusal_said l
 unfolding refusal_said
@@ -94,11 +92,11 @@ refusal_held k l h =
 said_held : (k : ℕ) (l : List ℕ) → 18 < k → said (take k l) ≡ said l
 unfolding said
 said_held k l h =
-    rw (field_held k l, held value_of Not 16 no_value k (field_of l) (omega arith)) (go (value_of (field_of l)))
+    rw (field_held k l, held value_of None 16 no_value k (field_of l) (omega arith)) (go (value_of (field_of l)))
   where
-    go : (w : Word) → value_claim w (take k l) ≡ value_claim w l
-    go (Is v) = unfold value_claim in refl
-    go Not = unfold value_claim in refusal_held k l h
+    go : (w : Option ℕ) → value_claim w (take k l) ≡ value_claim w l
+    go (Some v) = unfold value_claim in refl
+    go None = unfold value_claim in refusal_held k l h
 
 -- THE LAW: of a name up to three bytes, twenty-three bytes are enough
 pub claim_held : (name l : List ℕ) (k : ℕ) → length name ≤ 3 → 22 < k → claim_of name (take k l) ≡ claim_of name l

@@ -1,9 +1,7 @@
 -- What a line of a listing claims (document 02, 2026-11): "a claim for each job (value bits or a refusal number)". Definitions
 -- only.
-use Rattle.std.specs.Prelude.{ℕ, ◌+◌, cond, List, [], ◌∷◌, eqb, ltb, length, drop}
+use Rattle.std.specs.Prelude.{ℕ, ◌+◌, cond, List, [], ◌∷◌, eqb, ltb, length, drop, Option, Some, None}
 use Rattle.digits.specs.Digits.{number_from}
-use Rattle.digits.specs.declared.Word.{Word}
-use Rattle.digits.specs.declared.Word.TheVariants.{Is, Not}
 use Rattle.listing_read.specs.Lines.{same}
 use Rattle.claim.specs.declared.meeting.Claim.{Claim}
 
@@ -18,21 +16,21 @@ unfoldable pub after_field : List ℕ → List ℕ
 after_field l = drop (length (field_of l) + 1) l
 
 -- a value's pattern: sixteen upper-case hex digits
-unfoldable pub value_of : List ℕ → Word
-value_of f = cond (eqb (length f) 16) (number_from 16 0 f) Not
+unfoldable pub value_of : List ℕ → Option ℕ
+value_of f = cond (eqb (length f) 16) (number_from 16 0 f) None
 
 -- a refusal's number: one to ten decimal digits, as many as a u32 has
-unfoldable pub count_of : List ℕ → Word
-count_of f = cond (eqb (length f) 0) Not (cond (ltb 10 (length f)) Not (number_from 10 0 f))
+unfoldable pub count_of : List ℕ → Option ℕ
+count_of f = cond (eqb (length f) 0) None (cond (ltb 10 (length f)) None (number_from 10 0 f))
 
 -- ---- a line
 -- a line of another form claims what meets nothing
 abbrev pub no_claim : Claim
 no_claim = record { kind = 2; word = 0 }
 
-unfoldable pub count_claim : Word → Claim
-count_claim (Is n) = record { kind = 1; word = n }
-count_claim Not = no_claim
+unfoldable pub count_claim : Option ℕ → Claim
+count_claim (Some n) = record { kind = 1; word = n }
+count_claim None = no_claim
 
 -- "refused"
 abbrev pub refused_word : List ℕ
@@ -41,9 +39,9 @@ refused_word = 114 ∷ 101 ∷ 102 ∷ 117 ∷ 115 ∷ 101 ∷ 100 ∷ []
 unfoldable pub refusal_said : List ℕ → Claim
 refusal_said l = cond (same (field_of l) refused_word) (count_claim (count_of (field_of (after_field l)))) no_claim
 
-unfoldable pub value_claim : Word → List ℕ → Claim
-value_claim (Is w) l = record { kind = 0; word = w }
-value_claim Not l = refusal_said l
+unfoldable pub value_claim : Option ℕ → List ℕ → Claim
+value_claim (Some w) l = record { kind = 0; word = w }
+value_claim None l = refusal_said l
 
 -- after the name; "what follows the value on a line is passed over"
 unfoldable pub said : List ℕ → Claim

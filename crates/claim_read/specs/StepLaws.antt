@@ -1,10 +1,9 @@
 -- A line read field by field, where the fields are told by their lengths. Assumes nothing.
-use Rattle.std.specs.Prelude.{ℕ, ◌+◌, ◌≡◌, List, length}
+use Rattle.std.specs.Prelude.{ℕ, ◌+◌, ◌≡◌, List, length, Some, None}
 use Rattle.std.proofs.Common.{sym, ◌∙◌, arith, length-take-le}
 use Rattle.std.proofs.Math.Path.{ap}
 use Rattle.std.proofs.Math.Bool.{true, false}
 use Rattle.std.proofs.Math.ListN.{take, drop}
-use Rattle.digits.specs.declared.Word.TheVariants.{Is, Not}
 use Rattle.listing_read.specs.Lines.{same}
 use Rattle.claim_read.specs.Line.{
   field_of,
@@ -44,13 +43,13 @@ module _ (l : List ℕ) (n : ℕ) (e : n ≡ length (field_of l)) where
   unfolding refusal_said
   refusal_none t = let p : same (field_of l) refused_word ≡ false = rw first at t in rw p
 
-  pub value_there : (w : ℕ) → value_of (take n l) ≡ Is w → record { kind = 0; word = w } ≡ said l
+  pub value_there : (w : ℕ) → value_of (take n l) ≡ Some w → record { kind = 0; word = w } ≡ said l
   unfolding said value_claim
-  value_there w t = let p : value_of (field_of l) ≡ Is w = rw first at t in rw p
+  value_there w t = let p : value_of (field_of l) ≡ Some w = rw first at t in rw p
 
-  pub value_none : value_of (take n l) ≡ Not → refusal_said l ≡ said l
+  pub value_none : value_of (take n l) ≡ None → refusal_said l ≡ said l
   unfolding said value_claim
-  value_none t = let p : value_of (field_of l) ≡ Not = rw first at t in rw p
+  value_none t = let p : value_of (field_of l) ≡ None = rw first at t in rw p
 
   pub name_there : (name a : List ℕ) → same (take n l) name ≡ true → a ≡ drop (n + 1) l → said a ≡ claim_of name l
   unfolding claim_of

@@ -6,7 +6,6 @@ ghost use Rattle.claim_read.specs.Line.{no_claim, count_claim, refusal_said, sai
 
 use crate::fields::{count, field_length, rest, value};
 use claim::Claim;
-use digits::Word;
 use listing_read::is_name;
 use unpack_stream::letter;
 
@@ -27,15 +26,16 @@ fn is_name_of(field: &[u8], function: u64) -> bool
     is_name(field, &name)
 }
 
-fn count_claim(word: Word) -> Claim
+#[tactic(auto, unfolding(crate::specs::Line::count_claim))]
+fn count_claim(word: Option<u64>) -> Claim
     ensures { result ≡ count_claim word }
 {
     match word {
-        Word::Is(number) => Claim {
+        Some(number) => Claim {
             kind: 1,
             word: number,
         },
-        Word::Not => none(),
+        None => none(),
     }
 }
 
@@ -58,8 +58,8 @@ fn claim_said(text: &[u8]) -> Claim
 {
     let n = field_length(text);
     match value(&text[..n]) {
-        Word::Is(word) => Claim { kind: 0, word },
-        Word::Not => refusal_said(text),
+        Some(word) => Claim { kind: 0, word },
+        None => refusal_said(text),
     }
 }
 

@@ -12,7 +12,7 @@ use std::io;
 use std::io::{Print, Read};
 use writing::{OUT, least};
 
-// What a read led to.
+// What a read led to. (Each caller takes all three ways: a Result of an Option, or a size of 0 for the end, would say it less plainly.)
 #[derive(Clone, Copy)]
 pub enum Got {
     // So many bytes came.

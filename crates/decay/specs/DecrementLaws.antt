@@ -1,5 +1,5 @@
 -- Equal peaks do not decay: the decrement is +0. Assumes nothing.
-use Rattle.std.specs.Prelude.{ℕ, ◌^◌, ◌≡◌, false}
+use Rattle.std.specs.Prelude.{ℕ, ◌^◌, ◌≡◌, false, Ok}
 use Rattle.std.proofs.Math.Path.{refl}
 use Rattle.std.proofs.Common.{◌∙◌, arith}
 use Rattle.std.specs.Float.{binary64}
@@ -14,7 +14,6 @@ use Rattle.swing.specs.Ranges.{From1}
 use Rattle.swing.proofs.Ranges.{within_from}
 use Rattle.decay.specs.Quotients.{ratio_is}
 use Rattle.decay.specs.Decrement.{decay_of}
-use Rattle.decay.specs.declared.Decay.TheVariants.{Decrement}
 
 -- the quotient of a number and itself is 1
 ratio_same : (a : ℕ) → From1 a (2 ^ 53) → ratio a a ≡ round binary64 false 1 1
@@ -29,6 +28,6 @@ ln_of_one : ln (bits 0x3FF0_0000_0000_0000) ≡ bits 0
 ln_of_one = unfold ln of_bits to_bits in refl
 
 -- THE LAW: "0 where they are equal"
-pub no_decay : (a : ℕ) → From1 a (2 ^ 53) → decay_of a a ≡ Decrement (bits 0)
+pub no_decay : (a : ℕ) → From1 a (2 ^ 53) → decay_of a a ≡ Ok (bits 0)
 unfolding decay_of
 no_decay a A = rw (within_from a (2 ^ 53) A, ratio_same a A, one_is, ln_of_one)

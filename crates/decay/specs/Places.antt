@@ -1,5 +1,5 @@
 -- The printed places of a decrement are its value's to the nearest, whatever the peaks: it is below 2 ^ 20. Assumes nothing.
-use Rattle.std.specs.Prelude.{ℕ, ◌+◌, ◌*◌, ◌%◌, ◌^◌, ◌<◌, ◌≡◌, refl, Bool, true, false, ◌&&◌, cond, T, Float}
+use Rattle.std.specs.Prelude.{ℕ, ◌+◌, ◌*◌, ◌%◌, ◌^◌, ◌<◌, ◌≡◌, refl, Bool, true, false, ◌&&◌, cond, T, Float, Result, Ok, Err}
 use Rattle.std.proofs.Common.{sym, ap, ◌∙◌, subst, arith}
 use borrow.Author.Tests.{lt-ltb}
 use Rattle.std.specs.Float.{binary64}
@@ -14,10 +14,10 @@ use Rattle.parted.specs.Parts.{measured, parted_of, rounded_of}
 use Rattle.parted.specs.Rounds.{nearest_units}
 use Rattle.swing.specs.Period.{within, ratio}
 use Rattle.swing.proofs.Ranges.{in_within}
-use Rattle.decay.specs.Decrement.{amplitude_number, decay_of}
+use Rattle.refusals.specs.declared.Refusal.{Refusal}
+use Rattle.refusals.specs.declared.Refusal.TheVariants.{Amplitude}
+use Rattle.decay.specs.Decrement.{decay_of}
 use Rattle.decay.specs.Small.{Small, decrement_small}
-use Rattle.decay.specs.declared.Decay.{Decay}
-use Rattle.decay.specs.declared.Decay.TheVariants.{Decrement, Refused}
 
 -- "12 places": units of which 10 ^ 12 make up 1
 abbrev pub places : ℕ
@@ -47,22 +47,22 @@ module _ (x : Float) (s : Small x) where
   small_nearest = nearest_units x places small_fits small_measured
 
 -- what is printed of an answer: the whole number of such units that is nearest to it, half to even
-pub ToNearest : Decay → Type 0
-ToNearest (Decrement x) = rounded_of (parted_of x places) ≡ closest (num x * places) (den x)
-ToNearest (Refused n) = T true
+pub ToNearest : Result Float Refusal → Type 0
+ToNearest (Ok x) = rounded_of (parted_of x places) ≡ closest (num x * places) (den x)
+ToNearest (Err r) = T true
 
 -- THE LAW: whatever the two numbers
 pub to_nearest : (a b : ℕ) → ToNearest (decay_of a b)
 unfolding decay_of ToNearest
 to_nearest a b = go (within a (2 ^ 53) && within b (2 ^ 53)) refl
   where
-    both : T (within a (2 ^ 53) && within b (2 ^ 53)) → ToNearest (Decrement (ln (ratio a b)))
+    both : T (within a (2 ^ 53) && within b (2 ^ 53)) → ToNearest (Ok (ln (ratio a b)))
     both t =
         let A = in_within a (2 ^ 53) (is_true (within a (2 ^ 53)) (and_l (within a (2 ^ 53)) (within b (2 ^ 53)) t)) in
         let B = in_within b (2 ^ 53) (is_true (within b (2 ^ 53)) (and_r (within a (2 ^ 53)) (within b (2 ^ 53)) t)) in
         small_nearest (ln (ratio a b)) (decrement_small a b A B)
 
     go : (t : Bool) → within a (2 ^ 53) && within b (2 ^ 53) ≡ t
-        → ToNearest (cond t (Decrement (ln (ratio a b))) (Refused amplitude_number))
+        → ToNearest (cond t (Ok (ln (ratio a b))) (Err Amplitude))
     go true e = both (subst T (sym e) tt)
     go false e = tt

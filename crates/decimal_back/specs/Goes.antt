@@ -1,6 +1,6 @@
 -- How digits, a point, an `e` and a minus take a scan on. Assumes nothing.
 use Prim.Native.Nat.{ℕ, zero, suc, ◌+◌, ◌-◌, ◌*◌, ◌/◌, ◌%◌, ◌^◌, ◌≤◌, ◌<◌}
-use Rattle.std.specs.Prelude.{◌≡◌, Bool, ◌&&◌, ◌||◌, cond, List, [], ◌∷◌, ◌++◌, eqb, ltb}
+use Rattle.std.specs.Prelude.{◌≡◌, Bool, ◌&&◌, ◌||◌, cond, List, [], ◌∷◌, ◌++◌, eqb}
 use Rattle.std.proofs.Math.Path.{refl, ap}
 use Rattle.std.proofs.Common.{sym, ◌∙◌, subst, pow-suc}
 use Rattle.std.proofs.Math.Bool.{true, false}
@@ -11,10 +11,13 @@ use Rattle.algebra.specs.Ring.{con, nxt, ◌:+◌, ◌:*◌, ◌≈◌, ◌⊩�
 use Rattle.algebra.proofs.Ring.{ring}
 use Rattle.digits.specs.Digits.{glyph_of, digits}
 use Rattle.decimal_scan.specs.declared.figures.Figures.{Figures}
+use Rattle.decimal_scan.specs.declared.scan.Phase.{Phase}
+use Rattle.decimal_scan.specs.declared.scan.Phase.TheVariants.{Nothing, Minus, Digits, Point, Places, Power, PowerSign, PowerDigits}
 use Rattle.decimal_scan.specs.declared.scan.Scan.{Scan}
 use Rattle.decimal_scan.specs.Figures.{many, significant, grown_by, figures_after, room_for}
 use Rattle.decimal_scan.specs.Scan.{
-  bad,
+  is_bad,
+  of_number,
   at_phase,
   digit_after,
   most_tens,
@@ -31,7 +34,7 @@ use Rattle.decimal_scan.specs.Number.{counts, whole_after, whole_from}
 use Rattle.decimal_back.specs.Count.{shorter}
 
 -- a scan by its fields
-abbrev pub at : ℕ → Bool → Figures → ℕ → Bool → ℕ → Scan
+abbrev pub at : Phase → Bool → Figures → ℕ → Bool → ℕ → Scan
 at p m f k b t = record { phase = p; minus = m; figures = f; places = k; below = b; tens = t }
 
 -- the bytes l take the scan s to r, and the number w of the digits before to v
@@ -76,7 +79,7 @@ glyph d h = rw (lt-ltb d 10 h)
 glyph_goes : {s r : Scan} {w v : ℕ} (d : ℕ) → d < 10 → Goes s w ((48 + d) ∷ []) r v → Goes s w (glyph_of d ∷ []) r v
 glyph_goes {s} {r} {w} {v} d h g = subst (λ (x : ℕ). Goes s w (x ∷ []) r v) (sym (glyph d h)) g
 
-figure_byte : (s : Scan) (d : ℕ) → eqb s.phase bad ≡ false → d < 10 → byte_after s (48 + d) ≡ figure_after s d
+figure_byte : (s : Scan) (d : ℕ) → is_bad s.phase ≡ false → d < 10 → byte_after s (48 + d) ≡ figure_after s d
 unfolding byte_after
 figure_byte s d g h =
     let z : 48 + d - 48 ≡ d = omega arith in
@@ -90,11 +93,11 @@ figure_byte s d g h =
       z,
     )
 
-figure_whole : (s : Scan) (w d : ℕ) → d < 10 → whole_after s w (48 + d) ≡ cond (ltb s.phase 5) (w * 10 + d) w
+figure_whole : (s : Scan) (w d : ℕ) → d < 10 → whole_after s w (48 + d) ≡ cond (of_number s.phase) (w * 10 + d) w
 unfolding whole_after counts
 figure_whole s w d h =
     let z : 48 + d - 48 ≡ d = omega arith in
-    rw (le-leb 48 (48 + d) (omega arith), lt-ltb (48 + d) 58 (omega arith), z) (go (ltb s.phase 5))
+    rw (le-leb 48 (48 + d) (omega arith), lt-ltb (48 + d) 58 (omega arith), z) (go (of_number s.phase))
   where
     go : (t : Bool) → cond (t && (true && true)) (w * 10 + d) w ≡ cond t (w * 10 + d) w
     go true = refl
@@ -125,9 +128,9 @@ grown = ring 5 (λ w P q d n. (con 1 times q :* con 10 :+ d ≼ n) ∷ [] ⊩ (w
 
 module _ (m b : Bool) (t : ℕ) where
   -- a phase p in which a digit is one of the number, with so many places more, and the phase after it
-  pub record Takes (p more q : ℕ) : Type 0 where
-    pub good : eqb p bad ≡ false
-    pub number : ltb p 5 ≡ true
+  pub record Takes (p : Phase) (more : ℕ) (q : Phase) : Type 0 where
+    pub good : is_bad p ≡ false
+    pub number : of_number p ≡ true
     pub is : (f : Figures) (k d : ℕ) → figure_after (at p m f k b t) d ≡ digit_after (at p m f k b t) d more q
 
   room : (n k d : ℕ) → n < 800 → k < many → room_for n k d ≡ true
@@ -138,7 +141,7 @@ module _ (m b : Bool) (t : ℕ) where
       go true = refl
       go false = refl
 
-  module _ {p more q : ℕ} (T : Takes p more q) where
+  module _ {p : Phase} {more : ℕ} {q : Phase} (T : Takes p more q) where
     digit_taken : (f : Figures) (k d : ℕ) → f.digits < 800 → k < many
         → digit_after (at p m f k b t) d more q ≡ at q m (figures_after f d) (k + more) b t
     unfolding digit_after
@@ -151,7 +154,7 @@ module _ (m b : Bool) (t : ℕ) where
         glyph_goes d D (byte_goes s w (48 + d) _ _ (figure_byte s d T.good D ∙ T.is f k d ∙ digit_taken f k d h g)
         (figure_whole s w d D ∙ ap (λ (x : Bool). cond x (w * 10 + d) w) T.number))
 
-  module _ {p more q : ℕ} (T : Takes p more q) (U : Takes q more q) where
+  module _ {p : Phase} {more : ℕ} {q : Phase} (T : Takes p more q) (U : Takes q more q) where
     further : (j k : ℕ) → j + suc k * more + more ≡ j + suc (suc k) * more
     further j k = ring 3 (λ j k c. j :+ nxt k :* c :+ c ≈ j :+ nxt (nxt k) :* c) tt j k more
 
@@ -179,32 +182,32 @@ module _ (m b : Bool) (t : ℕ) where
         (ap (λ (x : ℕ). at q m (figures_after o (n % 10)) x b t) c) e)
 
   -- before the point
-  pub before_none : Takes 0 0 2
+  pub before_none : Takes Nothing 0 Digits
   unfolding figure_after
   before_none = record { good = refl; number = refl; is = λ f k d. refl }
 
-  pub before_minus : Takes 1 0 2
+  pub before_minus : Takes Minus 0 Digits
   unfolding figure_after
   before_minus = record { good = refl; number = refl; is = λ f k d. refl }
 
-  pub before : Takes 2 0 2
+  pub before : Takes Digits 0 Digits
   unfolding figure_after
   before = record { good = refl; number = refl; is = λ f k d. refl }
 
   -- after the point
-  pub after_point : Takes 3 1 4
+  pub after_point : Takes Point 1 Places
   unfolding figure_after
   after_point = record { good = refl; number = refl; is = λ f k d. refl }
 
-  pub after : Takes 4 1 4
+  pub after : Takes Places 1 Places
   unfolding figure_after
   after = record { good = refl; number = refl; is = λ f k d. refl }
 
 -- ---- digits of the power
 module _ (m b : Bool) (f : Figures) (j w : ℕ) where
-  pub record Raises (p : ℕ) : Type 0 where
-    pub good : eqb p bad ≡ false
-    pub power : ltb p 5 ≡ false
+  pub record Raises (p : Phase) : Type 0 where
+    pub good : is_bad p ≡ false
+    pub power : of_number p ≡ false
     pub is : (t d : ℕ) → figure_after (at p m f j b t) d ≡ tens_after (at p m f j b t) d
 
   allowed : (n : ℕ) → n < 2147483648 → leb n (most_tens b) ≡ true
@@ -215,60 +218,60 @@ module _ (m b : Bool) (f : Figures) (j w : ℕ) where
       go true = le-leb n 2147483648 (omega arith)
       go false = le-leb n 2147483647 (omega arith)
 
-  module _ {p : ℕ} (R : Raises p) where
-    raised : (t d : ℕ) → t * 10 + d < 2147483648 → tens_after (at p m f j b t) d ≡ at 7 m f j b (t * 10 + d)
+  module _ {p : Phase} (R : Raises p) where
+    raised : (t d : ℕ) → t * 10 + d < 2147483648 → tens_after (at p m f j b t) d ≡ at PowerDigits m f j b (t * 10 + d)
     unfolding tens_after
     raised t d h = rw (allowed (t * 10 + d) h)
 
     tens_goes : (t d : ℕ) → d < 10 → t * 10 + d < 2147483648
-        → Goes (at p m f j b t) w (glyph_of d ∷ []) (at 7 m f j b (t * 10 + d)) w
+        → Goes (at p m f j b t) w (glyph_of d ∷ []) (at PowerDigits m f j b (t * 10 + d)) w
     tens_goes t d D h =
         let s = at p m f j b t in
         glyph_goes d D (byte_goes s w (48 + d) _ _ (figure_byte s d R.good D ∙ R.is t d ∙ raised t d h)
         (figure_whole s w d D ∙ ap (λ (x : Bool). cond x (w * 10 + d) w) R.power))
 
-  raises_on : Raises 7
+  raises_on : Raises PowerDigits
   unfolding figure_after
   raises_on = record { good = refl; power = refl; is = λ t d. refl }
 
   -- THE LAW: the digits of n after the `e` make it the power
-  pub power_goes : {p : ℕ} → Raises p → (k n : ℕ) → n < 10 ^ suc k → n < 1000
-      → Goes (at p m f j b 0) w (digits 10 (suc k) n) (at 7 m f j b n) w
+  pub power_goes : {p : Phase} → Raises p → (k n : ℕ) → n < 10 ^ suc k → n < 1000
+      → Goes (at p m f j b 0) w (digits 10 (suc k) n) (at PowerDigits m f j b n) w
   unfolding digits
   power_goes {p} R zero n h l =
       let e : 0 * 10 + n % 10 ≡ n = omega arith in
-      goes_to (tens_goes R 0 (n % 10) (omega arith) (omega arith)) (ap (at 7 m f j b) e) refl
+      goes_to (tens_goes R 0 (n % 10) (omega arith) (omega arith)) (ap (at PowerDigits m f j b) e) refl
   power_goes {p} R (suc k) n h l =
       let e : n / 10 * 10 + n % 10 ≡ n = omega arith in
       goes_on (power_goes R k (n / 10) (shorter k n h) (omega arith))
-      (goes_to (tens_goes raises_on (n / 10) (n % 10) (omega arith) (omega arith)) (ap (at 7 m f j b) e) refl)
+      (goes_to (tens_goes raises_on (n / 10) (n % 10) (omega arith) (omega arith)) (ap (at PowerDigits m f j b) e) refl)
 
-  pub after_e : Raises 5
+  pub after_e : Raises Power
   unfolding figure_after
   after_e = record { good = refl; power = refl; is = λ t d. refl }
 
-  pub after_sign : Raises 6
+  pub after_sign : Raises PowerSign
   unfolding figure_after
   after_sign = record { good = refl; power = refl; is = λ t d. refl }
 
 -- ---- marks
 module _ (m b : Bool) (f : Figures) (j t w : ℕ) where
-  pub point_goes : Goes (at 2 m f j b t) w (46 ∷ []) (at 3 m f j b t) w
+  pub point_goes : Goes (at Digits m f j b t) w (46 ∷ []) (at Point m f j b t) w
   unfolding byte_after point_after at_phase whole_after counts
-  point_goes = byte_goes (at 2 m f j b t) w 46 _ _ refl refl
+  point_goes = byte_goes (at Digits m f j b t) w 46 _ _ refl refl
 
-  pub whole_e : Goes (at 2 m f j b t) w (101 ∷ []) (at 5 m f j b t) w
+  pub whole_e : Goes (at Digits m f j b t) w (101 ∷ []) (at Power m f j b t) w
   unfolding byte_after power_after at_phase whole_after counts
-  whole_e = byte_goes (at 2 m f j b t) w 101 _ _ refl refl
+  whole_e = byte_goes (at Digits m f j b t) w 101 _ _ refl refl
 
-  pub places_e : Goes (at 4 m f j b t) w (101 ∷ []) (at 5 m f j b t) w
+  pub places_e : Goes (at Places m f j b t) w (101 ∷ []) (at Power m f j b t) w
   unfolding byte_after power_after at_phase whole_after counts
-  places_e = byte_goes (at 4 m f j b t) w 101 _ _ refl refl
+  places_e = byte_goes (at Places m f j b t) w 101 _ _ refl refl
 
-  pub minus_goes : Goes (at 0 m f j b t) w (45 ∷ []) (at 1 true f j b t) w
+  pub minus_goes : Goes (at Nothing m f j b t) w (45 ∷ []) (at Minus true f j b t) w
   unfolding byte_after minus_after whole_after counts
-  minus_goes = byte_goes (at 0 m f j b t) w 45 _ _ refl refl
+  minus_goes = byte_goes (at Nothing m f j b t) w 45 _ _ refl refl
 
-  pub below_goes : Goes (at 5 m f j b t) w (45 ∷ []) (at 6 m f j true t) w
+  pub below_goes : Goes (at Power m f j b t) w (45 ∷ []) (at PowerSign m f j true t) w
   unfolding byte_after minus_after sign_after whole_after counts
-  below_goes = byte_goes (at 5 m f j b t) w 45 _ _ refl refl
+  below_goes = byte_goes (at Power m f j b t) w 45 _ _ refl refl

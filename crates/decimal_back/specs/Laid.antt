@@ -10,6 +10,8 @@ use Rattle.std.specs.Float.Ieee.{round}
 use Rattle.digits.specs.Digits.{digits}
 use Rattle.writing.specs.Decimal.{places_of, decimal}
 use Rattle.decimal_scan.specs.declared.figures.Figures.{Figures}
+use Rattle.decimal_scan.specs.declared.scan.Phase.{Phase}
+use Rattle.decimal_scan.specs.declared.scan.Phase.TheVariants.{Nothing, Minus, Digits, Point, Places, Power, PowerDigits}
 use Rattle.decimal_scan.specs.declared.scan.Scan.{Scan}
 use Rattle.decimal_scan.specs.Figures.{no_figures}
 use Rattle.decimal_scan.specs.Scan.{start_of, bytes_after, is_whole}
@@ -60,15 +62,15 @@ says {l} {m} {v} {up} {down} r g e p q t = record {
 }
 
 -- ---- the sign and the whole part
-abbrev sign_phase : Bool → ℕ
-sign_phase m = cond m 1 0
+abbrev sign_phase : Bool → Phase
+sign_phase m = cond m Minus Nothing
 
 sign_goes : (m : Bool) → Goes start_of 0 (sign_text m) (at (sign_phase m) m no_figures 0 false 0) 0
 unfolding start_of sign_text
 sign_goes true = minus_goes false false no_figures 0 0 0
 sign_goes false = goes_none
 
-sign_takes : (m : Bool) → Takes m false 0 (sign_phase m) 0 2
+sign_takes : (m : Bool) → Takes m false 0 (sign_phase m) 0 Digits
 sign_takes true = before_minus true false 0
 sign_takes false = before_none false false 0
 
@@ -78,7 +80,7 @@ whole_figures n = figures_over no_figures (places_of 19 n) n
 abbrev signed : Bool → Scan
 signed m = at (sign_phase m) m no_figures 0 false 0
 
-whole_goes : (m : Bool) (n : ℕ) → n < 10 ^ 20 → Goes (signed m) 0 (decimal 19 n) (at 2 m (whole_figures n) 0 false 0) n
+whole_goes : (m : Bool) (n : ℕ) → n < 10 ^ 20 → Goes (signed m) 0 (decimal 19 n) (at Digits m (whole_figures n) 0 false 0) n
 unfolding decimal no_figures
 whole_goes m n h =
     let c : Counted 19 n = counted 19 n h in
@@ -87,8 +89,8 @@ whole_goes m n h =
     let v : 0 * 10 ^ suc k + n ≡ n = omega arith in
     let few : k + 1 ≤ 800 = omega (arith, c.most) in
     let g = digits_goes m false 0 (sign_takes m) (before m false 0) no_figures 0 0 k n c.enough (omega arith) (omega arith) in
-    subst (λ (p : ℕ). Goes (signed m) 0 (digits 10 p n) (at 2 m (figures_over no_figures p n) 0 false 0) n) (sym c.is)
-    (goes_to g (ap (λ (x : ℕ). at 2 m (figures_over no_figures (suc k) n) x false 0) z) v)
+    subst (λ (p : ℕ). Goes (signed m) 0 (digits 10 p n) (at Digits m (figures_over no_figures p n) 0 false 0) n) (sym c.is)
+    (goes_to g (ap (λ (x : ℕ). at Digits m (figures_over no_figures (suc k) n) x false 0) z) v)
 
 whole_few : (n : ℕ) → n < 10 ^ 20 → (whole_figures n).digits ≤ 20
 unfolding no_figures
@@ -99,16 +101,16 @@ whole_few n h =
 -- ---- the places
 -- after the bytes l a number may end, or go on with an `e`
 record Next (m : Bool) (f : Figures) (w : ℕ) (l : List ℕ) (j v : ℕ) : Type 0 where
-  phase : ℕ
+  phase : Phase
   figures : Figures
-  goes : Goes (at 2 m f 0 false 0) w l (at phase m figures j false 0) v
-  power : Goes (at phase m figures j false 0) v (101 ∷ []) (at 5 m figures j false 0) v
+  goes : Goes (at Digits m f 0 false 0) w l (at phase m figures j false 0) v
+  power : Goes (at phase m figures j false 0) v (101 ∷ []) (at Power m figures j false 0) v
   ended : is_whole (at phase m figures j false 0) ≡ true
 
 module _ (m : Bool) (f : Figures) (w : ℕ) (F : f.digits ≤ 20) where
   none_next : Next m f w [] 0 w
   unfolding is_whole
-  none_next = record { phase = 2; figures = f; goes = goes_none; power = whole_e m false f 0 0 w; ended = refl }
+  none_next = record { phase = Digits; figures = f; goes = goes_none; power = whole_e m false f 0 0 w; ended = refl }
 
   point_next : (k c : ℕ) → c < 10 ^ suc k → k ≤ 40 → Next m f w (46 ∷ digits 10 (suc k) c) (suc k) (w * 10 ^ suc k + c)
   unfolding is_whole
@@ -116,10 +118,11 @@ module _ (m : Bool) (f : Figures) (w : ℕ) (F : f.digits ≤ 20) where
       let o = figures_over f (suc k) c in
       let j : 0 + suc k * 1 ≡ suc k = omega arith in
       record {
-        phase = 4;
+        phase = Places;
         figures = o;
         goes = goes_on (point_goes m false f 0 0 w)
-            (subst (λ (x : ℕ). Goes (at 3 m f 0 false 0) w (digits 10 (suc k) c) (at 4 m o x false 0) (w * 10 ^ suc k + c)) j
+            (subst
+            (λ (x : ℕ). Goes (at Point m f 0 false 0) w (digits 10 (suc k) c) (at Places m o x false 0) (w * 10 ^ suc k + c)) j
             (digits_goes m false 0 (after_point m false 0) (after m false 0) f 0 w k c C (omega arith) (omega arith)));
         power = places_e m false o (suc k) 0 (w * 10 ^ suc k + c);
         ended = refl;
@@ -136,15 +139,16 @@ abbrev tens_text : Bool → List ℕ → List ℕ
 tens_text b l = cond b (45 ∷ []) [] ++ l
 
 module _ (m : Bool) (f : Figures) (j w : ℕ) where
-  power_digits : (b : Bool) (n : ℕ) → n < 1000 → Goes (at 5 m f j false 0) w (tens_text b (decimal 9 n)) (at 7 m f j b n) w
+  power_digits : (b : Bool) (n : ℕ) → n < 1000
+      → Goes (at Power m f j false 0) w (tens_text b (decimal 9 n)) (at PowerDigits m f j b n) w
   unfolding decimal
   power_digits b n h =
-      subst (λ (p : ℕ). Goes (at 5 m f j false 0) w (tens_text b (digits 10 p n)) (at 7 m f j b n) w) (sym c.is) (go b)
+      subst (λ (p : ℕ). Goes (at Power m f j false 0) w (tens_text b (digits 10 p n)) (at PowerDigits m f j b n) w) (sym c.is) (go b)
     where
       c : Counted 9 n
       c = counted 9 n (omega arith)
 
-      go : (b : Bool) → Goes (at 5 m f j false 0) w (tens_text b (digits 10 (suc c.k) n)) (at 7 m f j b n) w
+      go : (b : Bool) → Goes (at Power m f j false 0) w (tens_text b (digits 10 (suc c.k) n)) (at PowerDigits m f j b n) w
       go true = goes_on (below_goes m false f j 0 w) (power_goes m true f j w (after_sign m true f j w) c.k n c.enough h)
       go false = power_goes m false f j w (after_e m false f j w) c.k n c.enough h
 
@@ -170,7 +174,7 @@ module _ (m : Bool) (f : Figures) (w : ℕ) (l : List ℕ) (j v : ℕ) (x : Next
       → End here v (101 ∷ tens_text b (decimal 9 n)) m (cond b 0 n) (cond b n 0 + j)
   unfolding up_of down_of is_whole
   some_power b n h = record {
-    last = at 7 m x.figures j b n;
+    last = at PowerDigits m x.figures j b n;
     goes = goes_on x.power (power_digits m x.figures j v b n h);
     ended = refl;
     minus = refl;

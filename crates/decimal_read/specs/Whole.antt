@@ -1,5 +1,5 @@
 -- A scanned text: its numbers have room, and each of the three ways gives its f64. Assumes nothing.
-use Rattle.std.specs.Prelude.{ℕ, ◌+◌, ◌-◌, ◌*◌, ◌%◌, ◌^◌, ◌≤◌, ◌<◌, ◌≡◌, false, List, eqb, Float}
+use Rattle.std.specs.Prelude.{ℕ, ◌+◌, ◌-◌, ◌*◌, ◌%◌, ◌^◌, ◌≤◌, ◌<◌, ◌≡◌, false, List, Float}
 use Rattle.std.proofs.Math.Path.{sym, ap}
 use Rattle.std.proofs.Common.{◌∙◌, subst, mod-eq_of_lt, arith}
 use Rattle.std.specs.Float.Ieee.{binary64, round}
@@ -7,7 +7,7 @@ use Rattle.limbs.specs.Value.{room}
 use Rattle.decimal.specs.Decimal.{decimal_of}
 use Rattle.decimal_scan.specs.declared.figures.Figures.{Figures}
 use Rattle.decimal_scan.specs.declared.scan.Scan.{Scan}
-use Rattle.decimal_scan.specs.Scan.{bad, start_of, bytes_after}
+use Rattle.decimal_scan.specs.Scan.{is_bad, start_of, bytes_after}
 use Rattle.decimal_scan.specs.Number.{whole_from, up_of, down_of, said_by, text_value}
 use Rattle.decimal_scan.specs.Held.{Held}
 use Rattle.decimal_scan.specs.HeldLaws.{text_held}
@@ -17,15 +17,15 @@ use Rattle.decimal_long.specs.FirstLaws.{first_digits_lem, first_fit}
 use Rattle.decimal_read.specs.Said.{leading_of, raised_by, lowered_by}
 use Rattle.decimal_read.specs.SaidLaws.{leading_kept, leading_le, leading_few, word_digits, same_number, far_too_small}
 
-module _ (l : List ℕ) (s : Scan) (e : s ≡ bytes_after start_of l) (n : eqb s.phase bad ≡ false) where
+module _ (l : List ℕ) (s : Scan) (e : s ≡ bytes_after start_of l) (n : is_bad s.phase ≡ false) where
   abbrev f : Figures
   f = s.figures
 
   abbrev w : ℕ
   w = whole_from start_of 0 l
 
-  good : eqb (bytes_after start_of l).phase bad ≡ false
-  good = subst (λ (x : Scan). eqb x.phase bad ≡ false) e n
+  good : is_bad (bytes_after start_of l).phase ≡ false
+  good = subst (λ (x : Scan). is_bad x.phase ≡ false) e n
 
   held : Held w f
   held = subst (λ (x : Scan). Held w x.figures) (sym e) (text_held l good)

@@ -9,7 +9,7 @@ ghost use Rattle.std.specs.Prelude.{◌≡◌};
 ghost use Rattle.decimal_read.specs.Read.{settled_as, number_of, read_of};
 
 use crate::said::said;
-use crate::text::{Scanned, scan};
+use crate::text::scan;
 use binary64::{is_finite, join};
 use listing_read::is_name;
 
@@ -20,43 +20,44 @@ const MINUS_INF: u64 = 0xfff0_0000_0000_0000;
 
 const NAN: u64 = 0x7ff8_0000_0000_0000;
 
-#[derive(Clone, Copy)]
-pub enum Reading {
-    Number(f64),
+// Why a text says no f64.
+#[derive(Clone, Copy, PartialEq, Eq)]
+pub enum NoDecimal {
+    // its number is beyond the largest f64
     TooLarge,
     // the place of the byte that makes it no number, or the text's end
-    Bad(usize),
+    NoNumber(usize),
 }
 
-fn settled(x: f64) -> Reading
+#[tactic(auto, unfolding(crate::specs::Read::settled_as))]
+fn settled(x: f64) -> Result<f64, NoDecimal>
     ensures { result ≡ settled_as x }
 {
     if is_finite(x) {
-        return Reading::Number(x);
+        return Ok(x);
     }
-    Reading::TooLarge
+    Err(NoDecimal::TooLarge)
 }
 
-fn number(text: &[u8]) -> Reading
+#[tactic(auto, unfolding(crate::specs::Read::number_of, crate::specs::Read::number_from))]
+fn number(text: &[u8]) -> Result<f64, NoDecimal>
     ensures { result ≡ number_of text.now }
 {
-    match scan(text) {
-        Scanned::Whole(s) => settled(said(text, s)),
-        Scanned::Bad(at) => Reading::Bad(at),
-    }
+    let s = scan(text)?;
+    settled(said(text, s))
 }
 
-pub fn read(text: &[u8]) -> Reading
+pub fn read(text: &[u8]) -> Result<f64, NoDecimal>
     ensures { result ≡ read_of text.now }
 {
     if is_name(text, b"inf") {
-        return Reading::Number(join(INF));
+        return Ok(join(INF));
     }
     if is_name(text, b"-inf") {
-        return Reading::Number(join(MINUS_INF));
+        return Ok(join(MINUS_INF));
     }
     if is_name(text, b"nan") {
-        return Reading::Number(join(NAN));
+        return Ok(join(NAN));
     }
     number(text)
 }

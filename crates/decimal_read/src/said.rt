@@ -1,6 +1,6 @@
 // The f64 that a scanned text says.
-ghost use Rattle.std.specs.Prelude.{◌≡◌, false, ◌+◌, ◌≤◌, eqb};
-ghost use Rattle.decimal_scan.specs.Scan.{bad, start_of, bytes_after};
+ghost use Rattle.std.specs.Prelude.{◌≡◌, false, ◌+◌, ◌≤◌};
+ghost use Rattle.decimal_scan.specs.Scan.{is_bad, start_of, bytes_after};
 ghost use Rattle.decimal_scan.specs.Number.{text_value};
 ghost use Rattle.decimal_read.specs.Said.{leading_of, raised_by, lowered_by};
 
@@ -14,6 +14,7 @@ const WORD: u64 = 19;
 const ONES: u64 = 1200; // the power at which ten counts as 1
 
 // How many digits are taken: all or the first 19, where only zeros follow those; or those up to the zeros at the end.
+#[tactic(auto, unfolding(crate::specs::Said::leading_of))]
 fn leading(digits: u64, kept: u64) -> u64
     ensures { result ≡ leading_of digits kept }
 {
@@ -27,6 +28,7 @@ fn leading(digits: u64, kept: u64) -> u64
 }
 
 // The powers of ten above: of the digits left out, and of the text's own power.
+#[tactic(auto, unfolding(crate::specs::Said::raised_by))]
 fn raised(left: u64, below: bool, tens: u64) -> u64
     requires { (left ≤ 4294967296) × (tens ≤ 2147483648) }
     ensures { result ≡ raised_by left below tens }
@@ -37,6 +39,7 @@ fn raised(left: u64, below: bool, tens: u64) -> u64
     left + tens + ONES
 }
 
+#[tactic(auto, unfolding(crate::specs::Said::lowered_by))]
 fn lowered(places: u64, below: bool, tens: u64) -> u64
     requires { (places ≤ 4294967296) × (tens ≤ 2147483648) }
     ensures { result ≡ lowered_by places below tens }
@@ -49,7 +52,7 @@ fn lowered(places: u64, below: bool, tens: u64) -> u64
 
 // What is lowered below 10 ^ -400 is nothing: no number of digits in a word or in 42 limbs lifts it to an f64.
 pub fn said(text: &[u8], s: Scan) -> f64
-    requires { (s ≡ bytes_after start_of text.now) × (eqb s.phase bad ≡ false) }
+    requires { (s ≡ bytes_after start_of text.now) × (is_bad s.phase ≡ false) }
     ensures { result ≡ text_value text.now }
 {
     let f = s.figures;

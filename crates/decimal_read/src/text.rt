@@ -2,36 +2,30 @@
 ghost use Rattle.std.specs.Prelude.{◌≡◌};
 ghost use Rattle.decimal_read.specs.Scanned.{ended_at, scanned_of};
 
+use crate::NoDecimal;
 use decimal_scan::{Scan, start, step, whole};
 
-const BAD: u64 = 8;
-
-#[derive(Clone, Copy)]
-pub enum Scanned {
-    Whole(Scan),
-    Bad(usize),
-}
-
-fn ended(s: Scan, at: usize) -> Scanned
+#[tactic(auto, unfolding(crate::specs::Scanned::ended_at))]
+fn ended(s: Scan, at: usize) -> Result<Scan, NoDecimal>
     ensures { result ≡ ended_at s at }
 {
     if whole(s) {
-        return Scanned::Whole(s);
+        Ok(s)
+    } else {
+        Err(NoDecimal::NoNumber(at))
     }
-    Scanned::Bad(at)
 }
 
-pub fn scan(text: &[u8]) -> Scanned
+// The scan of a text that is a number.
+pub fn scan(text: &[u8]) -> Result<Scan, NoDecimal>
     ensures { result ≡ scanned_of text.now }
 {
     let mut s = start();
-    let mut i: usize = 0;
-    while i < text.len() {
-        s = step(s, text[i]);
-        if s.phase == BAD {
-            return Scanned::Bad(i);
+    for (i, b) in text.iter().enumerate() {
+        s = step(s, *b);
+        if s.phase.is_bad() {
+            return Err(NoDecimal::NoNumber(i));
         }
-        i += 1;
     }
-    ended(s, i)
+    ended(s, text.len())
 }

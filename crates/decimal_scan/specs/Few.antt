@@ -10,21 +10,9 @@ use Rattle.std.specs.Float.Ieee.Fits.{and_l, and_r}
 use Rattle.decimal_scan.specs.declared.figures.Figures.{Figures}
 use Rattle.decimal_scan.specs.declared.scan.Scan.{Scan}
 use Rattle.decimal_scan.specs.Figures.{many, significant, no_figures, grown_by, figures_after, room_for}
-use Rattle.decimal_scan.specs.Scan.{
-  bad,
-  start_of,
-  at_phase,
-  digit_after,
-  most_tens,
-  tens_after,
-  figure_after,
-  sign_after,
-  minus_after,
-  point_after,
-  power_after,
-  byte_after,
-  bytes_after,
-}
+use Rattle.decimal_scan.specs.declared.scan.Phase.{Phase}
+use Rattle.decimal_scan.specs.declared.scan.Phase.TheVariants.{Digits, Point, Places, Power, Bad}
+use Rattle.decimal_scan.specs.Scan.{is_nothing, is_digits, has_digits, is_power, of_whole, of_number, start_of, at_phase, digit_after, most_tens, tens_after, figure_after, sign_after, minus_after, point_after, power_after, byte_after, bytes_after}
 use Rattle.decimal_scan.specs.HeldLaws.{byte_cases}
 
 pub record Few (s : Scan) : Type 0 where
@@ -48,25 +36,25 @@ either true x y f g = f refl
 either false x y f g = g refl
 
 module _ (s : Scan) (h : Few s) where
-  at_few : (p : ℕ) → Few (at_phase s p)
+  at_few : (p : Phase) → Few (at_phase s p)
   unfolding at_phase
   at_few p = same s (at_phase s p) h refl refl refl
 
   sign_few : (b : Bool) → Few (sign_after s b)
   unfolding sign_after
-  sign_few b = either (eqb s.phase 5) _ _ (λ e. same s _ h refl refl refl) (λ e. at_few bad)
+  sign_few b = either (is_power s.phase) _ _ (λ e. same s _ h refl refl refl) (λ e. at_few Bad)
 
   minus_few : Few (minus_after s)
   unfolding minus_after
-  minus_few = either (eqb s.phase 0) _ _ (λ e. same s _ h refl refl refl) (λ e. sign_few true)
+  minus_few = either (is_nothing s.phase) _ _ (λ e. same s _ h refl refl refl) (λ e. sign_few true)
 
   point_few : Few (point_after s)
   unfolding point_after
-  point_few = either (eqb s.phase 2) _ _ (λ e. at_few 3) (λ e. at_few bad)
+  point_few = either (is_digits s.phase) _ _ (λ e. at_few Point) (λ e. at_few Bad)
 
   power_few : Few (power_after s)
   unfolding power_after
-  power_few = either (eqb s.phase 2) _ _ (λ e. at_few 5) (λ e. either (eqb s.phase 4) _ _ (λ g. at_few 5) (λ g. at_few bad))
+  power_few = either (has_digits s.phase) _ _ (λ e. at_few Power) (λ e. at_few Bad)
 
   most_tens_lem : (b : Bool) → most_tens b ≤ 2147483648
   unfolding most_tens
@@ -83,7 +71,7 @@ module _ (s : Scan) (h : Few s) where
         places = h.places;
         tens = omega (arith, leb-true (s.tens * 10 + d) (most_tens s.below) e, most_tens_lem s.below);
       })
-      (λ e. at_few bad)
+      (λ e. at_few Bad)
 
   -- where there is room, one more is not too many
   abbrev f : Figures
@@ -133,7 +121,7 @@ module _ (s : Scan) (h : Few s) where
         go true false = grown_kept
         go false u = grown_kept
 
-  digit_few : (d more p : ℕ) → more ≤ 1 → Few (digit_after s d more p)
+  digit_few : (d more : ℕ) (p : Phase) → more ≤ 1 → Few (digit_after s d more p)
   unfolding digit_after
   digit_few d more p m =
       either (room_for f.digits s.places d) _ _
@@ -143,19 +131,19 @@ module _ (s : Scan) (h : Few s) where
         places = omega (arith, places_few d e);
         tens = h.tens;
       })
-      (λ e. at_few bad)
+      (λ e. at_few Bad)
 
   figure_few : (d : ℕ) → Few (figure_after s d)
   unfolding figure_after
   figure_few d =
-      either (ltb s.phase 3) _ _ (λ e. digit_few d 0 2 (omega arith))
-      (λ e. either (ltb s.phase 5) _ _ (λ g. digit_few d 1 4 (omega arith)) (λ g. tens_few d))
+      either (of_whole s.phase) _ _ (λ e. digit_few d 0 Digits (omega arith))
+      (λ e. either (of_number s.phase) _ _ (λ g. digit_few d 1 Places (omega arith)) (λ g. tens_few d))
 
   byte_few : (b : ℕ) → Few (byte_after s b)
   byte_few b =
       byte_cases s b (λ (r : Scan). Few r) (λ e. h) (λ e. minus_few) (λ e. sign_few false) (λ e. point_few)
       (λ l u. figure_few (b - 48))
-      (λ l. power_few) (λ o. at_few bad)
+      (λ l. power_few) (λ o. at_few Bad)
 
 start_few : Few start_of
 unfolding start_of no_figures

@@ -8,8 +8,16 @@ use Rattle.std.proofs.Math.Dec.{eqb, ltb}
 use Rattle.decimal_scan.specs.declared.figures.Figures.{Figures}
 use Rattle.decimal_scan.specs.declared.scan.Scan.{Scan}
 use Rattle.decimal_scan.specs.Figures.{figures_after, room_for}
+use Rattle.decimal_scan.specs.declared.scan.Phase.{Phase}
+use Rattle.decimal_scan.specs.declared.scan.Phase.TheVariants.{Nothing, Minus, Digits, Point, Places, Power, PowerSign, PowerDigits, Bad}
 use Rattle.decimal_scan.specs.Scan.{
-  bad,
+  is_nothing,
+  is_digits,
+  has_digits,
+  is_power,
+  of_whole,
+  of_number,
+  is_bad,
   start_of,
   at_phase,
   digit_after,
@@ -26,6 +34,13 @@ use Rattle.decimal_scan.specs.Scan.{
 use Rattle.decimal_scan.specs.Number.{counts, whole_after, whole_from}
 use Rattle.decimal_scan.specs.Held.{Held, held_none, held_digit}
 
+-- ---- a digit before the point is one of the number itself
+pub whole_number : (p : Phase) → of_whole p ≡ true → of_number p ≡ true
+whole_number Nothing e = refl
+whole_number Minus e = refl
+whole_number Digits e = refl
+whole_number _ e = cc
+
 -- ---- a byte by what it is
 -- `byte_after` by its tests
 abbrev chain : Scan → ℕ → Bool → Bool → Bool → Bool → Bool → Bool → Bool → Bool → Scan
@@ -34,22 +49,22 @@ chain s b o p q r t u v x =
     (cond p (minus_after s)
     (cond q (sign_after s false)
     (cond r (point_after s)
-    (cond t (at_phase s bad)
-    (cond u (figure_after s (b - 48)) (cond v (power_after s) (cond x (power_after s) (at_phase s bad))))))))
+    (cond t (at_phase s Bad)
+    (cond u (figure_after s (b - 48)) (cond v (power_after s) (cond x (power_after s) (at_phase s Bad))))))))
 
-pub byte_cases : (s : Scan) (b : ℕ) (P : Scan → Type 0) → (eqb s.phase bad ≡ true → P s) → (b ≡ 45 → P (minus_after s))
+pub byte_cases : (s : Scan) (b : ℕ) (P : Scan → Type 0) → (is_bad s.phase ≡ true → P s) → (b ≡ 45 → P (minus_after s))
     → (b ≡ 43 → P (sign_after s false))
     → (b ≡ 46 → P (point_after s))
     → (48 ≤ b → b < 58 → P (figure_after s (b - 48)))
     → (58 ≤ b → P (power_after s))
-    → ((b < 48) ⊎ (58 ≤ b) → P (at_phase s bad))
+    → ((b < 48) ⊎ (58 ≤ b) → P (at_phase s Bad))
     → P (byte_after s b)
 unfolding byte_after
 byte_cases s b P same minus plus point figure power none =
-    go (eqb s.phase bad) refl (eqb b 45) refl (eqb b 43) refl (eqb b 46) refl (ltb b 48) refl (ltb b 58) refl (eqb b 101)
+    go (is_bad s.phase) refl (eqb b 45) refl (eqb b 43) refl (eqb b 46) refl (ltb b 48) refl (ltb b 58) refl (eqb b 101)
     (eqb b 69)
   where
-    go : (o : Bool) → eqb s.phase bad ≡ o → (p : Bool) → eqb b 45 ≡ p → (q : Bool) → eqb b 43 ≡ q → (r : Bool) → eqb b 46 ≡ r
+    go : (o : Bool) → is_bad s.phase ≡ o → (p : Bool) → eqb b 45 ≡ p → (q : Bool) → eqb b 43 ≡ q → (r : Bool) → eqb b 46 ≡ r
         → (t : Bool) → ltb b 48 ≡ t → (u : Bool) → ltb b 58 ≡ u → (v x : Bool) → P (chain s b o p q r t u v x)
     go true eo p ep q eq' r er t et u eu v x = same eo
     go false eo true ep q eq' r er t et u eu v x = minus (eqb-true b 45 ep)
@@ -64,21 +79,22 @@ byte_cases s b P same minus plus point figure power none =
 -- ---- marks leave the figures as they are
 pub sign_keeps : (s : Scan) (b : Bool) → (sign_after s b).figures ≡ s.figures
 unfolding sign_after at_phase
-sign_keeps s b = go (eqb s.phase 5)
+sign_keeps s b = go (is_power s.phase)
   where
     go : (t : Bool)
-        → (cond t (record { phase = 6; minus = s.minus; figures = s.figures; places = s.places; below = b; tens = s.tens })
-        (at_phase s bad)).figures
+        → (cond t
+        (record { phase = PowerSign; minus = s.minus; figures = s.figures; places = s.places; below = b; tens = s.tens })
+        (at_phase s Bad)).figures
         ≡ s.figures
     go true = refl
     go false = refl
 
 pub minus_keeps : (s : Scan) → (minus_after s).figures ≡ s.figures
 unfolding minus_after
-minus_keeps s = go (eqb s.phase 0)
+minus_keeps s = go (is_nothing s.phase)
   where
     go : (t : Bool)
-        → (cond t (record { phase = 1; minus = true; figures = s.figures; places = s.places; below = s.below; tens = s.tens })
+        → (cond t (record { phase = Minus; minus = true; figures = s.figures; places = s.places; below = s.below; tens = s.tens })
         (sign_after s true)).figures
         ≡ s.figures
     go true = refl
@@ -86,20 +102,19 @@ minus_keeps s = go (eqb s.phase 0)
 
 pub point_keeps : (s : Scan) → (point_after s).figures ≡ s.figures
 unfolding point_after at_phase
-point_keeps s = go (eqb s.phase 2)
+point_keeps s = go (is_digits s.phase)
   where
-    go : (t : Bool) → (cond t (at_phase s 3) (at_phase s bad)).figures ≡ s.figures
+    go : (t : Bool) → (cond t (at_phase s Point) (at_phase s Bad)).figures ≡ s.figures
     go true = refl
     go false = refl
 
 pub power_keeps : (s : Scan) → (power_after s).figures ≡ s.figures
 unfolding power_after at_phase
-power_keeps s = go (eqb s.phase 2) (eqb s.phase 4)
+power_keeps s = go (has_digits s.phase)
   where
-    go : (t u : Bool) → (cond t (at_phase s 5) (cond u (at_phase s 5) (at_phase s bad))).figures ≡ s.figures
-    go true u = refl
-    go false true = refl
-    go false false = refl
+    go : (t : Bool) → (cond t (at_phase s Power) (at_phase s Bad)).figures ≡ s.figures
+    go true = refl
+    go false = refl
 
 pub tens_keeps : (s : Scan) (d : ℕ) → (tens_after s d).figures ≡ s.figures
 unfolding tens_after at_phase
@@ -108,14 +123,14 @@ tens_keeps s d = go (leb (s.tens * 10 + d) (most_tens s.below))
     go : (t : Bool)
         → (cond t
         (record {
-          phase = 7;
+          phase = PowerDigits;
           minus = s.minus;
           figures = s.figures;
           places = s.places;
           below = s.below;
           tens = s.tens * 10 + d;
         })
-        (at_phase s bad)
+        (at_phase s Bad)
         ).figures
         ≡ s.figures
     go true = refl
@@ -127,7 +142,7 @@ module _ (s : Scan) (w : ℕ) (h : Held w s.figures) where
   kept r e = subst (λ (f : Figures). Held w f) (sym e) h
 
   -- a digit of the number itself
-  digit_held : (d more p : ℕ) → d < 10 → eqb (digit_after s d more p).phase bad ≡ false
+  digit_held : (d more : ℕ) (p : Phase) → d < 10 → is_bad (digit_after s d more p).phase ≡ false
       → Held (w * 10 + d) (digit_after s d more p).figures
   unfolding digit_after at_phase
   digit_held d more p D = go (room_for s.figures.digits s.places d)
@@ -142,28 +157,29 @@ module _ (s : Scan) (w : ℕ) (h : Held w s.figures) where
         tens = s.tens;
       }
 
-      go : (t : Bool) → eqb (cond t grown (at_phase s bad)).phase bad ≡ false
-          → Held (w * 10 + d) (cond t grown (at_phase s bad)).figures
+      go : (t : Bool) → is_bad (cond t grown (at_phase s Bad)).phase ≡ false
+          → Held (w * 10 + d) (cond t grown (at_phase s Bad)).figures
       go true n = held_digit w d s.figures D h
       go false n = absurd (true≢false n)
 
-  figure_held : (d : ℕ) → d < 10 → eqb (figure_after s d).phase bad ≡ false
-      → Held (cond (ltb s.phase 5) (w * 10 + d) w) (figure_after s d).figures
+  figure_held : (d : ℕ) → d < 10 → is_bad (figure_after s d).phase ≡ false
+      → Held (cond (of_number s.phase) (w * 10 + d) w) (figure_after s d).figures
   unfolding figure_after
-  figure_held d D = go (ltb s.phase 3) refl (ltb s.phase 5) refl
+  figure_held d D = go (of_whole s.phase) refl (of_number s.phase) refl
     where
-      go : (t : Bool) → ltb s.phase 3 ≡ t → (u : Bool) → ltb s.phase 5 ≡ u
-          → eqb (cond t (digit_after s d 0 2) (cond u (digit_after s d 1 4) (tens_after s d))).phase bad ≡ false
-          → Held (cond u (w * 10 + d) w) (cond t (digit_after s d 0 2) (cond u (digit_after s d 1 4) (tens_after s d))).figures
-      go true e true g n = digit_held d 0 2 D n
-      go true e false g n = absurd (omega (arith, ltb-true s.phase 3 e, ltb-false s.phase 5 g))
-      go false e true g n = digit_held d 1 4 D n
+      go : (t : Bool) → of_whole s.phase ≡ t → (u : Bool) → of_number s.phase ≡ u
+          → is_bad (cond t (digit_after s d 0 Digits) (cond u (digit_after s d 1 Places) (tens_after s d))).phase ≡ false
+          → Held (cond u (w * 10 + d) w)
+          (cond t (digit_after s d 0 Digits) (cond u (digit_after s d 1 Places) (tens_after s d))).figures
+      go true e true g n = digit_held d 0 Digits D n
+      go true e false g n = absurd (true≢false (sym (whole_number s.phase e) ∙ g))
+      go false e true g n = digit_held d 1 Places D n
       go false e false g n = kept (tens_after s d) (tens_keeps s d)
 
   -- no digit: nothing counts
   pub none_low : (b : ℕ) → b < 48 → whole_after s w b ≡ w
   unfolding whole_after counts
-  none_low b l = rw (lt-leb 48 b l, and-false (ltb s.phase 5))
+  none_low b l = rw (lt-leb 48 b l, and-false (of_number s.phase))
     where
       and-false : (t : Bool) → (t && false) ≡ false
       and-false true = refl
@@ -171,15 +187,15 @@ module _ (s : Scan) (w : ℕ) (h : Held w s.figures) where
 
   pub none_high : (b : ℕ) → 58 ≤ b → whole_after s w b ≡ w
   unfolding whole_after counts
-  none_high b l = rw (le-ltb b 58 l, and-false (leb 48 b), and-false (ltb s.phase 5))
+  none_high b l = rw (le-ltb b 58 l, and-false (leb 48 b), and-false (of_number s.phase))
     where
       and-false : (t : Bool) → (t && false) ≡ false
       and-false true = refl
       and-false false = refl
 
-  pub one : (b : ℕ) → 48 ≤ b → b < 58 → whole_after s w b ≡ cond (ltb s.phase 5) (w * 10 + (b - 48)) w
+  pub one : (b : ℕ) → 48 ≤ b → b < 58 → whole_after s w b ≡ cond (of_number s.phase) (w * 10 + (b - 48)) w
   unfolding whole_after counts
-  one b l u = rw (le-leb 48 b l, lt-ltb b 58 u, and_true (ltb s.phase 5))
+  one b l u = rw (le-leb 48 b l, lt-ltb b 58 u, and_true (of_number s.phase))
     where
       and_true : (t : Bool) → (t && true) ≡ t
       and_true true = refl
@@ -188,9 +204,9 @@ module _ (s : Scan) (w : ℕ) (h : Held w s.figures) where
   unmarked : (b : ℕ) (r : Scan) → r.figures ≡ s.figures → whole_after s w b ≡ w → Held (whole_after s w b) r.figures
   unmarked b r e z = subst (λ (k : ℕ). Held k r.figures) (sym z) (kept r e)
 
-  pub byte_held : (b : ℕ) → eqb (byte_after s b).phase bad ≡ false → Held (whole_after s w b) (byte_after s b).figures
+  pub byte_held : (b : ℕ) → is_bad (byte_after s b).phase ≡ false → Held (whole_after s w b) (byte_after s b).figures
   byte_held b =
-      byte_cases s b (λ (r : Scan). eqb r.phase bad ≡ false → Held (whole_after s w b) r.figures)
+      byte_cases s b (λ (r : Scan). is_bad r.phase ≡ false → Held (whole_after s w b) r.figures)
       (λ e n. absurd (true≢false (sym e ∙ n)))
       (λ e n. unmarked b (minus_after s) (minus_keeps s) (none_low b (omega arith)))
       (λ e n. unmarked b (sign_after s false) (sign_keeps s false) (none_low b (omega arith)))
@@ -201,25 +217,25 @@ module _ (s : Scan) (w : ℕ) (h : Held w s.figures) where
       (λ o n. absurd (true≢false (unfold at_phase in n)))
 
 -- ---- what is no number stays none
-pub bad_stays : (l : List ℕ) (s : Scan) → eqb s.phase bad ≡ true → eqb (bytes_after s l).phase bad ≡ true
+pub bad_stays : (l : List ℕ) (s : Scan) → is_bad s.phase ≡ true → is_bad (bytes_after s l).phase ≡ true
 unfolding bytes_after
 bad_stays [] s e = e
 bad_stays (b ∷ l) s e = bad_stays l (byte_after s b) (unfold byte_after in rw e e)
 
-pub not_bad : (l : List ℕ) (s : Scan) → eqb (bytes_after s l).phase bad ≡ false → eqb s.phase bad ≡ false
-not_bad l s n = go (eqb s.phase bad) refl
+pub not_bad : (l : List ℕ) (s : Scan) → is_bad (bytes_after s l).phase ≡ false → is_bad s.phase ≡ false
+not_bad l s n = go (is_bad s.phase) refl
   where
-    go : (t : Bool) → eqb s.phase bad ≡ t → eqb s.phase bad ≡ false
+    go : (t : Bool) → is_bad s.phase ≡ t → is_bad s.phase ≡ false
     go true e = absurd (true≢false (sym (bad_stays l s e) ∙ n))
     go false e = e
 
 -- THE LAW: what is held at a number's end
-pub bytes_held : (l : List ℕ) (s : Scan) (w : ℕ) → Held w s.figures → eqb (bytes_after s l).phase bad ≡ false
+pub bytes_held : (l : List ℕ) (s : Scan) (w : ℕ) → Held w s.figures → is_bad (bytes_after s l).phase ≡ false
     → Held (whole_from s w l) (bytes_after s l).figures
 unfolding bytes_after whole_from
 bytes_held [] s w h n = h
 bytes_held (b ∷ l) s w h n = bytes_held l (byte_after s b) (whole_after s w b) (byte_held s w h b (not_bad l (byte_after s b) n)) n
 
-pub text_held : (l : List ℕ) → eqb (bytes_after start_of l).phase bad ≡ false
+pub text_held : (l : List ℕ) → is_bad (bytes_after start_of l).phase ≡ false
     → Held (whole_from start_of 0 l) (bytes_after start_of l).figures
 text_held l n = bytes_held l start_of 0 (unfold start_of in held_none) n

@@ -15,6 +15,7 @@ const SIGNIFICANT: u64 = 800;
 
 const MANY: u64 = 0x1_0000_0000;
 
+#[tactic(auto, unfolding(crate::specs::Figures::no_figures))]
 pub fn none() -> Figures
     ensures { result ≡ no_figures }
 {
@@ -26,6 +27,7 @@ pub fn none() -> Figures
 }
 
 // One digit more of the number, until there are 19: the first is not 0, so its size tells.
+#[tactic(auto, unfolding(crate::specs::Figures::first_of))]
 fn first(value: u64, d: u64) -> u64
     requires { d < 10 }
     ensures { result ≡ first_of value d }
@@ -36,52 +38,37 @@ fn first(value: u64, d: u64) -> u64
     value
 }
 
+#[tactic(auto, unfolding(crate::specs::Figures::grown_by))]
 fn grown(f: Figures, d: u64) -> Figures
     requires { (d < 10) × (f.digits < 2 ^ 32) }
     ensures { result ≡ grown_by f d }
 {
     let digits = f.digits + 1;
     let value = first(f.value, d);
-    if d == 0 {
-        return Figures {
-            digits,
-            kept: f.kept,
-            value,
-        };
-    }
+    let kept = if d == 0 { f.kept } else { digits };
     Figures {
         digits,
-        kept: digits,
+        kept,
         value,
     }
 }
 
 // Zeros in front count for nothing.
+#[tactic(auto, unfolding(crate::specs::Figures::figures_after))]
 pub fn after(f: Figures, d: u64) -> Figures
     requires { (d < 10) × (f.digits < 2 ^ 32) }
     ensures { result ≡ figures_after f d }
 {
-    if f.digits == 0 {
-        if d == 0 {
-            return f;
-        }
-        return grown(f, d);
+    if f.digits == 0 && d == 0 {
+        return f;
     }
     grown(f, d)
 }
 
 // Whether a digit may follow.
+#[tactic(auto, unfolding(crate::specs::Figures::room_for))]
 pub fn room(digits: u64, places: u64, d: u64) -> bool
     ensures { result ≡ room_for digits places d }
 {
-    if digits < MANY {
-        if places < MANY {
-            if d == 0 {
-                return true;
-            }
-            return digits < SIGNIFICANT;
-        }
-        return false;
-    }
-    false
+    digits < MANY && places < MANY && (d == 0 || digits < SIGNIFICANT)
 }

@@ -5,4 +5,4 @@ mod figures;
 mod scan;
 
 pub use crate::figures::Figures;
-pub use crate::scan::{Scan, start, step, whole};
+pub use crate::scan::{Phase, Scan, start, step, whole};

@@ -1,6 +1,8 @@
 // A byte more of a decimal.
 ghost use Rattle.std.specs.Prelude.{◌≡◌, ◌<◌};
 ghost use Rattle.decimal_scan.specs.Scan.{
+  is_bad,
+  of_number,
   start_of,
   at_phase,
   digit_after,
@@ -17,13 +19,44 @@ ghost use Rattle.decimal_scan.specs.Scan.{
 
 use crate::figures::{Figures, after, none, room};
 
-// What has come: 0 nothing, 1 a minus, 2 digits, 3 the point, 4 digits after it, 5 the `e`, 6 its sign, 7 its digits, 8 what is
-// no number, whatever follows.
-const BAD: u64 = 8;
+// What has come.
+#[derive(Clone, Copy, PartialEq, Eq)]
+pub enum Phase {
+    Nothing,
+    Minus,
+    Digits,
+    Point,
+    // the digits after the point
+    Places,
+    // the `e`
+    Power,
+    PowerSign,
+    PowerDigits,
+    // No number, whatever follows. It stays a phase, and `step` gives no Option: the laws speak of a scan after any bytes.
+    Bad,
+}
+
+impl Phase {
+    pub fn is_bad(self) -> bool
+        ensures { result ≡ is_bad self }
+    {
+        matches!(self, Phase::Bad)
+    }
+
+    // Whether a digit that comes now is one of the number itself, and not of the power.
+    pub fn is_of_number(self) -> bool
+        ensures { result ≡ of_number self }
+    {
+        matches!(
+            self,
+            Phase::Nothing | Phase::Minus | Phase::Digits | Phase::Point | Phase::Places
+        )
+    }
+}
 
 #[derive(Clone, Copy)]
 pub struct Scan {
-    pub phase: u64,
+    pub phase: Phase,
     pub minus: bool,
     pub figures: Figures,
     // the digits after the point, and the power's sign and number
@@ -32,197 +65,157 @@ pub struct Scan {
     pub tens: u64,
 }
 
+#[tactic(auto, unfolding(crate::specs::Scan::start_of))]
 pub fn start() -> Scan
     ensures { result ≡ start_of }
 {
-    let figures = none();
     Scan {
-        phase: 0,
+        phase: Phase::Nothing,
         minus: false,
-        figures,
+        figures: none(),
         places: 0,
         below: false,
         tens: 0,
     }
 }
 
-fn at(s: Scan, phase: u64) -> Scan
+#[tactic(auto, unfolding(crate::specs::Scan::at_phase))]
+fn at(s: Scan, phase: Phase) -> Scan
     ensures { result ≡ at_phase s phase }
 {
-    let figures = s.figures;
-    Scan {
-        phase,
-        minus: s.minus,
-        figures,
-        places: s.places,
-        below: s.below,
-        tens: s.tens,
-    }
+    Scan { phase, ..s }
 }
 
 // A digit of the number itself, before the point or after it.
-fn digit(s: Scan, d: u64, more: u64, phase: u64) -> Scan
+fn digit(s: Scan, d: u64, more: u64, phase: Phase) -> Scan
     requires { (d < 10) × (more < 2) }
     ensures { result ≡ digit_after s d more phase }
 {
     let figures = s.figures;
     let places = s.places;
     if room(figures.digits, places, d) {
-        let grown = after(figures, d);
+        let figures = after(figures, d);
+        let places = places + more;
         return Scan {
             phase,
-            minus: s.minus,
-            figures: grown,
-            places: places + more,
-            below: s.below,
-            tens: s.tens,
+            figures,
+            places,
+            ..s
         };
     }
-    at(s, BAD)
+    at(s, Phase::Bad)
 }
 
 // The power fits an i32.
+#[tactic(auto, unfolding(crate::specs::Scan::most_tens))]
 fn most(below: bool) -> u64
     ensures { result ≡ most_tens below }
 {
-    if below {
-        return 2_147_483_648;
-    }
-    2_147_483_647
+    if below { 2_147_483_648 } else { 2_147_483_647 }
 }
 
 fn tens(s: Scan, d: u64) -> Scan
     requires { d < 10 }
     ensures { result ≡ tens_after s d }
 {
-    let figures = s.figures;
     let power = s.tens;
     if power < 214_748_365 {
         let next = power * 10 + d;
         if next <= most(s.below) {
             return Scan {
-                phase: 7,
-                minus: s.minus,
-                figures,
-                places: s.places,
-                below: s.below,
+                phase: Phase::PowerDigits,
                 tens: next,
+                ..s
             };
         }
-        return at(s, BAD);
+        return at(s, Phase::Bad);
     }
-    at(s, BAD)
+    at(s, Phase::Bad)
 }
 
+#[tactic(auto, unfolding(crate::specs::Scan::figure_after))]
 fn figure(s: Scan, d: u64) -> Scan
     requires { d < 10 }
     ensures { result ≡ figure_after s d }
 {
-    if s.phase < 3 {
-        return digit(s, d, 0, 2);
+    match s.phase {
+        Phase::Nothing | Phase::Minus | Phase::Digits => digit(s, d, 0, Phase::Digits),
+        Phase::Point | Phase::Places => digit(s, d, 1, Phase::Places),
+        Phase::Power | Phase::PowerSign | Phase::PowerDigits | Phase::Bad => tens(s, d),
     }
-    if s.phase < 5 {
-        return digit(s, d, 1, 4);
-    }
-    tens(s, d)
 }
 
 // The sign of the power.
+#[tactic(auto, unfolding(crate::specs::Scan::sign_after))]
 fn sign(s: Scan, below: bool) -> Scan
     ensures { result ≡ sign_after s below }
 {
-    let figures = s.figures;
-    if s.phase == 5 {
-        return Scan {
-            phase: 6,
-            minus: s.minus,
-            figures,
-            places: s.places,
+    match s.phase {
+        Phase::Power => Scan {
+            phase: Phase::PowerSign,
             below,
-            tens: s.tens,
-        };
+            ..s
+        },
+        _ => at(s, Phase::Bad),
     }
-    at(s, BAD)
 }
 
 // A minus: that of the number, or of the power.
+#[tactic(auto, unfolding(crate::specs::Scan::minus_after))]
 fn minus(s: Scan) -> Scan
     ensures { result ≡ minus_after s }
 {
-    let figures = s.figures;
-    if s.phase == 0 {
-        return Scan {
-            phase: 1,
+    match s.phase {
+        Phase::Nothing => Scan {
+            phase: Phase::Minus,
             minus: true,
-            figures,
-            places: s.places,
-            below: s.below,
-            tens: s.tens,
-        };
+            ..s
+        },
+        _ => sign(s, true),
     }
-    sign(s, true)
 }
 
+#[tactic(auto, unfolding(crate::specs::Scan::point_after))]
 fn point(s: Scan) -> Scan
     ensures { result ≡ point_after s }
 {
-    if s.phase == 2 {
-        return at(s, 3);
+    match s.phase {
+        Phase::Digits => at(s, Phase::Point),
+        _ => at(s, Phase::Bad),
     }
-    at(s, BAD)
 }
 
+#[tactic(auto, unfolding(crate::specs::Scan::power_after))]
 fn power(s: Scan) -> Scan
     ensures { result ≡ power_after s }
 {
-    if s.phase == 2 {
-        return at(s, 5);
+    match s.phase {
+        Phase::Digits | Phase::Places => at(s, Phase::Power),
+        _ => at(s, Phase::Bad),
     }
-    if s.phase == 4 {
-        return at(s, 5);
-    }
-    at(s, BAD)
 }
 
+#[tactic(auto, unfolding(crate::specs::Scan::byte_after))]
 pub fn step(s: Scan, b: u8) -> Scan
     ensures { result ≡ byte_after s b }
 {
-    if s.phase == BAD {
+    if s.phase.is_bad() {
         return s;
     }
-    if b == b'-' {
-        return minus(s);
+    match b {
+        b'-' => minus(s),
+        b'+' => sign(s, false),
+        b'.' => point(s),
+        b'0'..=b'9' => figure(s, (b - b'0') as u64),
+        b'e' | b'E' => power(s),
+        _ => at(s, Phase::Bad),
     }
-    if b == b'+' {
-        return sign(s, false);
-    }
-    if b == b'.' {
-        return point(s);
-    }
-    if b < 48 {
-        return at(s, BAD);
-    }
-    if b < 58 {
-        return figure(s, (b - 48) as u64);
-    }
-    if b == b'e' {
-        return power(s);
-    }
-    if b == b'E' {
-        return power(s);
-    }
-    at(s, BAD)
 }
 
 // Whether a number may end here: after a digit.
+#[tactic(auto, unfolding(crate::specs::Scan::is_whole))]
 pub fn whole(s: Scan) -> bool
     ensures { result ≡ is_whole s }
 {
-    if s.phase == 2 {
-        return true;
-    }
-    if s.phase == 4 {
-        return true;
-    }
-    s.phase == 7
+    matches!(s.phase, Phase::Digits | Phase::Places | Phase::PowerDigits)
 }

@@ -1,10 +1,8 @@
--- What the tests on d and t say of `short`, and of a value that is not known. Assumes nothing.
+-- What the tests on d and t say of `short`. Assumes nothing.
 use Prim.Native.Nat.{ℕ, ◌^◌, ◌≤◌, ◌<◌}
-use mathlib.Core.Path.{◌≡◌, sym, subst}
+use mathlib.Core.Path.{◌≡◌}
 use mathlib.Core.Bool.{true, false}
 use borrow.Author.Tests.{le-leb, lt-leb}
-use lib.Dec.{T}
-use lib.Ieee.{Float}
 use Rattle.decimal_value.specs.Short.{short}
 
 pub too_long : (d t : ℕ) → 2 ^ 53 < d → false ≡ short d t
@@ -22,6 +20,3 @@ too_high d t h l u = rw (le-leb d (2 ^ 53) h, le-leb 1178 t l, lt-leb t 1222 u)
 pub is_short : (d t : ℕ) → d ≤ 2 ^ 53 → 1178 ≤ t → t ≤ 1222 → true ≡ short d t
 unfolding short
 is_short d t h l u = rw (le-leb d (2 ^ 53) h, le-leb 1178 t l, le-leb t 1222 u)
-
-pub unknown : (x y : Float) → false ≡ true → x ≡ y
-unknown x y e = absurd (subst T (sym e) tt)

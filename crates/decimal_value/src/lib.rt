@@ -6,9 +6,7 @@ mod one;
 mod rounded;
 mod short_ways;
 mod tens;
-mod value;
 
 pub use crate::one::by_one;
 pub use crate::rounded::by_words;
 pub use crate::short_ways::quick;
-pub use crate::value::Value;

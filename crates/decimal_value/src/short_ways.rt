@@ -1,17 +1,12 @@
 // The two short ways, one after the other.
-ghost use Rattle.std.specs.Prelude.{◌≡◌, true};
+ghost use Rattle.std.specs.Prelude.{◌≡◌, IfSome};
 ghost use Rattle.decimal.specs.Decimal.{decimal_of};
 
 use crate::one::by_one;
 use crate::rounded::by_words;
-use crate::value::Value;
 
-pub fn quick(s: bool, d: u64, t: u64) -> Value
-    ensures { result.known ≡ true → result.value ≡ decimal_of s d t }
+pub fn quick(s: bool, d: u64, t: u64) -> Option<f64>
+    ensures { IfSome result (λ x. x ≡ decimal_of s d t) }
 {
-    let one = by_one(s, d, t);
-    if one.known {
-        return one;
-    }
-    by_words(s, d, t)
+    by_one(s, d, t).or_else(|| by_words(s, d, t))
 }

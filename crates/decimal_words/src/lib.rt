@@ -4,4 +4,4 @@
 
 mod road;
 
-pub use crate::road::{Leading, lead};
+pub use crate::road::lead;

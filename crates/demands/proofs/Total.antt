@@ -1,22 +1,12 @@
 -- DEMAND 1 (document 01): whatever bits a call has, it is answered by a finite value, or by one of its entry's numbers and
 -- nothing else. What a function answers is, by its contract, the definition's answer. Assumes nothing.
 use Rattle.std.specs.Prelude.{ℕ, zero, suc, ◌≡◌, refl, Bool, false, ◌&&◌, ◌||◌, List, [], ◌∷◌, Float}
-use Rattle.std.proofs.Common.{arith}
+use Rattle.std.proofs.Common.{arith, Ok, Err}
 use Rattle.std.specs.Float.Ieee.{lt, le, eq}
+use Rattle.refusals.specs.Numbers.{refusal_numbers}
+use Rattle.refusals.specs.declared.Refusal.TheVariants.{AgmSpent, NoResult, RcNoResult, RgNoResult, TooDeep}
 use Rattle.binary64.specs.Leaves.{minimum, maximum}
 use Rattle.binary64.specs.Operators.{◌⊗◌, bits}
-use Rattle.carlson.specs.Constants.{
-  nan_given,
-  below_zero_number,
-  zeros,
-  zero_given,
-  z_not_above,
-  no_result,
-  rc_no_result,
-  rg_no_result,
-  agm_spent,
-  too_deep,
-}
 use Rattle.carlson.specs.Constants.{zero as +0}
 use Rattle.carlson_arguments.specs.Checks.{any_nan2, any_nan3, any_nan4, any_infinite2, any_infinite3, any_infinite4, below3, zeros_of3}
 use Rattle.carlson.specs.Common.{mean_cap}
@@ -25,8 +15,7 @@ use Rattle.carlson.specs.Only.{among, Only, value, refused, Finite, Any}
 use Rattle.carlson.proofs.Only.{chosen, finite_or, settled_only}
 use Rattle.carlson_arguments.specs.Rescaled.{rescaled3}
 use Rattle.carlson.proofs.Only.{infinite_only, late_only, told_only, longer}
-use Rattle.carlson.specs.declared.answer.Answer.{Answer}
-use Rattle.carlson.specs.declared.answer.Answer.TheVariants.{Value, Refused}
+use Rattle.carlson.specs.Answer.{Answer}
 use Rattle.elliprc.specs.Rc.{rc_unchecked, rc}
 use Rattle.elliprf.specs.Rf.{rf_unchecked, rf}
 use Rattle.elliprd.specs.Means.{sums_of, rd_together, rd_agm_found, rd_agm_spent, rd_agm_start, rd_agm_of}
@@ -43,9 +32,9 @@ use Rattle.rj_calls.specs.declared.plan.Plan.TheVariants.{Done, Rescale, Reduce}
 use Rattle.rj_calls.specs.Plans.{Plans, plan_holds}
 use Rattle.elliprj.specs.Rj.{rj_settled, rj_rest, rj}
 use Rattle.rj_calls.specs.Run.{plan_of, rj_run, rj_unchecked}
-use Rattle.elliprj.specs.Rj.{wrong_sign, rj_signed, rj_of_positive, rj_of_negative}
+use Rattle.elliprj.specs.Rj.{rj_signed, rj_of_positive, rj_of_negative}
 use Rattle.cel_passes.specs.Passes.{cel_steps}
-use Rattle.cel.specs.Cel.{several_infinite, a_or_b_infinite, either_unbounded, several_unbounded, cel_unsettled, cel_settled, cel}
+use Rattle.cel.specs.Cel.{either_unbounded, several_unbounded, cel_unsettled, cel_settled, cel}
 use Rattle.calls.specs.declared.Call.{Call}
 use Rattle.calls.specs.declared.Call.TheVariants.{Rc, Rf, Rd, Rg, Rj, Cel}
 use Rattle.answers.specs.Answers.{number, answer_of}
@@ -57,7 +46,7 @@ unfolding rc
 rc_only x y =
     let Q = Only Finite rc_numbers in
     chosen Q (lt x +0) (refused tt)
-    (chosen Q (eq y +0) (refused tt) (late_only rc_numbers (rc_unchecked x y) (any_nan2 x y) (any_infinite2 x y) rc_no_result tt tt))
+    (chosen Q (eq y +0) (refused tt) (late_only rc_numbers (rc_unchecked x y) (any_nan2 x y) (any_infinite2 x y) RcNoResult tt tt))
 
 pub rf_only : (x y z : Float) → Only Finite rf_numbers (rf x y z)
 unfolding rf
@@ -66,11 +55,11 @@ rf_only x y z =
     chosen Q (any_nan3 x y z) (refused tt)
     (chosen Q (below3 x y z) (refused tt)
     (chosen Q (zeros_of3 x y z) (refused tt)
-    (chosen Q (any_infinite3 x y z) (infinite_only rf_numbers) (settled_only rf_numbers (rf_unchecked x y z) no_result tt))))
+    (chosen Q (any_infinite3 x y z) (infinite_only rf_numbers) (settled_only rf_numbers (rf_unchecked x y z) NoResult tt))))
 
 -- ---- RD and RG: their steps can give 9 beside a value
 abbrev spent_only : List ℕ
-spent_only = agm_spent ∷ []
+spent_only = refusal_numbers (AgmSpent ∷ [])
 
 abbrev Steps : Answer → Type 0
 Steps a = Only Any spent_only a
@@ -100,8 +89,8 @@ rd_steps_lem x y z = chosen Steps (eq x z) (rd_ordered_lem y x z) (rd_ordered_le
 
 over_scale_lem : {ns : List ℕ} (a : Answer) (s : Float) → Only Any ns a → Only Any ns (over_scale a s)
 unfolding over_scale
-over_scale_lem (Value f) s (value v) = value tt
-over_scale_lem (Refused n) s (refused h) = refused h
+over_scale_lem (Ok f) s (value v) = value tt
+over_scale_lem (Err n) s (refused h) = refused h
 
 rd_unchecked_lem : (x y z : Float) → Steps (rd_unchecked x y z)
 unfolding rd_unchecked
@@ -115,7 +104,7 @@ rd_only x y z =
     (chosen Q (eq x +0 && eq y +0) (refused tt)
     (chosen Q (le z +0) (refused tt)
     (told_only rd_numbers (λ a. rd_settled a (any_nan3 x y z) (any_infinite3 x y z))
-    (λ f. late_only rd_numbers f (any_nan3 x y z) (any_infinite3 x y z) no_result tt tt)
+    (λ f. late_only rd_numbers f (any_nan3 x y z) (any_infinite3 x y z) NoResult tt tt)
     (λ n. refl) tt (rd_unchecked x y z) (rd_unchecked_lem x y z))))
 
 rg_agm : (x z : Float) → Steps (rg_agm_of x z)
@@ -137,8 +126,8 @@ rg_steps_lem x y z = rg_sorted_lem _ _ _
 
 times_root_lem : (a : Answer) (s : Float) → Steps a → Steps (times_root a s)
 unfolding times_root
-times_root_lem (Value f) s (value v) = value tt
-times_root_lem (Refused n) s (refused h) = refused h
+times_root_lem (Ok f) s (value v) = value tt
+times_root_lem (Err n) s (refused h) = refused h
 
 rg_unchecked_lem : (x y z : Float) → Steps (rg_unchecked x y z)
 unfolding rg_unchecked
@@ -149,12 +138,12 @@ unfolding rg rg_settled
 rg_only x y z =
     chosen (Only Finite rg_numbers) (below3 x y z) (refused tt)
     (told_only rg_numbers (λ a. rg_settled a (any_nan3 x y z))
-    (λ f. late_only rg_numbers f (any_nan3 x y z) false rg_no_result tt tt) (λ n. refl) tt
+    (λ f. late_only rg_numbers f (any_nan3 x y z) false RgNoResult tt tt) (λ n. refl) tt
     (rg_unchecked x y z) (rg_unchecked_lem x y z))
 
 -- ---- RJ: 9 from RD, 10 with no call left
 abbrev Run : Answer → Type 0
-Run a = Only Any (agm_spent ∷ too_deep ∷ []) a
+Run a = Only Any (refusal_numbers (AgmSpent ∷ TooDeep ∷ [])) a
 
 rj_positive_lem : (x y z p : Float) → Steps (rj_positive x y z p)
 unfolding rj_positive rj_all rj_three
@@ -185,13 +174,13 @@ planned x y z p =
 
 reduced : (r : Reduced) (a : Answer) → Run a → Run (reduced_answer r a)
 unfolding reduced_answer
-reduced r (Value f) (value v) = value tt
-reduced r (Refused n) (refused h) = refused h
+reduced r (Ok f) (value v) = value tt
+reduced r (Err n) (refused h) = refused h
 
 run : (left : ℕ) (p : Plan) → Planned p → Run (rj_run left p)
 unfolding rj_run
 run zero p h = refused tt
-run (suc left) (Done a) h = longer spent_only (agm_spent ∷ too_deep ∷ []) tt h
+run (suc left) (Done a) h = longer spent_only (refusal_numbers (AgmSpent ∷ TooDeep ∷ [])) tt h
 run (suc left) (Rescale c) h = over_scale_lem _ c.scale (run left (plan_of c.x c.y c.z c.p)
     (planned c.x c.y c.z c.p))
 run (suc left) (Reduce r) h = reduced r _ (run left (plan_of r.x r.y r.z r.p) (planned r.x r.y r.z r.p))
@@ -203,7 +192,7 @@ rj_rest_lem x y z p =
     chosen Q (below3 x y z) (refused tt)
     (chosen Q (zeros_of3 x y z) (refused tt)
     (chosen Q (any_infinite4 x y z p) (infinite_only rj_numbers)
-    (told_only rj_numbers rj_settled (λ f. settled_only rj_numbers f no_result tt) (λ n. refl) tt (rj_unchecked x y z p)
+    (told_only rj_numbers rj_settled (λ f. settled_only rj_numbers f NoResult tt) (λ n. refl) tt (rj_unchecked x y z p)
     (run 4 (plan_of x y z p) (planned x y z p)))))
 
 pub rj_only : (x y z p : Float) → Only Finite rj_numbers (rj x y z p)

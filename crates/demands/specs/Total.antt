@@ -3,20 +3,24 @@
 use Rattle.std.specs.Prelude.{ℕ, zero, suc, ◌≡◌, refl, Bool, false, ◌&&◌, ◌||◌, List, [], ◌∷◌, Float}
 use Rattle.std.proofs.Common.{arith}
 use Rattle.std.specs.Float.Ieee.{lt, le, eq}
+use Rattle.refusals.specs.Numbers.{refusal_number, refusal_numbers}
+use Rattle.refusals.specs.declared.Refusal.TheVariants.{
+  AOrBInfinite,
+  AgmSpent,
+  BelowZero,
+  NanGiven,
+  NoResult,
+  RcNoResult,
+  RgNoResult,
+  SeveralInfinite,
+  TooDeep,
+  WrongSign,
+  ZNotAbove,
+  ZeroGiven,
+  Zeros,
+}
 use Rattle.binary64.specs.Leaves.{minimum, maximum}
 use Rattle.binary64.specs.Operators.{◌⊗◌, bits}
-use Rattle.carlson.specs.Constants.{
-  nan_given,
-  below_zero_number,
-  zeros,
-  zero_given,
-  z_not_above,
-  no_result,
-  rc_no_result,
-  rg_no_result,
-  agm_spent,
-  too_deep,
-}
 use Rattle.carlson.specs.Constants.{zero as +0}
 use Rattle.carlson_arguments.specs.Checks.{any_nan2, any_nan3, any_nan4, any_infinite2, any_infinite3, any_infinite4, below3, zeros_of3}
 use Rattle.carlson.specs.Common.{mean_cap}
@@ -25,8 +29,7 @@ use Rattle.carlson.specs.Only.{among, Only, value, refused, Finite, Any}
 use Rattle.carlson.proofs.Only.{chosen, finite_or, settled_only}
 use Rattle.carlson_arguments.specs.Rescaled.{rescaled3}
 use Rattle.carlson.proofs.Only.{infinite_only, late_only, told_only, longer}
-use Rattle.carlson.specs.declared.answer.Answer.{Answer}
-use Rattle.carlson.specs.declared.answer.Answer.TheVariants.{Value, Refused}
+use Rattle.carlson.specs.Answer.{Answer}
 use Rattle.elliprc.specs.Rc.{rc_unchecked, rc}
 use Rattle.elliprf.specs.Rf.{rf_unchecked, rf}
 use Rattle.elliprd.specs.Means.{sums_of, rd_together, rd_agm_found, rd_agm_spent, rd_agm_start, rd_agm_of}
@@ -43,35 +46,35 @@ use Rattle.rj_calls.specs.declared.plan.Plan.TheVariants.{Done, Rescale, Reduce}
 use Rattle.rj_calls.specs.Plans.{Plans, plan_holds}
 use Rattle.elliprj.specs.Rj.{rj_settled, rj_rest, rj}
 use Rattle.rj_calls.specs.Run.{plan_of, rj_run, rj_unchecked}
-use Rattle.elliprj.specs.Rj.{wrong_sign, rj_signed, rj_of_positive, rj_of_negative}
+use Rattle.elliprj.specs.Rj.{rj_signed, rj_of_positive, rj_of_negative}
 use Rattle.cel_passes.specs.Passes.{cel_steps}
-use Rattle.cel.specs.Cel.{several_infinite, a_or_b_infinite, either_unbounded, several_unbounded, cel_unsettled, cel_settled, cel}
+use Rattle.cel.specs.Cel.{either_unbounded, several_unbounded, cel_unsettled, cel_settled, cel}
 use Rattle.calls.specs.declared.Call.{Call}
 use Rattle.calls.specs.declared.Call.TheVariants.{Rc, Rf, Rd, Rg, Rj, Cel}
 use Rattle.answers.specs.Answers.{number, answer_of}
 
 -- ---- the numbers that each entry can give, as the header and docs/REFUSALS.md list them
 abbrev pub rc_numbers : List ℕ
-rc_numbers = nan_given ∷ below_zero_number ∷ zero_given ∷ rc_no_result ∷ []
+rc_numbers = refusal_numbers (NanGiven ∷ BelowZero ∷ ZeroGiven ∷ RcNoResult ∷ [])
 
 abbrev pub rf_numbers : List ℕ
-rf_numbers = nan_given ∷ below_zero_number ∷ zeros ∷ no_result ∷ []
+rf_numbers = refusal_numbers (NanGiven ∷ BelowZero ∷ Zeros ∷ NoResult ∷ [])
 
 abbrev pub rd_numbers : List ℕ
-rd_numbers = nan_given ∷ below_zero_number ∷ zeros ∷ z_not_above ∷ no_result ∷ agm_spent ∷ []
+rd_numbers = refusal_numbers (NanGiven ∷ BelowZero ∷ Zeros ∷ ZNotAbove ∷ NoResult ∷ AgmSpent ∷ [])
 
 abbrev pub rg_numbers : List ℕ
-rg_numbers = nan_given ∷ below_zero_number ∷ rg_no_result ∷ agm_spent ∷ []
+rg_numbers = refusal_numbers (NanGiven ∷ BelowZero ∷ RgNoResult ∷ AgmSpent ∷ [])
 
 abbrev pub rj_numbers : List ℕ
-rj_numbers = nan_given ∷ below_zero_number ∷ zeros ∷ zero_given ∷ no_result ∷ agm_spent ∷ too_deep ∷ []
+rj_numbers = refusal_numbers (NanGiven ∷ BelowZero ∷ Zeros ∷ ZeroGiven ∷ NoResult ∷ AgmSpent ∷ TooDeep ∷ [])
 
 abbrev pub cel_numbers : List ℕ
-cel_numbers = nan_given ∷ zero_given ∷ no_result ∷ several_infinite ∷ a_or_b_infinite ∷ []
+cel_numbers = refusal_numbers (NanGiven ∷ ZeroGiven ∷ NoResult ∷ SeveralInfinite ∷ AOrBInfinite ∷ [])
 
 -- each of the two entries may say 21 too
 abbrev pub rj_signed_numbers : List ℕ
-rj_signed_numbers = wrong_sign ∷ rj_numbers
+rj_signed_numbers = refusal_number WrongSign ∷ rj_numbers
 
 -- ---- THE THEOREM, over a call
 abbrev pub numbers_of : Call → List ℕ

@@ -7,7 +7,7 @@ use Rattle.std.specs.Prelude.{ℕ, ◌*◌, ◌≡◌, T}
 use Rattle.std.proofs.Common.{sym, subst₂}
 use Rattle.std.specs.Float.Ieee.{lt}
 use Rattle.carlson.specs.Constants.{zero}
-use Rattle.carlson.specs.declared.answer.Answer.{Answer}
+use Rattle.carlson.specs.Answer.{Answer}
 use Rattle.calls.specs.declared.Call.{Call}
 use Rattle.calls.specs.declared.Call.TheVariants.{Rc, Rf, Rd, Rg, Rj, Cel}
 use Rattle.answers.specs.Answers.{number, answer_of}

@@ -3,7 +3,7 @@
 use Prim.Native.Nat.{ℕ, zero, suc, ◌+◌, ◌-◌, ◌*◌, ◌/◌, ◌%◌, ◌^◌, ◌≤◌, ◌<◌}
 use Rattle.std.proofs.Math.Path.{◌≡◌, refl, ap}
 use Rattle.std.proofs.Common.{◌∙◌, div-one, div-add-mod', div-lt_iff_lt-mul, add-one, arith, length-append}
-use Rattle.std.specs.Prelude.{Bool}
+use Rattle.std.specs.Prelude.{Bool, Option, Some, None}
 use Rattle.std.proofs.Math.Bool.{true, false, cond}
 use mathlib.Core.List.{List, [], ◌∷◌, ◌++◌}
 use Rattle.std.proofs.Math.Nat.{pow-zero, pow-suc, pow-succ', add-zero, div-eq_of_lt, div-div-eq-div-mul, mul-add-div_right, mod-lt, mod-eq_of_lt, mul-add-mod_self_right}
@@ -11,8 +11,6 @@ use borrow.Author.Tests.{ltb-true, ltb-false, lt-ltb, le-ltb}
 use Rattle.std.proofs.Math.Dec.{ltb}
 use Rattle.std.proofs.Math.ListN.{length}
 use Rattle.digits.specs.Digits.{glyph_of, digit_of, digits, number_from, word_text}
-use Rattle.digits.specs.declared.Word.{Word}
-use Rattle.digits.specs.declared.Word.TheVariants.{Is, Not}
 
 -- ---- lengths
 pub digits_length : (base k n : ℕ) → length (digits base k n) ≡ k
@@ -64,9 +62,9 @@ glyph_of_digit b = go (ltb b 48) (ltb b 58) (ltb b 65) (ltb b 71) refl refl refl
 -- ---- a number of digits, in a base
 module _ (base : ℕ) (low : 1 < base) (high : base ≤ 16) where
   -- one digit after what was read
-  after : Word → ℕ → Word
-  after (Is v) b = cond (ltb (digit_of b) base) (Is (v * base + digit_of b)) Not
-  after Not b = Not
+  after : Option ℕ → ℕ → Option ℕ
+  after (Some v) b = cond (ltb (digit_of b) base) (Some (v * base + digit_of b)) None
+  after None b = None
 
   read_last : (v : ℕ) (xs : List ℕ) (b : ℕ) → number_from base v (xs ++ b ∷ []) ≡ after (number_from base v xs) b
   unfolding number_from after
@@ -74,7 +72,7 @@ module _ (base : ℕ) (low : 1 < base) (high : base ≤ 16) where
   read_last v (x ∷ xs) b = go (ltb (digit_of x) base) (number_from base (v * base + digit_of x) xs)
       (read_last (v * base + digit_of x) xs b)
     where
-      go : (t : Bool) (r : Word) {l : Word} → l ≡ after r b → cond t l Not ≡ after (cond t r Not) b
+      go : (t : Bool) (r : Option ℕ) {l : Option ℕ} → l ≡ after r b → cond t l None ≡ after (cond t r None) b
       go true r e = e
       go false r e = refl
 
@@ -82,7 +80,7 @@ module _ (base : ℕ) (low : 1 < base) (high : base ≤ 16) where
   shorter : (k n : ℕ) → n < base ^ suc k → n / base < base ^ k
   shorter k n h = (div-lt_iff_lt-mul {k = base} {x = n} {y = base ^ k} (omega arith)).1 (rw pow-suc at h)
 
-  next_digit : (v n : ℕ) → after (Is v) (glyph_of (n % base)) ≡ Is (v * base + n % base)
+  next_digit : (v n : ℕ) → after (Some v) (glyph_of (n % base)) ≡ Some (v * base + n % base)
   unfolding after
   next_digit v n =
       let k : n % base < base = mod-lt n (omega arith) in
@@ -91,15 +89,15 @@ module _ (base : ℕ) (low : 1 < base) (high : base ≤ 16) where
   grouped : (v P n : ℕ) → (v * P + n / base) * base + n % base ≡ v * (P * base) + n
   grouped v P n = omega (arith, div-add-mod' n base)
 
-  pub read_written : (k v n : ℕ) → n < base ^ k → number_from base v (digits base k n) ≡ Is (v * base ^ k + n)
+  pub read_written : (k v n : ℕ) → n < base ^ k → number_from base v (digits base k n) ≡ Some (v * base ^ k + n)
   unfolding number_from digits
   read_written zero v n h =
       let z : n < 1 = rw pow-zero at h in
-      ap Is (rw pow-zero (omega arith))
+      ap Some (rw pow-zero (omega arith))
   read_written (suc k) v n h =
       read_last v (digits base k (n / base)) (glyph_of (n % base))
-      ∙ ap (λ (w : Word). after w (glyph_of (n % base))) (read_written k v (n / base) (shorter k n h))
-      ∙ next_digit (v * base ^ k + n / base) n ∙ ap Is (rw pow-suc (grouped v (base ^ k) n))
+      ∙ ap (λ (w : Option ℕ). after w (glyph_of (n % base))) (read_written k v (n / base) (shorter k n h))
+      ∙ next_digit (v * base ^ k + n / base) n ∙ ap Some (rw pow-suc (grouped v (base ^ k) n))
 
   -- the first of the digits, and the rest
   first_digit : (k n : ℕ) → digits base (suc k) n ≡ glyph_of (n / base ^ k % base) ∷ digits base k n
@@ -108,7 +106,7 @@ module _ (base : ℕ) (low : 1 < base) (high : base ≤ 16) where
   first_digit (suc k) n = rw (first_digit k (n / base), div-div-eq-div-mul, ← pow-succ')
 
   -- what is read as a number is written so
-  pub written_read : (xs : List ℕ) (v n : ℕ) → number_from base v xs ≡ Is n
+  pub written_read : (xs : List ℕ) (v n : ℕ) → number_from base v xs ≡ Some n
       → (n / base ^ length xs ≡ v) × (digits base (length xs) n ≡ xs)
   unfolding number_from digits
   written_read [] v n e = (rw (pow-zero, div-one) (cc), refl)
@@ -116,9 +114,9 @@ module _ (base : ℕ) (low : 1 < base) (high : base ≤ 16) where
     where
       go :
           (t : Bool) → ltb (digit_of x) base ≡ t
-          → (number_from base (v * base + digit_of x) xs ≡ Is n
+          → (number_from base (v * base + digit_of x) xs ≡ Some n
           → (n / base ^ length xs ≡ v * base + digit_of x) × (digits base (length xs) n ≡ xs))
-          → cond t (number_from base (v * base + digit_of x) xs) Not ≡ Is n
+          → cond t (number_from base (v * base + digit_of x) xs) None ≡ Some n
           → (n / base ^ suc (length xs) ≡ v) × (digits base (suc (length xs)) n ≡ x ∷ xs)
       go true t rest e =
           let h : digit_of x < base = ltb-true (digit_of x) base t in

@@ -1,7 +1,5 @@
 -- Numbers as digits in a base up to 16, upper case: how they are written and how they are read. Definitions only.
-use Rattle.std.specs.Prelude.{ℕ, zero, suc, ◌+◌, ◌-◌, ◌*◌, ◌/◌, ◌%◌, cond, List, [], ◌∷◌, ◌++◌, ltb}
-use Rattle.digits.specs.declared.Word.{Word}
-use Rattle.digits.specs.declared.Word.TheVariants.{Is, Not}
+use Rattle.std.specs.Prelude.{ℕ, zero, suc, ◌+◌, ◌-◌, ◌*◌, ◌/◌, ◌%◌, cond, Option, Some, None, List, [], ◌∷◌, ◌++◌, ltb}
 
 -- the byte of a digit below 16: `0` to `9`, then `A` to `F`
 unfoldable pub glyph_of : ℕ → ℕ
@@ -17,9 +15,9 @@ digits base zero n = []
 digits base (suc k) n = digits base k (n / base) ++ (glyph_of (n % base) ∷ [])
 
 -- the number that begins with v and goes on with these digits, if digits is what they are
-unfoldable pub number_from : ℕ → ℕ → List ℕ → Word
-number_from base v [] = Is v
-number_from base v (b ∷ bs) = cond (ltb (digit_of b) base) (number_from base (v * base + digit_of b) bs) Not
+unfoldable pub number_from : ℕ → ℕ → List ℕ → Option ℕ
+number_from base v [] = Some v
+number_from base v (b ∷ bs) = cond (ltb (digit_of b) base) (number_from base (v * base + digit_of b) bs) None
 
 -- a word as the listing has it: a blank and the pattern's sixteen digits
 unfoldable pub word_text : ℕ → List ℕ

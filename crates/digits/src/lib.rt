@@ -1,31 +1,37 @@
-// Numbers as upper-case digits: what a byte is, read as a digit.
+// Numbers as upper-case digits: what a byte is, read as a digit, and what digits are, read as a number.
 #![tactic(auto)]
 
-ghost use Rattle.std.specs.Prelude.{◌≡◌};
-ghost use Rattle.digits.specs.Digits.{digit_of};
+ghost use Rattle.std.specs.Prelude.{◌≡◌, ◌<◌, ◌≤◌, length};
+ghost use Rattle.digits.specs.Digits.{digit_of, number_from};
 
-// What reading a number finds.
-#[derive(Clone, Copy)]
-pub enum Word {
-    Is(u64),
-    Not,
-}
+// No digit, in any base: not below one, so that one comparison tells a digit of a base from every other byte.
+const NONE: u64 = 16;
 
 // The digit that a byte is, and 16 for every other byte.
+#[tactic(auto, unfolding(crate::specs::Digits::digit_of))]
 pub fn digit(b: u8) -> u64
     ensures { result ≡ digit_of b }
 {
-    if b < 48 {
-        return 16;
+    match b {
+        b'0'..=b'9' => (b - b'0') as u64,
+        b'A'..=b'F' => (b - b'A') as u64 + 10,
+        _ => NONE,
     }
-    if b < 58 {
-        return (b - 48) as u64;
+}
+
+// The number that these digits are, if digits is what they are: sixteen fill a word.
+pub fn number(text: &[u8], base: u64) -> Option<u64>
+    requires text_len { length text.now ≤ 16 }
+    requires base_within { (1 < base) × (base ≤ 16) }
+    ensures { result ≡ number_from base 0 text.now }
+{
+    let mut value: u64 = 0;
+    for b in text {
+        let d = digit(*b);
+        if d >= base {
+            return None;
+        }
+        value = value * base + d;
     }
-    if b < 65 {
-        return 16;
-    }
-    if b < 71 {
-        return (b - 55) as u64;
-    }
-    16
+    Some(value)
 }

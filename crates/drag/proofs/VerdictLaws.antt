@@ -2,18 +2,15 @@
 -- passes by a narrower one. `drag_of` is a function of the five numbers, so that a verdict hangs on nothing else. Assumes nothing.
 use Rattle.std.specs.Prelude.{ℕ, ◌+◌, ◌*◌, ◌≤◌, ◌≡◌, true, false, T, Float}
 use Rattle.std.proofs.Math.Path.{refl}
-use Rattle.std.proofs.Common.{le_trans, arith}
+use Rattle.std.proofs.Common.{le_trans, arith, Ok, Err}
 use Rattle.std.proofs.Math.Nat.{mul-le-mul_right}
 use Rattle.std.proofs.Math.Dec.{le→leb, leb→le}
 use Rattle.std.specs.Float.Ieee.{of_bits}
 use Rattle.std.specs.Float.Ieee.Positive.{num, den}
 use Rattle.binary64.specs.Operators.{bits}
-use Rattle.carlson.specs.declared.answer.Answer.{Answer}
-use Rattle.carlson.specs.declared.answer.Answer.TheVariants.{Value, Refused}
+use Rattle.carlson.specs.Answer.{Answer}
 use Rattle.swing.specs.Period.{period_of}
 use Rattle.drag.specs.Verdict.{passes, judged_of, drag_of, weighed}
-use Rattle.drag.specs.declared.knee.Judged.{Judged}
-use Rattle.drag.specs.declared.knee.Judged.TheVariants.{Weighed, Refused as NoVerdict}
 use Rattle.drag.specs.VerdictLaws.{Passing}
 
 module _ (v : Float) where
@@ -35,16 +32,16 @@ unfolding drag_of
 slower_drags l h g t u m k = go (period_of l h g)
   where
     go : (a : Answer) → Passing (judged_of a u m) → Passing (judged_of a t m)
-    go (Value f) p = unfold judged_of weighed in slower f.value t u m k (unfold judged_of weighed in p)
-    go (Refused n) p = absurd (unfold judged_of in p)
+    go (Ok f) p = unfold judged_of weighed in slower f.value t u m k (unfold judged_of weighed in p)
+    go (Err n) p = absurd (unfold judged_of in p)
 
 pub wider_passes : (l h g t m n : ℕ) → m ≤ n → Passing (drag_of l h g t m) → Passing (drag_of l h g t n)
 unfolding drag_of
 wider_passes l h g t m n k = go (period_of l h g)
   where
     go : (a : Answer) → Passing (judged_of a t m) → Passing (judged_of a t n)
-    go (Value f) p = unfold judged_of weighed in wider f.value t m n k (unfold judged_of weighed in p)
-    go (Refused n) p = absurd (unfold judged_of in p)
+    go (Ok f) p = unfold judged_of weighed in wider f.value t m n k (unfold judged_of weighed in p)
+    go (Err n) p = absurd (unfold judged_of in p)
 
 -- ---- on the nanosecond: an ideal swing of one second, and of 1.0000000005 seconds, whose printed excess is 0 at 1,000,000,001
 -- ns

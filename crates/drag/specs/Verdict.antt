@@ -1,14 +1,12 @@
 -- The verdict on a knee: the f64 period as the fraction num / den that it is, against whole nanoseconds. Definitions only.
-use Rattle.std.specs.Prelude.{ℕ, ◌+◌, ◌-◌, ◌*◌, Bool, ◌||◌, ◌&&◌, cond, eqb, ltb, leb, Float}
+use Rattle.std.specs.Prelude.{ℕ, ◌+◌, ◌-◌, ◌*◌, Bool, ◌||◌, ◌&&◌, cond, eqb, ltb, leb, Float, Result, Ok, Err}
 use Rattle.std.specs.Float.Ieee.Nearest.{closest}
 use Rattle.std.specs.Float.Ieee.Positive.{num, den}
+use Rattle.refusals.specs.declared.Refusal.{Refusal}
 use Rattle.parted.specs.declared.parts.Parts.{Parts}
-use Rattle.carlson.specs.declared.answer.Answer.{Answer}
-use Rattle.carlson.specs.declared.answer.Answer.TheVariants.{Value, Refused}
+use Rattle.carlson.specs.Answer.{Answer}
 use Rattle.swing.specs.Period.{period_of}
 use Rattle.drag.specs.declared.nanoseconds.Verdict.{Verdict}
-use Rattle.drag.specs.declared.knee.Judged.{Judged}
-use Rattle.drag.specs.declared.knee.Judged.TheVariants.{Weighed, Refused as NoVerdict}
 
 -- THE VERDICT: "the f64 period as the fraction that it is, times 10^9, against T - LIMIT in whole numbers; on the limit passes"
 unfoldable pub passes : Float → ℕ → ℕ → Bool
@@ -28,12 +26,12 @@ unfoldable pub weighed : Float → ℕ → ℕ → Verdict
 weighed v time limit = record { passes = passes v time limit; quicker = quicker v time; excess = excess v time; period = v }
 
 -- a refusal of the swing's goes through
-unfoldable pub judged_of : Answer → ℕ → ℕ → Judged
-judged_of (Value f) time limit = Weighed (weighed f.value time limit)
-judged_of (Refused n) time limit = NoVerdict n
+unfoldable pub judged_of : Answer → ℕ → ℕ → Result Verdict Refusal
+judged_of (Ok f) time limit = Ok (weighed f.value time limit)
+judged_of (Err r) time limit = Err r
 
 -- of the five numbers: the swing's three, the time, the limit
-unfoldable pub drag_of : ℕ → ℕ → ℕ → ℕ → ℕ → Judged
+unfoldable pub drag_of : ℕ → ℕ → ℕ → ℕ → ℕ → Result Verdict Refusal
 drag_of length height gravity time limit = judged_of (period_of length height gravity) time limit
 
 -- ---- how it is done: by the parts of the ideal period in nanoseconds

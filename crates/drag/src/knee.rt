@@ -5,27 +5,26 @@ ghost use Rattle.drag.specs.Verdict.{judged_of, drag_of};
 
 use crate::nanoseconds::{Verdict, weigh};
 use carlson::answer::Answer;
+use refusals::Refusal;
 use swing::period::period;
 
-#[derive(Clone, Copy)]
-pub enum Judged {
-    Weighed(Verdict),
-    Refused(u32),
-}
-
-fn against(answer: Answer, time: u64, limit: u64) -> Judged
+fn against(answer: Answer, time: u64, limit: u64) -> Result<Verdict, Refusal>
     requires { Bounded answer }
     ensures { result ≡ judged_of answer time limit }
 {
-    match answer {
-        Answer::Value(found) => Judged::Weighed(weigh(found.value, time, limit)),
-        Answer::Refused(number) => Judged::Refused(number),
-    }
+    let found = answer?;
+    Ok(weigh(found.value, time, limit))
 }
 
 // Any five numbers: the swing's length, height and gravity, the time that one swing took and the excess that is allowed, both in
 // nanoseconds; or the swing's 11 or 12.
-pub fn judge(length: u64, height: u64, gravity: u64, time: u64, limit: u64) -> Judged
+pub fn judge(
+    length: u64,
+    height: u64,
+    gravity: u64,
+    time: u64,
+    limit: u64,
+) -> Result<Verdict, Refusal>
     ensures { result ≡ drag_of length height gravity time limit }
 {
     against(period(length, height, gravity), time, limit)

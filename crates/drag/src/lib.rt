@@ -4,5 +4,5 @@
 mod knee;
 mod nanoseconds;
 
-pub use crate::knee::{Judged, judge};
+pub use crate::knee::judge;
 pub use crate::nanoseconds::Verdict;

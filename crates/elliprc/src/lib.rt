@@ -6,11 +6,11 @@ ghost use Rattle.std.specs.Prelude.{◌≡◌};
 ghost use Rattle.elliprc.specs.Rc.{rc, rc_unchecked, rc_found, over_root};
 
 use carlson::answer::{Answer, Found, closed, rescaled, settle, settle_late};
-use carlson::constants::{BELOW_ZERO, RC_NO_RESULT, ZERO_GIVEN};
 use carlson_arguments::checks::{any_infinite2, any_nan2};
 use carlson_arguments::door::{moderate, moderate2};
 use carlson_arguments::rescaling::{rescales2, scale2};
 use rc_cases::cases::{cases, steps};
+use refusals::Refusal;
 use root::sqrt;
 
 fn found(x: f64, y: f64) -> Found
@@ -42,19 +42,19 @@ fn checked(x: f64, y: f64) -> Answer
     ensures { result ≡ rc x y }
 {
     if moderate2(x, y) {
-        return settle(found(x, y), RC_NO_RESULT);
+        return settle(found(x, y), Refusal::RcNoResult);
     }
     if x < 0.0 {
-        return Answer::Refused(BELOW_ZERO);
+        return Err(Refusal::BelowZero);
     }
     if y == 0.0 {
-        return Answer::Refused(ZERO_GIVEN);
+        return Err(Refusal::ZeroGiven);
     }
     settle_late(
         elliprc_unchecked(x, y),
         any_nan2(x, y),
         any_infinite2(x, y),
-        RC_NO_RESULT,
+        Refusal::RcNoResult,
     )
 }
 
@@ -65,7 +65,7 @@ pub fn elliprc(x: f64, y: f64) -> Answer
 {
     if moderate(x) {
         if moderate(y) {
-            return settle(closed(cases(1.0, x, y)), RC_NO_RESULT);
+            return settle(closed(cases(1.0, x, y)), Refusal::RcNoResult);
         }
         return checked(x, y);
     }

@@ -1,6 +1,6 @@
 -- RD begins at most its cap's rounds, and rescales at most once (document 02, 2026-12). Assumes nothing.
 use Rattle.std.specs.Prelude.{ℕ, ◌+◌, false, Float}
-use Rattle.std.proofs.Common.{arith}
+use Rattle.std.proofs.Common.{arith, Ok, Err}
 use Rattle.std.specs.Float.Ieee.{le, eq}
 use Rattle.binary64.specs.Operators.{◌⊗◌, ◌⊘◌, bits}
 use Rattle.root.specs.Root.{root}
@@ -12,8 +12,7 @@ use Rattle.carlson.proofs.Only.{chosen}
 use Rattle.carlson_arguments.specs.Rescaled.{rescaled3_to}
 use Rattle.carlson.specs.Ways.{Within, Few}
 use Rattle.carlson.proofs.Ways.{counted, few_wider, rescaled_within}
-use Rattle.carlson.specs.declared.answer.Answer.{Answer}
-use Rattle.carlson.specs.declared.answer.Answer.TheVariants.{Value, Refused}
+use Rattle.carlson.specs.Answer.{Answer}
 use Rattle.elliprd.specs.Means.{sums_of, rd_together, rd_agm_found, rd_agm_spent, rd_agm_start, rd_agm_of}
 use Rattle.rd_duplicate.specs.Duplicate.{rd_cap, rd_begin, rd_step, rd_close, rd_found, rd_spent, rd_duplication}
 use Rattle.elliprd.specs.Rd.{rd_equal, rd_zero, rd_general, rd_ordered, rd_steps, over_scale, rd_unchecked}
@@ -37,7 +36,7 @@ means y z =
 general : (x y z : Float) → Steps (rd_general x y z)
 unfolding rd_general
 general x y z =
-    let duplicated : Steps (Value (rd_duplication x y z)) = rd_duplicated x y z in
+    let duplicated : Steps (Ok (rd_duplication x y z)) = rd_duplicated x y z in
     chosen Steps (eq x zero) (chosen Steps (le y (bits 0x4030_0000_0000_0000 ⊗ z)) (means y z) duplicated) duplicated
 
 ordered : (x y z : Float) → Steps (rd_ordered x y z)
@@ -53,8 +52,8 @@ steps x y z = chosen Steps (eq x z) (ordered y x z) (ordered x y z)
 -- a rescaling more, for RJ too
 pub over_scale_few : (m k : ℕ) (a : Answer) (s : Float) → Few m k a → Few m (k + 1) (over_scale a s)
 unfolding over_scale
-over_scale_few m k (Value f) s h = rescaled_within f (f.value ⊘ s ⊘ root s) h
-over_scale_few m k (Refused n) s h = tt
+over_scale_few m k (Ok f) s h = rescaled_within f (f.value ⊘ s ⊘ root s) h
+over_scale_few m k (Err n) s h = tt
 
 pub rd_few : (x y z : Float) → Few rd_cap 1 (rd_unchecked x y z)
 unfolding rd_unchecked

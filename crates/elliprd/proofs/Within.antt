@@ -1,11 +1,11 @@
 -- Within the door no test of RD's definition says yes. Assumes nothing.
+use Rattle.std.proofs.Common.{Ok}
 use mathlib.Core.Path.{◌≡◌, refl, sym, ap, ◌∙◌}
 use mathlib.Core.Bool.{Bool, true, false, not, ◌&&◌, true≢false}
 use lib.Ieee.{Float, eq, ne}
 use lib.Ieee.Scale.{finite}
 use Rattle.carlson.specs.Answer.{settled_late}
-use Rattle.carlson.specs.declared.answer.Answer.{Answer}
-use Rattle.carlson.specs.declared.answer.Answer.TheVariants.{Value}
+use Rattle.carlson.specs.Answer.{Answer}
 use Rattle.carlson.specs.declared.answer.Found.{Found}
 use Rattle.carlson_arguments.specs.Door.{moderate, moderate3}
 use Rattle.carlson_arguments.proofs.DoorLaws.{moderate_told, inside3}
@@ -35,30 +35,16 @@ pub record Apart (x y z : Float) : Type 0 where
   pub first : eq x z ≡ false
   pub second : eq y z ≡ false
 
-pub apart_told : (x y z : Float)
-    → ((moderate x && ne x z) && (moderate y && ne y z)) && moderate z ≡ true → Apart x y z
-unfolding ne
-apart_told x y z = go (moderate x) (eq x z) (moderate y) (eq y z) (moderate z) refl refl refl refl refl
-  where
-    go : (a s b t c : Bool) → moderate x ≡ a → eq x z ≡ s → moderate y ≡ b → eq y z ≡ t → moderate z ≡ c
-        → ((a && not s) && (b && not t)) && c ≡ true → Apart x y z
-    go true false true false true p q r u v h = record { one = p; two = r; three = v; first = q; second = u }
-    go true false true false false p q r u v h = absurd (true≢false (sym h))
-    go true false true true c p q r u v h = absurd (true≢false (sym h))
-    go true false false t c p q r u v h = absurd (true≢false (sym h))
-    go true true b t c p q r u v h = absurd (true≢false (sym h))
-    go false s b t c p q r u v h = absurd (true≢false (sym h))
-
 -- such arguments are duplicated, and a finite value stands
-pub duplicates : (x y z : Float) → Apart x y z → rd_steps x y z ≡ Value (rd_duplication x y z)
+pub duplicates : (x y z : Float) → Apart x y z → rd_steps x y z ≡ Ok (rd_duplication x y z)
 unfolding rd_steps rd_ordered rd_general
 duplicates x y z a = rw (a.first, a.second, (moderate_told x a.one).not_zero)
 
-pub stands : (x y z : Float) (f : Found) → Apart x y z → f ≡ rd_duplication x y z → finite f.value ≡ true → Value f ≡ rd x y z
-stands x y z f a e h = settles ∙ ap (λ (g : Found). rd_settled (Value g) false false) e
+pub stands : (x y z : Float) (f : Found) → Apart x y z → f ≡ rd_duplication x y z → finite f.value ≡ true → Ok f ≡ rd x y z
+stands x y z f a e h = settles ∙ ap (λ (g : Found). rd_settled (Ok g) false false) e
     ∙ ap (λ (g : Answer). rd_settled g false false) (sym (duplicates x y z a)) ∙ within x y z door
   where
-    settles : Value f ≡ rd_settled (Value f) false false
+    settles : Ok f ≡ rd_settled (Ok f) false false
     settles = unfold rd_settled settled_late in rw h
 
     door : moderate3 x y z ≡ true

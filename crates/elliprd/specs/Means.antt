@@ -1,13 +1,13 @@
 -- RD(0, y, z) by the arithmetic-geometric mean (elliprd.rs; document 01, Rounds). Definitions only.
-use Rattle.std.specs.Prelude.{ℕ, Bool, not, Float}
+use Rattle.std.specs.Prelude.{ℕ, Bool, not, Float, Ok, Err}
+use Rattle.refusals.specs.declared.Refusal.TheVariants.{AgmSpent}
 use Rattle.binary64.specs.Operators.{◌⊕◌, ◌⊖◌, ◌⊗◌, ◌⊘◌, bits}
 use Rattle.root.specs.Root.{root}
-use Rattle.carlson.specs.Constants.{zero, two, three, four, pi, agm_spent}
+use Rattle.carlson.specs.Constants.{zero, two, three, four, pi}
 use Rattle.carlson.specs.Common.{mean_cap, apart}
 use Rattle.carlson.specs.Loop.{capped}
 use Rattle.carlson.specs.Answer.{agm_at}
-use Rattle.carlson.specs.declared.answer.Answer.{Answer}
-use Rattle.carlson.specs.declared.answer.Answer.TheVariants.{Value, Refused}
+use Rattle.carlson.specs.Answer.{Answer}
 use Rattle.elliprd.specs.declared.means.Sums.{Sums}
 
 -- one pass: the means, and the sum of their squared differences, each times the next power of two
@@ -30,10 +30,10 @@ abbrev pub rd_together : Sums → Bool
 rd_together s = not (apart s.xn s.yn)
 
 abbrev pub rd_agm_found : Float → Float → Float → Float → Sums → ℕ → Answer
-rd_agm_found x0 y0 y z s n = Value (agm_at (rd_mean_value x0 y0 y z s) n)
+rd_agm_found x0 y0 y z s n = Ok (agm_at (rd_mean_value x0 y0 y z s) n)
 
 abbrev pub rd_agm_spent : Sums → ℕ → Answer
-rd_agm_spent s n = Refused agm_spent
+rd_agm_spent s n = Err AgmSpent
 
 -- document 01, Rounds: with the added cap spent it is refused with 9, if the test still says go on
 unfoldable pub rd_agm_of : Float → Float → Answer

@@ -12,25 +12,26 @@ ghost use Rattle.elliprd.specs.Rd.{rd_equal, rd_zero, rd_general, rd_ordered, rd
 use crate::means::agm_of;
 use binary64::{is_finite, min};
 use carlson::answer::{Answer, closed, handed, rescaled, settle_late};
-use carlson::constants::{BELOW_ZERO, NO_RESULT, PI, Z_NOT_ABOVE, ZEROS};
-use carlson_arguments::checks::{any_infinite3, any_nan3, both};
+use carlson::constants::PI;
+use carlson_arguments::checks::{any_infinite3, any_nan3};
 use carlson_arguments::door::{moderate, moderate3};
 use carlson_arguments::rescaling::{rescales3, scale3};
 use rd_duplicate::duplicate::duplicated;
+use refusals::Refusal;
 use root::sqrt;
 
 // RD(x, x, x)
 fn all_equal(x: f64) -> Answer
     ensures { result ≡ rd_equal x }
 {
-    Answer::Value(closed(1.0 / (x * sqrt(x))))
+    Ok(closed(1.0 / (x * sqrt(x))))
 }
 
 // RD(0, y, y)
 fn one_zero(y: f64) -> Answer
     ensures { result ≡ rd_zero y }
 {
-    Answer::Value(closed(3.0 * PI / (4.0 * y * sqrt(y))))
+    Ok(closed(3.0 * PI / (4.0 * y * sqrt(y))))
 }
 
 // The mean only at moderate ratios: a large y / z makes its identity subtract nearly equal terms.
@@ -43,10 +44,10 @@ fn general(x: f64, y: f64, z: f64) -> Answer
             return a;
         }
         let found = duplicated(x, y, z);
-        return Answer::Value(found);
+        return Ok(found);
     }
     let found = duplicated(x, y, z);
-    Answer::Value(found)
+    Ok(found)
 }
 
 // x and y are in the order in which the steps want them.
@@ -82,10 +83,8 @@ fn steps(x: f64, y: f64, z: f64) -> Answer
 pub fn over_scale(a: Answer, scale: f64) -> Answer
     ensures { result ≡ over_scale a scale }
 {
-    match a {
-        Answer::Value(found) => Answer::Value(rescaled(found, found.value / scale / sqrt(scale))),
-        Answer::Refused(n) => Answer::Refused(n),
-    }
+    let found = a?;
+    Ok(rescaled(found, found.value / scale / sqrt(scale)))
 }
 
 // The inner part: any three f64s, any f64 back with its way, or no. 9.
@@ -103,13 +102,17 @@ pub fn elliprd_unchecked(x: f64, y: f64, z: f64) -> Answer
 fn settled(a: Answer, nan: bool, unbounded: bool) -> Answer
     ensures { result ≡ rd_settled a nan unbounded }
 {
-    match a {
-        Answer::Value(found) => settle_late(handed(found, found.value), nan, unbounded, NO_RESULT),
-        Answer::Refused(n) => Answer::Refused(n),
-    }
+    let found = a?;
+    settle_late(
+        handed(found, found.value),
+        nan,
+        unbounded,
+        Refusal::NoResult,
+    )
 }
 
 // At any three f64s.
+#[tactic(auto, unfolding(crate::specs::Rd::rd))]
 fn checked(x: f64, y: f64, z: f64) -> Answer
     ensures { result ≡ rd x y z }
 {
@@ -118,13 +121,13 @@ fn checked(x: f64, y: f64, z: f64) -> Answer
         return a;
     }
     if min(x, y) < 0.0 {
-        return Answer::Refused(BELOW_ZERO);
+        return Err(Refusal::BelowZero);
     }
-    if both(x == 0.0, y == 0.0) {
-        return Answer::Refused(ZEROS);
+    if x == 0.0 && y == 0.0 {
+        return Err(Refusal::Zeros);
     }
     if z <= 0.0 {
-        return Answer::Refused(Z_NOT_ABOVE);
+        return Err(Refusal::ZNotAbove);
     }
     settled(
         elliprd_unchecked(x, y, z),
@@ -138,13 +141,10 @@ fn checked(x: f64, y: f64, z: f64) -> Answer
 pub fn elliprd(x: f64, y: f64, z: f64) -> Answer
     ensures { result ≡ rd x y z }
 {
-    if both(
-        both(both(moderate(x), x != z), both(moderate(y), y != z)),
-        moderate(z),
-    ) {
+    if moderate(x) && x != z && moderate(y) && y != z && moderate(z) {
         let found = duplicated(x, y, z);
         if is_finite(found.value) {
-            return Answer::Value(handed(found, found.value));
+            return Ok(handed(found, found.value));
         }
         return checked(x, y, z);
     }

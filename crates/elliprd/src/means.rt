@@ -4,7 +4,8 @@ ghost use Rattle.elliprd.specs.Means.{sums_of, rd_mean_value, rd_agm_of};
 
 use carlson::answer::{Answer, agm};
 use carlson::common::{MEAN_CAP, still_apart};
-use carlson::constants::{AGM_SPENT, PI};
+use carlson::constants::PI;
+use refusals::Refusal;
 use root::{sqrt, sqrt_ahead};
 use root_guess::{Ahead, nearly_twice, ready, unready};
 
@@ -53,7 +54,7 @@ fn value_of(x0: f64, y0: f64, y: f64, z: f64, s: Sums) -> f64
     pt * rf * 3.0
 }
 
-// Refused if the cap is spent and the test still says go on.
+// Refused if the cap is spent and the test still says go on. (No `for`: it would have to make that test again behind its end.)
 pub fn agm_of(y: f64, z: f64) -> Answer
     ensures { result ≡ rd_agm_of y z }
 {
@@ -70,14 +71,14 @@ pub fn agm_of(y: f64, z: f64) -> Answer
     loop {
         if still_apart(s.xn, s.yn) {
             if n == MEAN_CAP {
-                break Answer::Refused(AGM_SPENT);
+                break Err(Refusal::AgmSpent);
             }
             let later = ready_next(s, k);
             s = next_sums(s, k);
             k = later;
             n += 1;
         } else {
-            break Answer::Value(agm(value_of(x0, y0, y, z, s), n));
+            break Ok(agm(value_of(x0, y0, y, z, s), n));
         }
     }
 }

@@ -1,15 +1,15 @@
 -- RF as the steps of elliprf.rs, each rounded once, with document 01's rescaling, numbers and order. Definitions only.
-use Rattle.std.specs.Prelude.{cond, Float}
+use Rattle.std.specs.Prelude.{cond, Float, Err}
 use Rattle.std.specs.Float.Ieee.{eq}
+use Rattle.refusals.specs.declared.Refusal.TheVariants.{BelowZero, NanGiven, NoResult, Zeros}
 use Rattle.binary64.specs.Operators.{◌⊗◌, ◌⊘◌}
 use Rattle.root.specs.Root.{root}
-use Rattle.carlson.specs.Constants.{zero, one, two, pi, nan_given, below_zero_number, zeros, no_result}
+use Rattle.carlson.specs.Constants.{zero, one, two, pi}
 use Rattle.carlson_arguments.specs.Rescaling.{rescaling3}
 use Rattle.carlson_arguments.specs.Checks.{any_nan3, any_infinite3, below3, zeros_of3}
 use Rattle.carlson.specs.Answer.{closed_at, infinite_at, settled}
 use Rattle.carlson.specs.declared.answer.Found.{Found}
-use Rattle.carlson.specs.declared.answer.Answer.{Answer}
-use Rattle.carlson.specs.declared.answer.Answer.TheVariants.{Refused}
+use Rattle.carlson.specs.Answer.{Answer}
 use Rattle.elliprc.specs.Rc.{over_root, rc_unchecked}
 use Rattle.elliprf.specs.Means.{rf_agm_of}
 use Rattle.rf_duplicate.specs.Duplicate.{rf_duplication}
@@ -45,7 +45,7 @@ rf_unchecked = rescaling3 over_root rf_steps
 -- ---- the entry: 1, 2, 3, then +infinity gives 0, then the steps, then 6
 unfoldable pub rf : Float → Float → Float → Answer
 rf x y z =
-    cond (any_nan3 x y z) (Refused nan_given)
-    (cond (below3 x y z) (Refused below_zero_number)
-    (cond (zeros_of3 x y z) (Refused zeros)
-    (cond (any_infinite3 x y z) infinite_at (settled (rf_unchecked x y z) no_result))))
+    cond (any_nan3 x y z) (Err NanGiven)
+    (cond (below3 x y z) (Err BelowZero)
+    (cond (zeros_of3 x y z) (Err Zeros)
+    (cond (any_infinite3 x y z) infinite_at (settled (rf_unchecked x y z) NoResult))))

@@ -8,11 +8,12 @@ ghost use Rattle.elliprf.specs.Rf.{rf_equal, rf_zero, rf_two, rf_general, rf_ste
 
 use crate::means::agm_of;
 use carlson::answer::{Answer, Found, closed, handed, infinite, settle};
-use carlson::constants::{BELOW_ZERO, NAN_GIVEN, NO_RESULT, PI, ZEROS};
+use carlson::constants::PI;
 use carlson_arguments::checks::{any_infinite3, any_nan3, below3, zeros3};
 use carlson_arguments::door::moderate3;
 use carlson_arguments::rescaling::{rescales3, scale3};
 use elliprc::{elliprc_unchecked, over_root};
+use refusals::Refusal;
 use rf_duplicate::duplicate::duplicated;
 use root::sqrt;
 
@@ -96,19 +97,19 @@ pub fn elliprf(x: f64, y: f64, z: f64) -> Answer
 {
     if moderate3(x, y, z) {
         let found = steps(x, y, z);
-        return settle(handed(found, found.value), NO_RESULT);
+        return settle(handed(found, found.value), Refusal::NoResult);
     }
     if any_nan3(x, y, z) {
-        return Answer::Refused(NAN_GIVEN);
+        return Err(Refusal::NanGiven);
     }
     if below3(x, y, z) {
-        return Answer::Refused(BELOW_ZERO);
+        return Err(Refusal::BelowZero);
     }
     if zeros3(x, y, z) {
-        return Answer::Refused(ZEROS);
+        return Err(Refusal::Zeros);
     }
     if any_infinite3(x, y, z) {
         return infinite();
     }
-    settle(elliprf_unchecked(x, y, z), NO_RESULT)
+    settle(elliprf_unchecked(x, y, z), Refusal::NoResult)
 }

@@ -55,19 +55,14 @@ pub fn agm_of(x: f64, y: f64) -> Found
         xn: sqrt(x),
         yn: sqrt(y),
     };
-    let mut n: u32 = 0;
     let mut k = ready(m.xn * m.yn);
-    loop {
-        if still_apart(m.xn, m.yn) {
-            if n == CAP {
-                break agm(value_of(m), n);
-            }
-            let later = ready_next(m, k);
-            m = next_means(m, k);
-            k = later;
-            n += 1;
-        } else {
-            break agm(value_of(m), n);
+    for n in 0..CAP {
+        if !still_apart(m.xn, m.yn) {
+            return agm(value_of(m), n);
         }
+        let later = ready_next(m, k);
+        m = next_means(m, k);
+        k = later;
     }
+    agm(value_of(m), CAP)
 }

@@ -1,7 +1,7 @@
 -- RG begins at most its joint loop's rounds, and rescales at most once beside the RC that it calls (document 02, 2026-12).
 -- Assumes nothing.
 use Rattle.std.proofs.Common.{arith}
-use Rattle.std.specs.Prelude.{Float}
+use Rattle.std.specs.Prelude.{Float, Ok, Err}
 use Rattle.std.specs.Float.Ieee.{eq}
 use Rattle.binary64.specs.Operators.{◌⊗◌}
 use Rattle.root.specs.Root.{root}
@@ -13,8 +13,7 @@ use Rattle.carlson.proofs.Only.{chosen}
 use Rattle.carlson_arguments.specs.Rescaled.{rescaled3_to}
 use Rattle.carlson.specs.Ways.{Within, Few}
 use Rattle.carlson.proofs.Ways.{counted, wider, few_wider, rescaled_within}
-use Rattle.carlson.specs.declared.answer.Answer.{Answer}
-use Rattle.carlson.specs.declared.answer.Answer.TheVariants.{Value, Refused}
+use Rattle.carlson.specs.Answer.{Answer}
 use Rattle.sorting.specs.Sorting.{largest_first}
 use Rattle.elliprc.specs.Few.{rc_within}
 use Rattle.rg_means.specs.Means.{rg_begin, rg_next, rg_together, rg_agm_found, rg_agm_spent, rg_agm_of}
@@ -52,8 +51,8 @@ steps x y z = let t = largest_first (record { x = x; y = y; z = z }) in sorted t
 
 back : (a : Answer) (s : Float) → Steps a → Few joint_cap 2 (times_root a s)
 unfolding times_root
-back (Value f) s h = rescaled_within f (f.value ⊗ root s) h
-back (Refused n) s h = tt
+back (Ok f) s h = rescaled_within f (f.value ⊗ root s) h
+back (Err n) s h = tt
 
 pub rg_few : (x y z : Float) → Few joint_cap 2 (rg_unchecked x y z)
 unfolding rg_unchecked

@@ -18,11 +18,12 @@ ghost use Rattle.elliprg.specs.Rg.{
 };
 
 use carlson::answer::{Answer, carried, closed, handed, rescaled, settle_late};
-use carlson::constants::{BELOW_ZERO, PI, RG_NO_RESULT};
+use carlson::constants::PI;
 use carlson_arguments::checks::{any_nan3, below3};
 use carlson_arguments::door::moderate3;
 use carlson_arguments::rescaling::{rescales3, scale3};
 use elliprc::elliprc_unchecked;
+use refusals::Refusal;
 use rg_joint::joined;
 use rg_means::agm_of;
 use root::sqrt;
@@ -32,14 +33,14 @@ use sorting::{Triple, largest_first};
 fn all_equal(x: f64) -> Answer
     ensures { result ≡ rg_equal x }
 {
-    Answer::Value(closed(sqrt(x)))
+    Ok(closed(sqrt(x)))
 }
 
 // RG(0, y, y)
 fn one_zero(y: f64) -> Answer
     ensures { result ≡ rg_zero y }
 {
-    Answer::Value(closed(PI * sqrt(y) / 4.0))
+    Ok(closed(PI * sqrt(y) / 4.0))
 }
 
 // RG(x, y, y)
@@ -47,14 +48,14 @@ fn two_equal(x: f64, y: f64) -> Answer
     ensures { result ≡ rg_two x y }
 {
     let rc = elliprc_unchecked(x, y);
-    Answer::Value(carried((y * rc.value + sqrt(x)) / 2.0, rc.way))
+    Ok(carried((y * rc.value + sqrt(x)) / 2.0, rc.way))
 }
 
 // RG(0, 0, x)
 fn alone(x: f64) -> Answer
     ensures { result ≡ rg_alone x }
 {
-    Answer::Value(closed(sqrt(x) / 2.0))
+    Ok(closed(sqrt(x) / 2.0))
 }
 
 // The two larger ones are equal.
@@ -93,7 +94,7 @@ fn in_order(x: f64, y: f64, z: f64) -> Answer
     if y == 0.0 {
         return agm_of(x, z);
     }
-    Answer::Value(joined(x, y, z))
+    Ok(joined(x, y, z))
 }
 
 fn steps(x: f64, y: f64, z: f64) -> Answer
@@ -107,10 +108,8 @@ fn steps(x: f64, y: f64, z: f64) -> Answer
 fn times_root(a: Answer, scale: f64) -> Answer
     ensures { result ≡ times_root a scale }
 {
-    match a {
-        Answer::Value(found) => Answer::Value(rescaled(found, found.value * sqrt(scale))),
-        Answer::Refused(n) => Answer::Refused(n),
-    }
+    let found = a?;
+    Ok(rescaled(found, found.value * sqrt(scale)))
 }
 
 // The inner part: any three f64s, any f64 back with its way, or no. 9.
@@ -128,10 +127,8 @@ pub fn elliprg_unchecked(x: f64, y: f64, z: f64) -> Answer
 fn settled(a: Answer, nan: bool) -> Answer
     ensures { result ≡ rg_settled a nan }
 {
-    match a {
-        Answer::Value(found) => settle_late(handed(found, found.value), nan, false, RG_NO_RESULT),
-        Answer::Refused(n) => Answer::Refused(n),
-    }
+    let found = a?;
+    settle_late(handed(found, found.value), nan, false, Refusal::RgNoResult)
 }
 
 pub fn elliprg(x: f64, y: f64, z: f64) -> Answer
@@ -141,7 +138,7 @@ pub fn elliprg(x: f64, y: f64, z: f64) -> Answer
         return settled(steps(x, y, z), false);
     }
     if below3(x, y, z) {
-        return Answer::Refused(BELOW_ZERO);
+        return Err(Refusal::BelowZero);
     }
     settled(elliprg_unchecked(x, y, z), any_nan3(x, y, z))
 }

@@ -6,23 +6,18 @@ ghost use Rattle.std.specs.Prelude.{◌≡◌};
 ghost use Rattle.elliprj.specs.Rj.{rj_settled, rj_rest, rj_signed, rj_of_positive, rj_of_negative};
 
 use carlson::answer::{Answer, handed, infinite, settle};
-use carlson::constants::{BELOW_ZERO, NAN_GIVEN, NO_RESULT, ZERO_GIVEN, ZEROS};
 use carlson_arguments::checks::{any_infinite4, any_nan4, below3, zeros3};
 use carlson_arguments::door::moderate4;
+use refusals::Refusal;
 use rj_calls::elliprj_unchecked;
 use rj_positive::positive::positive;
-
-// Document 02, 2026-10: p has the wrong sign for this entry.
-const WRONG_SIGN: u32 = 21;
 
 // What was found is put together anew, field by field: copied whole, the bytes between its fields are copied too, one by one.
 fn settled(a: Answer) -> Answer
     ensures { result ≡ rj_settled a }
 {
-    match a {
-        Answer::Value(found) => settle(handed(found, found.value), NO_RESULT),
-        Answer::Refused(n) => Answer::Refused(n),
-    }
+    let found = a?;
+    settle(handed(found, found.value), Refusal::NoResult)
 }
 
 // From no. 2 on.
@@ -30,10 +25,10 @@ fn rest(x: f64, y: f64, z: f64, p: f64) -> Answer
     ensures { result ≡ rj_rest x y z p }
 {
     if below3(x, y, z) {
-        return Answer::Refused(BELOW_ZERO);
+        return Err(Refusal::BelowZero);
     }
     if zeros3(x, y, z) {
-        return Answer::Refused(ZEROS);
+        return Err(Refusal::Zeros);
     }
     if any_infinite4(x, y, z, p) {
         return infinite();
@@ -46,13 +41,13 @@ fn signed(wrong: bool, x: f64, y: f64, z: f64, p: f64) -> Answer
     ensures { result ≡ rj_signed wrong x y z p }
 {
     if any_nan4(x, y, z, p) {
-        return Answer::Refused(NAN_GIVEN);
+        return Err(Refusal::NanGiven);
     }
     if p == 0.0 {
-        return Answer::Refused(ZERO_GIVEN);
+        return Err(Refusal::ZeroGiven);
     }
     if wrong {
-        return Answer::Refused(WRONG_SIGN);
+        return Err(Refusal::WrongSign);
     }
     rest(x, y, z, p)
 }

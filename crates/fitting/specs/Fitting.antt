@@ -1,17 +1,18 @@
 -- Every value that an entry hands out is one that an f64 holds: the last operation of every road to it rounds. So it has bits
 -- of its own. Assumes nothing.
-use Rattle.std.specs.Prelude.{ℕ, zero, suc, ◌*◌, Bool, false, ◌&&◌, ◌||◌, T, Float}
+use Rattle.std.specs.Prelude.{ℕ, zero, suc, ◌*◌, Bool, false, ◌&&◌, ◌||◌, T, Float, Ok, Err, Option, Some, None}
 use Rattle.std.proofs.Common.{arith}
 use Rattle.std.specs.Float.{nan, inf, fin}
 use Rattle.std.specs.Float.Ieee.{binary64, up, down, fits, lt, le, eq, neg}
 use Rattle.std.specs.Float.Ieee.Bits.{of_bits-fits}
 use Rattle.std.specs.Float.Ieee.Fits.{nan-fits, inf-fits, add-fits, mul-fits, div-fits}
 use Rattle.std.specs.Float.Ieee.Scale.{finite}
+use Rattle.refusals.specs.declared.Refusal.TheVariants.{NoResult, RcNoResult, RgNoResult}
 use Rattle.rounding.specs.Cut.{last, rounded}
 use Rattle.binary64.specs.Leaves.{minimum, maximum}
 use Rattle.binary64.specs.Operators.{◌⊗◌, ◌⊘◌, bits}
 use Rattle.root.specs.Root.{root_of, root}
-use Rattle.carlson.specs.Constants.{rc_no_result, no_result, rg_no_result}
+use Rattle.refusals.specs.declared.Refusal.{Refusal}
 use Rattle.carlson.specs.Constants.{zero as +0, half, one, four, epsilon}
 use Rattle.carlson_arguments.specs.Checks.{any_nan2, any_nan3, any_nan4, any_infinite2, any_infinite3, any_infinite4, below3, zeros_of3}
 use Rattle.carlson_arguments.specs.Rescaling.{scale_of3, scale_of4, rescales3, rescales4, rescaling3}
@@ -35,8 +36,7 @@ use Rattle.carlson.specs.Loop.{capped_holds}
 use Rattle.carlson.proofs.Only.{chosen}
 use Rattle.carlson_arguments.specs.Rescaled.{rescaled2, rescaled3}
 use Rattle.carlson.specs.declared.answer.Found.{Found}
-use Rattle.carlson.specs.declared.answer.Answer.{Answer}
-use Rattle.carlson.specs.declared.answer.Answer.TheVariants.{Value, Refused}
+use Rattle.carlson.specs.Answer.{Answer}
 use Rattle.sorting.specs.declared.Triple.{Triple}
 use Rattle.sorting.specs.Sorting.{rise_yz, fall_xy, fall_xz, largest_first, rising}
 use Rattle.sorting.specs.Permuted.{Each}
@@ -54,8 +54,6 @@ use Rattle.elliprg.specs.Rg.{rg_equal, rg_zero, rg_two, rg_alone, rg_top, rg_low
 use Rattle.elliprg.specs.Rg.{times_root, rg_unchecked, rg_settled, rg}
 use Rattle.rj_positive.specs.Duplicate.{rj_begin, rj_start, rj_step, rj_close, rj_found, rj_spent, rj_series, rj_cap, rj_duplication}
 use Rattle.rj_positive.specs.Positive.{well_apart, rj_all, rj_three, rj_two, rj_last, rj_pair, rj_cases, rj_positive}
-use Rattle.rj_near_zero.specs.declared.nearzero.Near.{Near}
-use Rattle.rj_near_zero.specs.declared.nearzero.Near.TheVariants.{Taylor, Far}
 use Rattle.rj_negative.specs.declared.reduction.Reduced.{Reduced}
 use Rattle.rj_near_zero.specs.NearZero.{deltas_of, largest_of, distant, taylor_of, near_zero}
 use Rattle.rj_negative.specs.Reduction.{reduced_value, reduced_found, reduced_answer}
@@ -77,8 +75,8 @@ abbrev FitFound : Found → Type 0
 FitFound f = Fit f.value
 
 abbrev pub Fits : Answer → Type 0
-Fits (Value f) = Fit f.value
-Fits (Refused n) = Unit {0}
+Fits (Ok f) = Fit f.value
+Fits (Err n) = Unit {0}
 
 -- ---- the root of an f64, the one operation that can hand its argument back
 root_fits : (x : Float) → Fit x → Fit (root x)
@@ -94,11 +92,11 @@ infinite_fits : Fits infinite_at
 unfolding infinite_at
 infinite_fits = of_bits-fits binary64 0
 
-settled_fits : (f : Found) (n : ℕ) → FitFound f → Fits (settled f n)
+settled_fits : (f : Found) (n : Refusal) → FitFound f → Fits (settled f n)
 unfolding settled
 settled_fits f n h = chosen Fits (finite f.value) h tt
 
-late_fits : (f : Found) (bad unbounded : Bool) (n : ℕ) → FitFound f → Fits (settled_late f bad unbounded n)
+late_fits : (f : Found) (bad unbounded : Bool) (n : Refusal) → FitFound f → Fits (settled_late f bad unbounded n)
 unfolding settled_late
 late_fits f bad unbounded n h =
     chosen Fits (finite f.value) h (chosen Fits bad tt (chosen Fits unbounded infinite_fits tt))
@@ -127,7 +125,7 @@ rc_fits : (x y : Float) → Fits (rc x y)
 unfolding rc
 rc_fits x y =
     chosen Fits (lt x +0) tt
-    (chosen Fits (eq y +0) tt (late_fits (rc_unchecked x y) (any_nan2 x y) (any_infinite2 x y) rc_no_result (rc_unchecked_lem x y)))
+    (chosen Fits (eq y +0) tt (late_fits (rc_unchecked x y) (any_nan2 x y) (any_infinite2 x y) RcNoResult (rc_unchecked_lem x y)))
 
 -- ---- RF
 rf_agm : (x y : Float) → FitFound (rf_agm_of x y)
@@ -169,7 +167,7 @@ rf_fits x y z =
     chosen Fits (any_nan3 x y z) tt
     (chosen Fits (below3 x y z) tt
     (chosen Fits (zeros_of3 x y z) tt
-    (chosen Fits (any_infinite3 x y z) infinite_fits (settled_fits (rf_unchecked x y z) no_result (rf_unchecked_lem x y z)))))
+    (chosen Fits (any_infinite3 x y z) infinite_fits (settled_fits (rf_unchecked x y z) NoResult (rf_unchecked_lem x y z)))))
 
 -- ---- RD
 rd_agm : (y z : Float) → Fits (rd_agm_of y z)
@@ -206,8 +204,8 @@ rd_steps_lem x y z = chosen Fits (eq x z) (rd_ordered_lem y x z) (rd_ordered_lem
 
 over_scale_lem : (a : Answer) (s : Float) → Fits a → Fits (over_scale a s)
 unfolding over_scale rescaled_at
-over_scale_lem (Value f) s h = div-fits binary64 _ _
-over_scale_lem (Refused n) s h = tt
+over_scale_lem (Ok f) s h = div-fits binary64 _ _
+over_scale_lem (Err n) s h = tt
 
 rd_unchecked_lem : (x y z : Float) → Fits (rd_unchecked x y z)
 unfolding rd_unchecked
@@ -215,8 +213,8 @@ rd_unchecked_lem x y z = rescaled3 Fits over_scale rd_steps rd_steps_lem over_sc
 
 rd_settled_lem : (a : Answer) (bad unbounded : Bool) → Fits a → Fits (rd_settled a bad unbounded)
 unfolding rd_settled
-rd_settled_lem (Value f) bad unbounded h = late_fits f bad unbounded no_result h
-rd_settled_lem (Refused n) bad unbounded h = tt
+rd_settled_lem (Ok f) bad unbounded h = late_fits f bad unbounded NoResult h
+rd_settled_lem (Err n) bad unbounded h = tt
 
 rd_fits : (x y z : Float) → Fits (rd x y z)
 unfolding rd
@@ -264,8 +262,8 @@ rg_steps_lem x y z hx hy hz =
 
 times_root_lem : (a : Answer) (s : Float) → Fits (times_root a s)
 unfolding times_root rescaled_at
-times_root_lem (Value f) s = mul-fits binary64 _ _
-times_root_lem (Refused n) s = tt
+times_root_lem (Ok f) s = mul-fits binary64 _ _
+times_root_lem (Err n) s = tt
 
 rg_unchecked_lem : (x y z : Float) → Fit x → Fit y → Fit z → Fits (rg_unchecked x y z)
 unfolding rg_unchecked rescaling3
@@ -275,8 +273,8 @@ rg_unchecked_lem x y z hx hy hz =
 
 rg_settled_lem : (a : Answer) (bad : Bool) → Fits a → Fits (rg_settled a bad)
 unfolding rg_settled
-rg_settled_lem (Value f) bad h = late_fits f bad false rg_no_result h
-rg_settled_lem (Refused n) bad h = tt
+rg_settled_lem (Ok f) bad h = late_fits f bad false RgNoResult h
+rg_settled_lem (Err n) bad h = tt
 
 rg_fits : (x y z : Float) → Fit x → Fit y → Fit z → Fits (rg x y z)
 unfolding rg
@@ -323,9 +321,9 @@ unfolding plan_scaled plan_unscaled
 scaled x y z p =
     chosen Planned (rescales4 x y z p (scale_of4 x y z p)) tt (chosen Planned (le p +0) tt (rj_positive_lem x y z p))
 
-abbrev FitNear : Near → Type 0
-FitNear (Taylor v) = Fit v
-FitNear Far = Unit {0}
+abbrev FitNear : Option Float → Type 0
+FitNear (Some v) = Fit v
+FitNear None = Unit {0}
 
 near_fits : (x y z q : Float) → FitNear (near_zero x y z q)
 unfolding near_zero taylor_of
@@ -335,10 +333,10 @@ near_fits x y z q =
     chosen FitNear (distant x y z q radius) tt
     (chosen FitNear (le (largest_of d.x d.y d.z) (radius ⊘ four)) (div-fits binary64 _ _) tt)
 
-near : (n : Near) (x y z p : Float) → FitNear n → Planned (plan_near n x y z p)
+near : (n : Option Float) (x y z p : Float) → FitNear n → Planned (plan_near n x y z p)
 unfolding plan_near taylor_at
-near (Taylor v) x y z p h = h
-near Far x y z p h = scaled x y z p
+near (Some v) x y z p h = h
+near None x y z p h = scaled x y z p
 
 planned : (x y z p : Float) → Planned (plan_of x y z p)
 unfolding plan_of
@@ -350,8 +348,8 @@ planned x y z p =
 
 reduced : (r : Reduced) (a : Answer) → Fits (reduced_answer r a)
 unfolding reduced_answer reduced_found reduction_at reduced_value
-reduced r (Value f) = div-fits binary64 _ _
-reduced r (Refused n) = tt
+reduced r (Ok f) = div-fits binary64 _ _
+reduced r (Err n) = tt
 
 run : (left : ℕ) (p : Plan) → Planned p → Fits (rj_run left p)
 unfolding rj_run
@@ -363,8 +361,8 @@ run (suc left) (Reduce r) h = reduced r _
 
 rj_settled_lem : (a : Answer) → Fits a → Fits (rj_settled a)
 unfolding rj_settled
-rj_settled_lem (Value f) h = settled_fits f no_result h
-rj_settled_lem (Refused n) h = tt
+rj_settled_lem (Ok f) h = settled_fits f NoResult h
+rj_settled_lem (Err n) h = tt
 
 rj_fits : (x y z p : Float) → Fits (rj x y z p)
 unfolding rj rj_signed rj_rest rj_unchecked

@@ -6,8 +6,8 @@ ghost use Rattle.decay.specs.Decrement.{decay_of};
 ghost use Rattle.gatewren.specs.Bench.{word_of, minus_of, judged_number, verdict_after, minus_after, excess_after, period_after};
 ghost use Rattle.gatewren.specs.Bench.{decay_number, decrement_after};
 
-use decay::Decay;
-use drag::Judged;
+use drag::Verdict;
+use refusals::Refusal;
 
 fn word(passes: bool) -> u32
     ensures { result ≡ word_of passes }
@@ -28,7 +28,7 @@ fn minus(quicker: bool) -> u32
 }
 
 fn told_verdict(
-    judged: Judged,
+    judged: Result<Verdict, Refusal>,
     verdict: &mut u32,
     below: &mut u32,
     excess: &mut u64,
@@ -41,14 +41,14 @@ fn told_verdict(
     ensures period_after { period.new ≡ period_after judged period.old }
 {
     match judged {
-        Judged::Weighed(v) => {
+        Ok(v) => {
             *verdict = word(v.passes);
             *below = minus(v.quicker);
             *excess = v.excess;
             *period = v.period;
             0
         }
-        Judged::Refused(n) => n,
+        Err(refusal) => refusal.number(),
     }
 }
 
@@ -85,10 +85,10 @@ pub extern "C" fn gatewren_decay(a: u64, b: u64, decrement: &mut f64) -> u32
     ensures decrement_after { decrement.new ≡ decrement_after (decay_of a b) decrement.old }
 {
     match decay::decrement(a, b) {
-        Decay::Decrement(value) => {
+        Ok(value) => {
             *decrement = value;
             0
         }
-        Decay::Refused(n) => n,
+        Err(refusal) => refusal.number(),
     }
 }

@@ -5,28 +5,24 @@ ghost use Rattle.decimal_read.specs.Read.{read_of};
 ghost use Rattle.decimal_text.specs.Text.{text_of};
 ghost use Rattle.gatewren.specs.Decimals.{read_number, read_value, read_place};
 
-use decimal_read::{Reading, read};
+use decimal_read::{NoDecimal, read};
 use decimal_text::put_number;
+use refusals::Refusal;
 
-// Ours, as 24 is: document 02's numbers end at 23.
-const TOO_LARGE: u32 = 25;
-
-const NO_NUMBER: u32 = 26;
-
-fn reading_told(reading: Reading, value: &mut f64, place: &mut usize) -> u32
+fn reading_told(reading: Result<f64, NoDecimal>, value: &mut f64, place: &mut usize) -> u32
     ensures value { result ≡ read_number reading }
     ensures value_after { value.new ≡ read_value reading value.old }
     ensures place_after { place.new ≡ read_place reading place.old }
 {
     match reading {
-        Reading::Number(x) => {
+        Ok(x) => {
             *value = x;
             0
         }
-        Reading::TooLarge => TOO_LARGE,
-        Reading::Bad(at) => {
+        Err(NoDecimal::TooLarge) => Refusal::TooLarge.number(),
+        Err(NoDecimal::NoNumber(at)) => {
             *place = at;
-            NO_NUMBER
+            Refusal::NoNumber.number()
         }
     }
 }

@@ -1,24 +1,27 @@
 // Reports for C (document 02, 2026-05): 384 words that the caller owns, zero words being the report of no list. Refused, none of
 // them is touched.
 ghost use Rattle.std.specs.Prelude.{◌≡◌, ◌%◌, ◌^◌};
+ghost use Rattle.refusals.specs.Numbers.{code_of};
 ghost use Rattle.report_words.specs.Words.{word_at, refused_at, sum_at};
-ghost use Rattle.report_words.specs.Room.{join_number, join_after};
-ghost use Rattle.report.specs.Report.{list_number, list_after};
+ghost use Rattle.report_words.specs.Room.{join_judged, join_after};
+ghost use Rattle.report.specs.Report.{report_judged, list_after};
+
+use refusals::code;
 
 #[unsafe(no_mangle)]
 pub extern "C" fn gatewren_report_list(words: &mut [u64; 384], list: &[u8]) -> u32
-    ensures value { result ≡ list_number words.old list.now }
+    ensures value { result ≡ code_of (report_judged words.old list.now) }
     ensures words_after { words.new ≡ list_after words.old list.now }
 {
-    report::report_list(words, list)
+    code(report::report_list(words, list))
 }
 
 #[unsafe(no_mangle)]
 pub extern "C" fn gatewren_report_join(words: &mut [u64; 384], other: &[u64; 384]) -> u32
-    ensures value { result ≡ join_number words.old other.now }
+    ensures value { result ≡ code_of (join_judged words.old other.now) }
     ensures words_after { words.new ≡ join_after words.old other.now }
 {
-    report_words::join_reports(words, other)
+    code(report_words::join_reports(words, other))
 }
 
 #[unsafe(no_mangle)]

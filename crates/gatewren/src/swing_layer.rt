@@ -5,6 +5,7 @@ ghost use Rattle.steplog.specs.Steps.{steps_of, steps_number, kept_total};
 ghost use Rattle.c_answer.specs.Told.{number_of, value_after, rounds_after, road_after, rescalings_after};
 
 use c_answer::told;
+use refusals::code;
 
 #[unsafe(no_mangle)]
 pub extern "C" fn gatewren_swing(
@@ -36,5 +37,5 @@ pub extern "C" fn gatewren_steps(total: &mut u64, readings: &[u16]) -> u32
     ensures value { result ≡ steps_number (steps_of total.old readings.now) }
     ensures total_after { total.new ≡ kept_total (steps_of total.old readings.now) total.old }
 {
-    steplog::add_steps(total, readings)
+    code(steplog::add_steps(total, readings))
 }

@@ -18,7 +18,7 @@ fn checked_told(checked: Checked, row: &mut u64) -> u32
             *row = first;
             BAD_ROW
         }
-        Checked::Refused(number) => number,
+        Checked::Refused(refusal) => refusal.number(),
     }
 }
 

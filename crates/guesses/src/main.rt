@@ -100,15 +100,13 @@ fn counted(range: Range) -> Tallies {
     let mut ahead = Tally { ways: [0; 5] };
     let mut power = Tally { ways: [0; 5] };
     let mut seed: u64 = 1;
-    let mut left: u64 = NUMBERS;
-    while 0 < left {
+    for _ in 0..NUMBERS {
         let d = draw(range, seed);
         seed = d.seed;
         root = count(root, root_way(d.x));
         beside = count(beside, beside_way(d.x));
         ahead = count(ahead, ahead_way(d.x));
         power = count(power, power_way(d.x));
-        left -= 1;
     }
     Tallies {
         root,

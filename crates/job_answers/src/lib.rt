@@ -11,25 +11,18 @@ use carlson::answer::Answer;
 use packed::Job;
 
 // The call that the job is. No list has a job of another number than these.
+#[tactic(auto, unfolding(crate::specs::JobAnswers::call_of_job))]
 fn call_of_job(job: Job) -> Call
     ensures { result ≡ call_of_job job }
 {
-    if job.function == 1 {
-        return Call::Rf(job.a, job.b, job.c);
+    match job.function {
+        1 => Call::Rf(job.a, job.b, job.c),
+        2 => Call::Rc(job.a, job.b),
+        3 => Call::Rd(job.a, job.b, job.c),
+        4 => Call::Rg(job.a, job.b, job.c),
+        5 => Call::Rj(job.a, job.b, job.c, job.d),
+        _ => Call::Cel(job.a, job.b, job.c, job.d),
     }
-    if job.function == 2 {
-        return Call::Rc(job.a, job.b);
-    }
-    if job.function == 3 {
-        return Call::Rd(job.a, job.b, job.c);
-    }
-    if job.function == 4 {
-        return Call::Rg(job.a, job.b, job.c);
-    }
-    if job.function == 5 {
-        return Call::Rj(job.a, job.b, job.c, job.d);
-    }
-    Call::Cel(job.a, job.b, job.c, job.d)
 }
 
 pub fn job_answer(job: Job) -> Answer

@@ -4,30 +4,27 @@
 ghost use Rattle.std.specs.Prelude.{◌≤◌, length};
 
 use console::{Got, Source, read_from};
-use packed::{Job, Read, read_job};
-use packed_number::LIST_CUT;
+use packed::{Job, read_job};
+use refusals::Refusal;
 use writing::least;
 
-// What stands in the window: the file's place at which it begins, the place in it of the next job and how many bytes came;
-// whether the file has ended, and whether a read failed.
+// What stands in the window: the file's place at which it begins, the place in it of the next job and how many bytes came; and
+// whether the file has ended.
 #[derive(Clone, Copy)]
 pub struct Window {
     pub from: u64,
     pub at: usize,
     pub size: usize,
     pub over: bool,
-    pub failed: bool,
 }
 
 #[derive(Clone, Copy)]
 pub enum Pulled {
     // The job, and the window after it.
     Job(Job, Window),
-    // More has to be read before anything is known.
-    More,
     // No job is left.
     End,
-    Refused(u32),
+    Refused(Refusal),
     // A read failed, and that was said.
     Failed,
 }
@@ -39,46 +36,36 @@ pub fn begin() -> Window {
         at: 0,
         size: 0,
         over: false,
-        failed: false,
     }
 }
 
 // A list that stops inside a job is refused only where the file has ended.
-fn stopped(number: u32, over: bool) -> Pulled {
+fn stopped(refusal: Refusal, over: bool) -> Option<Pulled> {
     if over {
-        return Pulled::Refused(number);
+        return Some(Pulled::Refused(refusal));
     }
-    if number == LIST_CUT {
-        return Pulled::More;
+    match refusal {
+        Refusal::ListCut => None,
+        _ => Some(Pulled::Refused(refusal)),
     }
-    Pulled::Refused(number)
 }
 
-// What the window shows.
-fn look(window: &[u8], w: Window) -> Pulled {
+// What the window shows; None where more has to be read before anything is known.
+fn look(window: &[u8], w: Window) -> Option<Pulled> {
     let size = least(window.len(), w.size);
     match read_job(&window[..size], w.at) {
-        Read::Found(got) => {
+        Ok(Some(got)) => {
             let job = got.job;
             let at = got.next;
-            Pulled::Job(
-                job,
-                Window {
-                    from: w.from,
-                    at,
-                    size,
-                    over: w.over,
-                    failed: w.failed,
-                },
-            )
+            Some(Pulled::Job(job, Window { at, size, ..w }))
         }
-        Read::Nothing => {
+        Ok(None) => {
             if w.over {
-                return Pulled::End;
+                return Some(Pulled::End);
             }
-            Pulled::More
+            None
         }
-        Read::Refused(number) => stopped(number, w.over),
+        Err(refusal) => stopped(refusal, w.over),
     }
 }
 
@@ -87,42 +74,29 @@ fn shift(window: &mut [u8], at: usize, size: usize) -> usize
     ensures { result ≤ length window.new }
 {
     let end = least(window.len(), size);
-    let mut from = at;
-    let mut to = 0;
-    while from < end {
-        window[to] = window[from];
-        from += 1;
-        to += 1;
-    }
-    to
+    let start = least(end, at);
+    window.copy_within(start..end, 0);
+    end - start
 }
 
-// Reads once more, behind what is not yet a job.
-fn refill(rt: HostRuntime, source: Source<'_>, window: &mut [u8], w: Window) -> Window {
+// Reads once more, behind what is not yet a job; None where the read failed, which was said.
+fn refill(rt: HostRuntime, source: Source<'_>, window: &mut [u8], w: Window) -> Option<Window> {
     let kept = shift(window, w.at, w.size);
     let from = std::num::wrapping_add_u64(w.from, w.at as u64);
     match read_from(rt, source, &mut window[kept..]) {
-        Got::Bytes(n) => Window {
+        Got::Bytes(n) => Some(Window {
             from,
             at: 0,
             size: std::num::wrapping_add_usize(kept, n),
             over: false,
-            failed: false,
-        },
-        Got::End => Window {
+        }),
+        Got::End => Some(Window {
             from,
             at: 0,
             size: kept,
             over: true,
-            failed: false,
-        },
-        Got::Failed => Window {
-            from,
-            at: 0,
-            size: 0,
-            over: true,
-            failed: true,
-        },
+        }),
+        Got::Failed => None,
     }
 }
 
@@ -135,17 +109,16 @@ pub fn place(w: Window) -> u64 {
 pub fn pull(rt: HostRuntime, source: Source<'_>, window: &mut [u8; 4096], w: Window) -> Pulled {
     let mut stands = w;
     // A proved loop has to end, and nothing says that the file does: so many turns no run uses up.
-    let mut turns = u64::MAX;
-    while turns > 0 {
-        let seen = look(window, stands);
-        let Pulled::More = seen else {
+    for _ in 0..u64::MAX {
+        if let Some(seen) = look(window, stands) {
             return seen;
-        };
-        stands = refill(rt, source, window, stands);
-        if stands.failed {
-            return Pulled::Failed;
         }
-        turns -= 1;
+        match refill(rt, source, window, stands) {
+            Some(next) => {
+                stands = next;
+            }
+            None => return Pulled::Failed,
+        }
     }
     Pulled::Failed
 }

@@ -18,13 +18,14 @@ fn join_all(rt: HostRuntime, out: &mut [u8; OUT]) {
     let mut held = [0u8; LINE];
     let mut stands = begin();
     // A proved loop has to end, and nothing says that the input does: so many turns no run uses up.
-    let mut turns = u64::MAX;
-    while turns > 0 {
+    for _ in 0..u64::MAX {
         match read_block(rt, &mut block) {
             Got::Bytes(size) => {
-                stands = feed(rt, &block, size, &mut held, &mut total, &mut words, stands);
-                if stands.over {
-                    return;
+                match feed(rt, &block, size, &mut held, &mut total, &mut words, stands) {
+                    Some(after) => {
+                        stands = after;
+                    }
+                    None => return,
                 }
             }
             Got::End => {
@@ -37,7 +38,6 @@ fn join_all(rt: HostRuntime, out: &mut [u8; OUT]) {
                 return;
             }
         }
-        turns -= 1;
     }
 }
 

@@ -1,6 +1,8 @@
 // The lines of report texts, one after the other.
 use console::{say_bad, say_number};
-use report_read::{Taken, is_header, take_line};
+use refusals::Refusal;
+use report_read::{is_header, take_line};
+use report_text::LINES;
 use report_words::join_reports;
 use writing::{least, push};
 
@@ -9,16 +11,12 @@ pub const BLOCK: usize = 2048;
 // So much is held of a line; a report's has 556 bytes at most, with its end.
 pub const LINE: usize = 640;
 
-const LINES: usize = 192;
-
-// Which line may come next, 0 a header and 1 more than its number else; how many lines came, how much is held of the next, and
-// whether something was wrong, which was said.
+// Which line may come next, 0 a header and 1 more than its number else; how many lines came, and how much is held of the next.
 #[derive(Clone, Copy)]
 pub struct Standing {
     pub next: usize,
     pub lines: u64,
     pub held: usize,
-    pub over: bool,
 }
 
 pub fn begin() -> Standing {
@@ -26,88 +24,75 @@ pub fn begin() -> Standing {
         next: 0,
         lines: 0,
         held: 0,
-        over: false,
     }
 }
 
-// What a line leads to.
+// What is wrong with a line.
 #[derive(Clone, Copy)]
-enum Step {
-    Next(usize),
+enum Wrong {
+    // No report has it there.
     Bad,
-    Refused(u32),
-}
-
-fn clear(words: &mut [u64; 384]) {
-    let mut i: usize = 0;
-    while i < 384 {
-        words[i] = 0;
-        i += 1;
-    }
+    // Its report cannot be joined to the others.
+    Refused(Refusal),
 }
 
 // A text is whole: its report is joined to the others.
-fn whole(total: &mut [u64; 384], words: &mut [u64; 384]) -> Step {
-    let number = join_reports(total, words);
-    clear(words);
-    if number == 0 {
-        return Step::Next(0);
+fn whole(total: &mut [u64; 384], words: &mut [u64; 384]) -> Result<usize, Wrong> {
+    let joined = join_reports(total, words);
+    *words = [0u64; 384];
+    match joined {
+        Ok(()) => Ok(0),
+        Err(refusal) => Err(Wrong::Refused(refusal)),
     }
-    Step::Refused(number)
 }
 
-fn line_taken(total: &mut [u64; 384], words: &mut [u64; 384], next: usize, line: &[u8]) -> Step {
+// Which line may come after it.
+fn line_taken(
+    total: &mut [u64; 384],
+    words: &mut [u64; 384],
+    next: usize,
+    line: &[u8],
+) -> Result<usize, Wrong> {
     if next == 0 {
         if is_header(line) {
-            return Step::Next(1);
+            return Ok(1);
         }
-        return Step::Bad;
+        return Err(Wrong::Bad);
     }
     match take_line(words, next - 1, line) {
-        Taken::At(q) => {
+        Some(q) => {
             if q >= LINES {
                 return whole(total, words);
             }
-            Step::Next(q + 1)
+            Ok(q + 1)
         }
-        Taken::Bad => Step::Bad,
+        None => Err(Wrong::Bad),
     }
 }
 
-// After a line, the one that is held.
+// After a line, the one that is held; None where something was wrong, which was said.
 fn line_end(
     rt: HostRuntime,
     held: &[u8],
     total: &mut [u64; 384],
     words: &mut [u64; 384],
     stands: Standing,
-) -> Standing {
+) -> Option<Standing> {
     let lines = std::num::wrapping_add_u64(stands.lines, 1);
     let size = least(held.len(), stands.held);
     match line_taken(total, words, stands.next, &held[..size]) {
-        Step::Next(next) => Standing {
+        Ok(next) => Some(Standing {
             next,
             lines,
             held: 0,
-            over: false,
-        },
-        Step::Bad => {
+        }),
+        Err(Wrong::Bad) => {
             say_bad(rt, lines);
-            Standing {
-                next: 0,
-                lines,
-                held: 0,
-                over: true,
-            }
+            None
         }
-        Step::Refused(number) => {
-            say_number(rt, number);
-            Standing {
-                next: 0,
-                lines,
-                held: 0,
-                over: true,
-            }
+        Err(Wrong::Refused(refusal)) => {
+            say_number(rt, refusal.number());
+            None
         }
     }
 }
@@ -120,20 +105,15 @@ fn byte(
     total: &mut [u64; 384],
     words: &mut [u64; 384],
     stands: Standing,
-) -> Standing {
+) -> Option<Standing> {
     if b == b'\n' {
         return line_end(rt, held, total, words, stands);
     }
     let n = push(held, stands.held, b);
-    Standing {
-        next: stands.next,
-        lines: stands.lines,
-        held: n,
-        over: false,
-    }
+    Some(Standing { held: n, ..stands })
 }
 
-// The bytes of a block, until something is wrong.
+// The bytes of a block; None where something was wrong, which was said.
 pub fn feed(
     rt: HostRuntime,
     block: &[u8; BLOCK],
@@ -142,18 +122,13 @@ pub fn feed(
     total: &mut [u64; 384],
     words: &mut [u64; 384],
     stands: Standing,
-) -> Standing {
+) -> Option<Standing> {
     let end = least(block.len(), size);
     let mut so = stands;
-    let mut i: usize = 0;
-    while i < end {
-        so = byte(rt, block[i], held, total, words, so);
-        if so.over {
-            return so;
-        }
-        i += 1;
+    for i in 0..end {
+        so = byte(rt, block[i], held, total, words, so)?;
     }
-    so
+    Some(so)
 }
 
 // At the input's end: whether it is so many whole texts. A last line may lack its end.
@@ -166,10 +141,12 @@ pub fn ended(
 ) -> bool {
     let mut so = stands;
     if so.held > 0 {
-        so = line_end(rt, held, total, words, stands);
-    }
-    if so.over {
-        return false;
+        match line_end(rt, held, total, words, stands) {
+            Some(after) => {
+                so = after;
+            }
+            None => return false,
+        }
     }
     if so.next == 0 {
         return true;

@@ -1,17 +1,11 @@
 // A line of the listing to a call (document 01): a name, then each argument as one blank and sixteen upper-case hex digits.
 #![tactic(auto)]
 
-ghost use Rattle.std.specs.Prelude.{◌≡◌, ◌+◌, ◌≤◌, [], ◌∷◌, length};
-ghost use Rattle.listing_read.specs.Lines.{argument_length, line_length, word_at, same, all, named, read_as, call_of};
+ghost use Rattle.std.specs.Prelude.{◌≡◌, ◌+◌, ◌≤◌, [], ◌∷◌, Some, length};
+ghost use Rattle.listing_read.specs.Lines.{argument_length, line_length, word_at, same, named, read_as, call_of};
 
 use calls::Call;
-use digits::{Word, digit};
-
-#[derive(Clone, Copy)]
-pub enum Line {
-    Good(Call),
-    Bad,
-}
+use digits::number;
 
 // An argument: a blank and sixteen digits.
 const ARGUMENT: usize = 17;
@@ -29,135 +23,91 @@ const LONG_FOUR: usize = 3 + 4 * ARGUMENT;
 pub const LONGEST: usize = LONG_FOUR;
 
 // The argument whose blank stands at `at`.
-fn argument(line: &[u8], at: usize) -> Word
+#[tactic(auto, unfolding(crate::specs::Lines::word_at))]
+fn argument(line: &[u8], at: usize) -> Option<u64>
     requires { at + argument_length ≤ length line.now }
     ensures { result ≡ word_at line.now at }
 {
     if line[at] != b' ' {
-        return Word::Not;
+        return None;
     }
-    let mut value: u64 = 0;
-    let mut i = 0;
-    while i < 16 {
-        let d = digit(line[at + 1 + i]);
-        if d >= 16 {
-            return Word::Not;
-        }
-        value = value * 16 + d;
-        i += 1;
-    }
-    Word::Is(value)
+    number(&line[at + 1..at + ARGUMENT], 16)
 }
 
 pub fn is_name(text: &[u8], name: &[u8]) -> bool
     ensures { result ≡ same text.now name.now }
 {
-    check::same(text, name)
+    text == name
 }
 
-fn of_two(name: &[u8], x: u64, y: u64) -> Line
-    ensures { result ≡ named name.now (all (x ∷ y ∷ [])) }
-{
-    if is_name(name, b"RC") {
-        return Line::Good(Call::Rc(x, y));
-    }
-    Line::Bad
-}
-
-fn of_three(name: &[u8], x: u64, y: u64, z: u64) -> Line
-    ensures { result ≡ named name.now (all (x ∷ y ∷ z ∷ [])) }
-{
-    if is_name(name, b"RF") {
-        return Line::Good(Call::Rf(x, y, z));
-    }
-    if is_name(name, b"RD") {
-        return Line::Good(Call::Rd(x, y, z));
-    }
-    if is_name(name, b"RG") {
-        return Line::Good(Call::Rg(x, y, z));
-    }
-    Line::Bad
-}
-
-fn of_four(name: &[u8], x: u64, y: u64, z: u64, p: u64) -> Line
-    ensures { result ≡ named name.now (all (x ∷ y ∷ z ∷ p ∷ [])) }
-{
-    if is_name(name, b"RJ") {
-        return Line::Good(Call::Rj(x, y, z, p));
-    }
-    if is_name(name, b"CEL") {
-        return Line::Good(Call::Cel(x, y, z, p));
-    }
-    Line::Bad
-}
-
-fn two(line: &[u8]) -> Line
+// A line of two arguments. `two`, `three` and `four` stay three: each makes calls of its own size.
+#[tactic(auto, unfolding(crate::specs::Lines::words_at, crate::specs::Lines::named, calls::specs::Calls::name_of))]
+fn two(line: &[u8]) -> Option<Call>
     requires { length line.now ≡ line_length 2 2 }
     ensures { result ≡ read_as 2 2 line.now }
 {
-    let Word::Is(x) = argument(line, 2) else {
-        return Line::Bad;
-    };
-    let Word::Is(y) = argument(line, 19) else {
-        return Line::Bad;
-    };
-    of_two(&line[..2], x, y)
+    let x = argument(line, 2)?;
+    let y = argument(line, 19)?;
+    let name = &line[..2];
+    if is_name(name, b"RC") {
+        return Some(Call::Rc(x, y));
+    }
+    None
 }
 
-fn three(line: &[u8]) -> Line
+#[tactic(auto, unfolding(crate::specs::Lines::words_at, crate::specs::Lines::named, calls::specs::Calls::name_of))]
+fn three(line: &[u8]) -> Option<Call>
     requires { length line.now ≡ line_length 2 3 }
     ensures { result ≡ read_as 2 3 line.now }
 {
-    let Word::Is(x) = argument(line, 2) else {
-        return Line::Bad;
-    };
-    let Word::Is(y) = argument(line, 19) else {
-        return Line::Bad;
-    };
-    let Word::Is(z) = argument(line, 36) else {
-        return Line::Bad;
-    };
-    of_three(&line[..2], x, y, z)
+    let x = argument(line, 2)?;
+    let y = argument(line, 19)?;
+    let z = argument(line, 36)?;
+    let name = &line[..2];
+    if is_name(name, b"RF") {
+        return Some(Call::Rf(x, y, z));
+    }
+    if is_name(name, b"RD") {
+        return Some(Call::Rd(x, y, z));
+    }
+    if is_name(name, b"RG") {
+        return Some(Call::Rg(x, y, z));
+    }
+    None
 }
 
 // Of a name of so many bytes.
-fn four(line: &[u8], name: usize) -> Line
-    requires { (name ≤ 3) × (length line.now ≡ line_length name 4) }
-    ensures { result ≡ read_as name 4 line.now }
+#[tactic(auto, unfolding(crate::specs::Lines::words_at, crate::specs::Lines::named, calls::specs::Calls::name_of))]
+fn four(line: &[u8], size: usize) -> Option<Call>
+    requires { (size ≤ 3) × (length line.now ≡ line_length size 4) }
+    ensures { result ≡ read_as size 4 line.now }
 {
-    let second = name + ARGUMENT;
+    let second = size + ARGUMENT;
     let third = second + ARGUMENT;
-    let Word::Is(x) = argument(line, name) else {
-        return Line::Bad;
-    };
-    let Word::Is(y) = argument(line, second) else {
-        return Line::Bad;
-    };
-    let Word::Is(z) = argument(line, third) else {
-        return Line::Bad;
-    };
-    let Word::Is(p) = argument(line, third + ARGUMENT) else {
-        return Line::Bad;
-    };
-    of_four(&line[..name], x, y, z, p)
+    let x = argument(line, size)?;
+    let y = argument(line, second)?;
+    let z = argument(line, third)?;
+    let p = argument(line, third + ARGUMENT)?;
+    let name = &line[..size];
+    if is_name(name, b"RJ") {
+        return Some(Call::Rj(x, y, z, p));
+    }
+    if is_name(name, b"CEL") {
+        return Some(Call::Cel(x, y, z, p));
+    }
+    None
 }
 
 // What a line asks, given without its newline. Every other form is bad: another length, a blank too many, a lower-case digit.
-pub fn call_of(line: &[u8]) -> Line
+#[tactic(auto, unfolding(crate::specs::Lines::call_of))]
+pub fn call_of(line: &[u8]) -> Option<Call>
     ensures { result ≡ call_of line.now }
 {
-    let n = line.len();
-    if n == TWO {
-        return two(line);
+    match line.len() {
+        TWO => two(line),
+        THREE => three(line),
+        FOUR => four(line, 2),
+        LONG_FOUR => four(line, 3),
+        _ => None,
     }
-    if n == THREE {
-        return three(line);
-    }
-    if n == FOUR {
-        return four(line, 2);
-    }
-    if n == LONG_FOUR {
-        return four(line, 3);
-    }
-    Line::Bad
 }

@@ -13,8 +13,7 @@ fn reply_to_all(rt: HostRuntime, profile: bool, wanted: bool, out: &mut [u8; OUT
     let mut n: usize = 0;
     let mut meter = progress::begin(rt, wanted, Source::Standard);
     // A proved loop has to end, and nothing says that the input does: so many turns no run uses up.
-    let mut turns = u64::MAX;
-    while turns > 0 {
+    for _ in 0..u64::MAX {
         match read_block(rt, &mut block) {
             Got::Bytes(size) => {
                 let fed = feed(profile, &block, size, &mut held, n, out);
@@ -34,7 +33,6 @@ fn reply_to_all(rt: HostRuntime, profile: bool, wanted: bool, out: &mut [u8; OUT
                 return;
             }
         }
-        turns -= 1;
     }
 }
 

@@ -1,10 +1,12 @@
 -- How long the replies are. Assumes nothing.
+use Rattle.std.proofs.Common.{Option, Some, None}
 use Prim.Native.Nat.{ℕ, ◌≤◌}
 use mathlib.Core.Bool.{Bool, true, false, cond}
 use mathlib.Core.List.{List, [], ◌∷◌, ◌++◌}
 use native.Mathlib.Omega.{arith}
 use lib.Dec.{eqb}
 use lib.ListN.{length, take}
+use Rattle.calls.specs.declared.Call.{Call}
 use Rattle.listing_read.specs.Lines.{call_of}
 use Rattle.listing_write.specs.Text.{longest_reply}
 use Rattle.listing_write.specs.Lengths.{text_length}
@@ -12,13 +14,11 @@ use Rattle.listing_stream.specs.Replies.{answer_by, admitted, reply_to, reply_of
 use Rattle.listing_stream.specs.Stream.{held_length, listing_byte}
 use Rattle.writing.specs.Fed.{quiet}
 use Rattle.writing.specs.FedLaws.{Short}
-use Rattle.listing_read.specs.declared.Line.{Line}
-use Rattle.listing_read.specs.declared.Line.TheVariants.{Good, Bad}
 
-reply_to_length : (profile : Bool) (r : Line) → length (reply_to profile r) ≤ longest_reply
+reply_to_length : (profile : Bool) (r : Option Call) → length (reply_to profile r) ≤ longest_reply
 unfolding reply_to
-reply_to_length profile (Good c) = text_length c (answer_by profile c)
-reply_to_length profile Bad = omega arith
+reply_to_length profile (Some c) = text_length c (answer_by profile c)
+reply_to_length profile None = omega arith
 
 -- no reply is longer than the longest answer
 pub reply_length : (profile : Bool) (l : List ℕ) → length (reply_of profile l) ≤ longest_reply

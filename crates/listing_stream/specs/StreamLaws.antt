@@ -1,13 +1,12 @@
 -- Fed block by block, whole, the input gives the listing, wherever the blocks are cut, whoever answers. Assumes nothing.
-use Rattle.std.specs.Prelude.{ℕ, ◌≡◌, Bool, eqb, take}
+use Rattle.std.specs.Prelude.{ℕ, ◌≡◌, Bool, eqb, take, Option, Some, None}
 use Rattle.std.proofs.Math.Path.{refl, ap}
 use Rattle.std.proofs.Math.Bool.{true, false, cond}
 use mathlib.Core.List.{List, [], ◌∷◌, ◌++◌, append_assoc}
 use Rattle.calls.specs.declared.Call.TheVariants.{Cel}
+use Rattle.calls.specs.declared.Call.{Call}
 use Rattle.listing_read.specs.Lines.{call_of}
 use Rattle.listing_read.specs.LineLaws.{held_call}
-use Rattle.listing_read.specs.declared.Line.{Line}
-use Rattle.listing_read.specs.declared.Line.TheVariants.{Good, Bad}
 use Rattle.listing_write.specs.Text.{is_cel}
 use Rattle.listing_stream.specs.Replies.{admitted, reply_to, reply_of}
 use Rattle.writing.specs.Bad.{bad_text}
@@ -17,12 +16,12 @@ use Rattle.writing.specs.Parts.{held_again}
 use Rattle.listing_stream.specs.Stream.{header_text, replies_to, listing_of, listing_byte, listing_from, said_last, held_length}
 
 -- ---- which lines are calls: of the base all that can be read, of the profile all but CEL's
-pub base_admits : (r : Line) → admitted false r ≡ r
+pub base_admits : (r : Option Call) → admitted false r ≡ r
 unfolding admitted
-base_admits (Good c) = refl
-base_admits Bad = refl
+base_admits (Some c) = refl
+base_admits None = refl
 
-pub profile_has_no_cel : (l : List ℕ) {kc p a b : ℕ} → call_of l ≡ Good (Cel kc p a b) → reply_of true l ≡ bad_text
+pub profile_has_no_cel : (l : List ℕ) {kc p a b : ℕ} → call_of l ≡ Some (Cel kc p a b) → reply_of true l ≡ bad_text
 unfolding reply_of admitted reply_to is_cel
 profile_has_no_cel l e = rw e
 
@@ -30,7 +29,7 @@ module _ (profile : Bool) where
   -- ---- a line that is held in part
   held_reply : (l : List ℕ) → reply_of profile (take held_length l) ≡ reply_of profile l
   unfolding reply_of
-  held_reply l = ap (λ (r : Line). reply_to profile (admitted profile r)) (held_call l)
+  held_reply l = ap (λ (r : Option Call). reply_to profile (admitted profile r)) (held_call l)
 
   -- ---- the whole input
   said_last_lem : (l : List ℕ) → said_last profile (take held_length l) ≡ replies_to profile (last_line l)

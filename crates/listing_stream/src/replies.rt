@@ -7,8 +7,7 @@ ghost use Rattle.listing_stream.specs.Replies.{answer_by, admitted, reply_of};
 use answers::answer_of;
 use calls::Call;
 use carlson::answer::Answer;
-use carlson_arguments::checks::both;
-use listing_read::{Line, call_of};
+use listing_read::call_of;
 use listing_write::{is_cel, put_answer};
 use profile_answers::profile_of;
 use writing::put_text;
@@ -23,18 +22,11 @@ fn answer_by(profile: bool, call: Call) -> Answer
 }
 
 // CEL is no call of the profile.
-fn admitted(profile: bool, line: Line) -> Line
+#[tactic(auto, unfolding(crate::specs::Replies::admitted))]
+fn admitted(profile: bool, line: Option<Call>) -> Option<Call>
     ensures { result ≡ admitted profile line }
 {
-    match line {
-        Line::Good(call) => {
-            if both(profile, is_cel(call)) {
-                return Line::Bad;
-            }
-            Line::Good(call)
-        }
-        Line::Bad => Line::Bad,
-    }
+    line.filter(|call| !(profile && is_cel(*call)))
 }
 
 // The reply to a line that was given without its end.
@@ -43,7 +35,7 @@ pub fn put_reply(profile: bool, line: &[u8], out: &mut [u8], at: usize) -> usize
     ensures { Put out.old at (reply_of profile line.now) out.new result }
 {
     match admitted(profile, call_of(line)) {
-        Line::Good(call) => put_answer(call, answer_by(profile, call), out, at),
-        Line::Bad => put_text(b"bad line\n", out, at),
+        Some(call) => put_answer(call, answer_by(profile, call), out, at),
+        None => put_text(b"bad line\n", out, at),
     }
 }

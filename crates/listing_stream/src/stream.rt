@@ -74,17 +74,12 @@ fn feed_all(
 {
     let mut n = held_before;
     let mut used: usize = 0;
-    let mut i = 0;
-    while i < size {
+    for i in 0..size {
         let fed = step(profile, block[i], held, n, out, used);
         n = fed.held;
         used = fed.used;
-        i += 1;
     }
-    Progress {
-        held: n,
-        used: used,
-    }
+    Progress { held: n, used }
 }
 
 // Feeds the block's first bytes, all `size` of them: the replies to the lines that end there are put at the start of `out`, and

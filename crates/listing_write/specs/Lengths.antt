@@ -1,8 +1,8 @@
 -- How long the texts are. Assumes nothing.
-use Rattle.std.specs.Prelude.{ℕ, ◌≤◌, length}
+use Rattle.std.specs.Prelude.{ℕ, ◌≤◌, length, Ok, Err}
 use Rattle.std.proofs.Common.{arith, length-append}
-use Rattle.carlson.specs.declared.answer.Answer.{Answer}
-use Rattle.carlson.specs.declared.answer.Answer.TheVariants.{Value, Refused}
+use Rattle.refusals.specs.Numbers.{refusal_number}
+use Rattle.carlson.specs.Answer.{Answer}
 use Rattle.writing.specs.Decimal.{decimal}
 use Rattle.writing.specs.Places.{places_most}
 use Rattle.digits.proofs.DigitLaws.{digits_length, word_length}
@@ -37,8 +37,8 @@ way_length f =
 
 answer_length : (a : Answer) → length (after_name a) ≤ longest_value
 unfolding after_name value_text refusal_text
-answer_length (Value f) = rw (length-append, word_length) (omega (arith, way_length f))
-answer_length (Refused n) = omega (arith, count_length n 10)
+answer_length (Ok f) = rw (length-append, word_length) (omega (arith, way_length f))
+answer_length (Err r) = omega (arith, count_length (refusal_number r) 10)
 
 pub text_length : (c : Call) (a : Answer) → length (text_of c a) ≤ longest_reply
 unfolding text_of

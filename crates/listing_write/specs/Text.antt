@@ -1,11 +1,11 @@
 -- The text of an answer (document 01, the listing; document 02, 2026-04): the call's name, then the value's sixteen digits, the
 -- round count in decimal, the road and the rescalings, or the number of the refusal. Definitions only.
-use Rattle.std.specs.Prelude.{ℕ, ◌+◌, Bool, true, false, List, [], ◌∷◌, ◌++◌}
+use Rattle.std.specs.Prelude.{ℕ, ◌+◌, Bool, true, false, List, [], ◌∷◌, ◌++◌, Ok, Err}
 use Rattle.std.specs.Float.{binary64}
 use Rattle.std.specs.Float.Ieee.{to_bits}
+use Rattle.refusals.specs.Numbers.{refusal_number}
 use Rattle.carlson.specs.declared.answer.Found.{Found}
-use Rattle.carlson.specs.declared.answer.Answer.{Answer}
-use Rattle.carlson.specs.declared.answer.Answer.TheVariants.{Value, Refused}
+use Rattle.carlson.specs.Answer.{Answer}
 use Rattle.carlson.specs.declared.answer.Road.{Road}
 use Rattle.carlson.specs.declared.answer.Road.TheVariants.{Closed, Infinite, Agm, Duplication, Joint, Taylor, Reduction, Loop}
 use Rattle.writing.specs.Decimal.{decimal}
@@ -51,8 +51,8 @@ unfoldable pub refusal_text : ℕ → List ℕ
 refusal_text n = (32 ∷ 114 ∷ 101 ∷ 102 ∷ 117 ∷ 115 ∷ 101 ∷ 100 ∷ 32 ∷ []) ++ count_text n 10
 
 unfoldable pub after_name : Answer → List ℕ
-after_name (Value f) = value_text f
-after_name (Refused n) = refusal_text n
+after_name (Ok f) = value_text f
+after_name (Err r) = refusal_text (refusal_number r)
 
 unfoldable pub text_of : Call → Answer → List ℕ
 text_of c a = name_of c ++ after_name a

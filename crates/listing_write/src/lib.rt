@@ -126,8 +126,8 @@ fn write_answer(call: Call, answer: Answer, out: &mut [u8], at: usize) -> usize
 {
     let end = put_name(call, out, at);
     match answer {
-        Answer::Value(found) => put_value(found, out, end),
-        Answer::Refused(number) => put_refusal(number, out, end),
+        Ok(found) => put_value(found, out, end),
+        Err(refusal) => put_refusal(refusal.number(), out, end),
     }
 }
 

@@ -6,4 +6,4 @@ mod wide;
 mod word;
 
 pub use crate::wide::{Digits, top};
-pub use crate::word::{round_word, sticky};
+pub use crate::word::{Leading, round_word, sticky};

@@ -14,6 +14,13 @@ const TOP: u64 = 0x8000_0000_0000_0000; // the sign's weight in a pattern
 
 const INFINITY: u64 = 0x7ff0_0000_0000_0000; // the pattern of the infinity
 
+// What is rounded: v * 2 ^ (e - 2296), the last digit of v being the flag for what is lost. Where v is 0, nothing is known.
+#[derive(Clone, Copy)]
+pub struct Leading {
+    pub v: u64,
+    pub e: u64,
+}
+
 // l with the flag for the digits below it: its last digit is set where something is lost.
 pub fn sticky(l: u64, lost: u64) -> u64
     ensures { result ≡ stuck l lost }

@@ -1,5 +1,5 @@
 -- A job's line, as `unpack` writes it, is the line of the call that it is. Assumes nothing.
-use Rattle.std.specs.Prelude.{ℕ, ◌^◌, ◌<◌, ◌≡◌, refl, Bool, true, false, cond, List, [], ◌∷◌, ◌++◌, eqb, ltb}
+use Rattle.std.specs.Prelude.{ℕ, ◌^◌, ◌<◌, ◌≡◌, refl, Bool, true, false, cond, List, [], ◌∷◌, ◌++◌, eqb, ltb, Some}
 use Rattle.std.proofs.Common.{sym, ap, subst, ◌∙◌, append_assoc, append-nil, arith, eqb-true}
 use Rattle.digits.specs.Digits.{word_text, digits}
 use Rattle.packed.specs.Jobs.{arity_of, argument_of}
@@ -8,7 +8,6 @@ use Rattle.packed.specs.declared.jobs.Job.{Job}
 use Rattle.calls.specs.Calls.{name_of, arguments_of}
 use Rattle.listing_read.specs.Lines.{word_texts, line_of, call_of}
 use Rattle.listing_read.specs.LineLaws.{Patterns, read_back}
-use Rattle.listing_read.specs.declared.Line.TheVariants.{Good}
 use Rattle.unpack_stream.specs.Text.{letter_of, name_text, argument_text, job_text}
 use Rattle.job_answers.specs.JobAnswers.{call_of_job}
 use Rattle.claim_read.specs.FieldLaws.{Over}
@@ -70,7 +69,7 @@ unfolding argument_of
 job_call j p = is_call j.a j.b j.c j.d (p.fits 0) (p.fits 1) (p.fits 2) (p.fits 3) j.function p.known
 
 -- ---- THE LAWS
-pub line_read : (j : Job) → Proper j → call_of (job_line j) ≡ Good (call_of_job j)
+pub line_read : (j : Job) → Proper j → call_of (job_line j) ≡ Some (call_of_job j)
 line_read j p = let h = job_call j p in ap call_of (sym h.line) ∙ read_back (call_of_job j) h.patterns
 
 -- no newline is inside

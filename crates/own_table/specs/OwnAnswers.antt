@@ -1,11 +1,35 @@
 -- What we answer to a call has bits of a finite f64, or a number of few digits. Assumes nothing.
-use Rattle.std.specs.Prelude.{ℕ, ◌+◌, ◌%◌, ◌^◌, ◌≤◌, ◌<◌, ◌≡◌, refl, Bool, true, false, ◌&&◌, ◌||◌, List, [], ◌∷◌, T, eqb, ltb, Float}
+use Rattle.std.specs.Prelude.{
+  ℕ,
+  ◌+◌,
+  ◌%◌,
+  ◌^◌,
+  ◌≤◌,
+  ◌<◌,
+  ◌≡◌,
+  refl,
+  Bool,
+  true,
+  false,
+  ◌&&◌,
+  ◌||◌,
+  List,
+  [],
+  ◌∷◌,
+  T,
+  eqb,
+  ltb,
+  Float,
+  Ok,
+  Err,
+}
 use Rattle.std.proofs.Common.{sym, ap, subst, ◌∙◌, true≢false, ⊎_elim, arith, eqb-true, lt-ltb, ltb→lt}
 use Rattle.std.specs.Float.{binary64}
 use Rattle.std.specs.Float.Ieee.{neg, of_bits, to_bits}
 use Rattle.std.specs.Float.Ieee.Bits.{of_bits-to_bits, to_bits-lt}
 use Rattle.std.specs.Float.Ieee.Fits.{and_l, and_r}
 use Rattle.std.specs.Float.Ieee.Scale.{finite}
+use Rattle.refusals.specs.Numbers.{refusal_number}
 use Rattle.algebra.specs.Order.{lt_or_le}
 use Rattle.rounding.specs.Cut.{infinity}
 use Rattle.rounding.proofs.Value.{infinity_is}
@@ -13,8 +37,7 @@ use Rattle.rounding.specs.Sign.{bits_neg}
 use Rattle.binary64.specs.Tests.{bits_nan}
 use Rattle.distance.specs.Steps.{finite_pattern}
 use Rattle.carlson.specs.Only.{among, Only, value, refused, Finite}
-use Rattle.carlson.specs.declared.answer.Answer.{Answer}
-use Rattle.carlson.specs.declared.answer.Answer.TheVariants.{Value, Refused}
+use Rattle.carlson.specs.Answer.{Answer}
 use Rattle.calls.specs.declared.Call.{Call}
 use Rattle.calls.specs.declared.Call.TheVariants.{Rc, Rf, Rd, Rg, Rj, Cel}
 use Rattle.answers.specs.Answers.{answer_of}
@@ -74,12 +97,12 @@ numbers_short (Cel kc p a b) = tt
 
 -- ---- THE LAW, over a call: what the listing has to say of an answer
 abbrev pub Sayable : Answer → Type 0
-Sayable (Value f) = (to_bits binary64 f.value < 2 ^ 64) × (finite_pattern (to_bits binary64 f.value) ≡ true)
-Sayable (Refused n) = n < 10 ^ 10
+Sayable (Ok f) = (to_bits binary64 f.value < 2 ^ 64) × (finite_pattern (to_bits binary64 f.value) ≡ true)
+Sayable (Err r) = refusal_number r < 10 ^ 10
 
 sayable : (a : Answer) (ns : List ℕ) → T (short ns) → Only Finite ns a → Fits a → Sayable a
-sayable (Value f) ns s (value h) k = (to_bits-lt binary64 f.value k, finite_pattern_lem f.value k h)
-sayable (Refused n) ns s (refused h) k = short_among n ns s h
+sayable (Ok f) ns s (value h) k = (to_bits-lt binary64 f.value k, finite_pattern_lem f.value k h)
+sayable (Err r) ns s (refused h) k = short_among (refusal_number r) ns s h
 
 pub answer_sayable : (c : Call) → Sayable (answer_of c)
 answer_sayable c = sayable (answer_of c) (numbers_of c) (numbers_short c) (total c) (fitting c)

@@ -1,15 +1,41 @@
 -- A line of our own listing is read as the claim that its answer is. Assumes nothing.
-use Rattle.std.specs.Prelude.{ℕ, zero, suc, ◌+◌, ◌/◌, ◌%◌, ◌^◌, ◌≤◌, ◌<◌, ◌≡◌, refl, Bool, true, false, ◌&&◌, cond, List, [], ◌∷◌, ◌++◌, T, ltb}
+use Rattle.std.specs.Prelude.{
+  ℕ,
+  zero,
+  suc,
+  ◌+◌,
+  ◌/◌,
+  ◌%◌,
+  ◌^◌,
+  ◌≤◌,
+  ◌<◌,
+  ◌≡◌,
+  refl,
+  Bool,
+  true,
+  false,
+  ◌&&◌,
+  cond,
+  List,
+  [],
+  ◌∷◌,
+  ◌++◌,
+  T,
+  ltb,
+  Some,
+  None,
+  Ok,
+  Err,
+}
 use Rattle.std.proofs.Common.{ap, ◌∙◌, append_assoc, arith, le-ltb, ne_eqb, ltb→lt, lit<, lit≤}
 use Rattle.std.specs.Float.{binary64}
 use Rattle.std.specs.Float.Ieee.{to_bits}
 use Rattle.std.specs.Float.Ieee.Fits.{and_l, and_r}
+use Rattle.refusals.specs.Numbers.{refusal_number}
 use Rattle.carlson.specs.declared.answer.Found.{Found}
-use Rattle.carlson.specs.declared.answer.Answer.{Answer}
-use Rattle.carlson.specs.declared.answer.Answer.TheVariants.{Value, Refused}
+use Rattle.carlson.specs.Answer.{Answer}
 use Rattle.digits.specs.Digits.{glyph_of, digits, word_text}
 use Rattle.digits.proofs.DigitLaws.{digits_length, read_written}
-use Rattle.digits.specs.declared.Word.TheVariants.{Is, Not}
 use Rattle.writing.specs.Decimal.{places_of, decimal}
 use Rattle.writing.specs.Places.{places_most, places_some, places_hold}
 use Rattle.calls.specs.Calls.{name_of}
@@ -79,7 +105,7 @@ unfolding decimal
 decimal_over more n = digits_over 10 (places_of more n) n
 
 -- ---- a number in decimal is read back
-count_back : (n : ℕ) → n < 10 ^ 10 → count_of (decimal 9 n) ≡ Is n
+count_back : (n : ℕ) → n < 10 ^ 10 → count_of (decimal 9 n) ≡ Some n
 unfolding count_of decimal
 count_back n h =
     let k = places_of 9 n in
@@ -87,19 +113,19 @@ count_back n h =
       digits_length,
       ne_eqb k 0 (λ e. omega (arith, places_some 9 n)),
       le-ltb 10 k (places_most 9 n),
-    ) (read_written 10 (lit< tt) (lit≤ tt) k 0 n (places_hold 9 n h) ∙ ap Is (omega arith))
+    ) (read_written 10 (lit< tt) (lit≤ tt) k 0 n (places_hold 9 n h) ∙ ap Some (omega arith))
 
-word_back : (w : ℕ) → w < 2 ^ 64 → value_of (digits 16 16 w) ≡ Is w
+word_back : (w : ℕ) → w < 2 ^ 64 → value_of (digits 16 16 w) ≡ Some w
 unfolding value_of
-word_back w h = rw digits_length (read_written 16 (lit< tt) (lit≤ tt) 16 0 w h ∙ ap Is (omega arith))
+word_back w h = rw digits_length (read_written 16 (lit< tt) (lit≤ tt) 16 0 w h ∙ ap Some (omega arith))
 
 -- ---- our own line, without its end
 unfoldable pub way_line : Found → List ℕ
 way_line f = count_text f.way.rounds 32 ++ (road_text f.road ++ decimal 9 f.way.rescalings)
 
 unfoldable pub said_line : Answer → List ℕ
-said_line (Value f) = digits 16 16 (to_bits binary64 f.value) ++ (32 ∷ way_line f)
-said_line (Refused n) = refused_word ++ (32 ∷ decimal 9 n)
+said_line (Ok f) = digits 16 16 (to_bits binary64 f.value) ++ (32 ∷ way_line f)
+said_line (Err r) = refused_word ++ (32 ∷ decimal 9 (refusal_number r))
 
 unfoldable pub own_line : Call → Answer → List ℕ
 own_line c a = name_of c ++ (32 ∷ said_line a)
@@ -107,20 +133,21 @@ own_line c a = name_of c ++ (32 ∷ said_line a)
 -- what the listing writes is that and the line's end
 pub own_text : (c : Call) (a : Answer) → text_of c a ≡ own_line c a ++ 10 ∷ []
 unfolding text_of after_name value_text refusal_text way_text word_text count_text own_line said_line way_line
-own_text c (Value f) = simp append_assoc
-own_text c (Refused n) = simp append_assoc
+own_text c (Ok f) = simp append_assoc
+own_text c (Err r) = simp append_assoc
 
 -- THE LAW
-no_value : value_of refused_word ≡ Not
+no_value : value_of refused_word ≡ None
 unfolding value_of
 no_value = refl
 
 said_own : (a : Answer) → Sayable a → said (said_line a) ≡ own_claim a
 unfolding said said_line own_claim value_claim refusal_said count_claim
-said_own (Value f) h =
+said_own (Ok f) h =
     let w = to_bits binary64 f.value in
     rw (field_is (digits 16 16 w) (way_line f) (digits_over 16 16 w), word_back w h.0)
-said_own (Refused n) h =
+said_own (Err r) h =
+    let n = refusal_number r in
     let plain : Over 32 refused_word = over_literal 32 refused_word tt in
     let d = decimal 9 n in
     let f : field_of (refused_word ++ 32 ∷ d) ≡ refused_word = field_is refused_word d plain in

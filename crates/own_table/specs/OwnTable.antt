@@ -1,12 +1,12 @@
 -- What our own listing gives is accepted with no tolerance: the calls of a list, as `unpack` writes them, through the listing,
 -- and held against the list. Assumes nothing.
-use Rattle.std.specs.Prelude.{ℕ, ◌+◌, ◌≡◌, true, false, List, [], ◌∷◌, ◌++◌, length}
+use Rattle.std.specs.Prelude.{ℕ, ◌+◌, ◌≡◌, true, false, List, [], ◌∷◌, ◌++◌, length, Ok, Err}
 use Rattle.std.proofs.Math.Path.{refl}
 use Rattle.std.proofs.Common.{sym, ap, ◌∙◌, append_assoc, append-nil, arith, eq-eqb, ne_eqb}
 use Rattle.std.specs.Float.{binary64}
 use Rattle.std.specs.Float.Ieee.{to_bits}
-use Rattle.carlson.specs.declared.answer.Answer.{Answer}
-use Rattle.carlson.specs.declared.answer.Answer.TheVariants.{Value, Refused}
+use Rattle.refusals.specs.Numbers.{refusal_number}
+use Rattle.carlson.specs.Answer.{Answer}
 use Rattle.carlson.specs.declared.answer.Road.{Road}
 use Rattle.carlson.specs.declared.answer.Road.TheVariants.{Closed, Infinite, Agm, Duplication, Joint, Taylor, Reduction, Loop}
 use Rattle.digits.specs.Digits.{digits}
@@ -53,8 +53,8 @@ use Rattle.own_table.specs.JobLine.{job_line, job_text_lem, job_call, line_read,
 
 -- ---- the words of C
 sayable_finite : (a : Answer) → Sayable a → Finite a
-sayable_finite (Value f) h = h.1
-sayable_finite (Refused n) h = tt
+sayable_finite (Ok f) h = h.1
+sayable_finite (Err n) h = tt
 
 pub own_words_lem : (list : List ℕ) (js : List Job) → read_all list ≡ jobs js → check_of 0 list (own_words js) ≡ Accepted
 own_words_lem = own_accepted (λ j. sayable_finite (answer_of (call_of_job j)) (answer_sayable (call_of_job j)))
@@ -118,7 +118,7 @@ road_over Loop = over_literal 10 (108 ∷ 111 ∷ 111 ∷ 112 ∷ 32 ∷ []) tt
 
 said_over : (a : Answer) → Over 10 (said_line a)
 unfolding said_line way_line
-said_over (Value f) =
+said_over (Ok f) =
     let w = to_bits binary64 f.value in
     over_append 10 (digits 16 16 w) (32 ∷ way_line f) (over_less 10 32 (digits 16 16 w) (omega arith) (digits_over 16 16 w)) (
       omega arith,
@@ -126,7 +126,8 @@ said_over (Value f) =
           (over_append 10 (road_text f.road) (decimal 9 f.way.rescalings) (road_over f.road)
           (over_less 10 32 (decimal 9 f.way.rescalings) (omega arith) (decimal_over 9 f.way.rescalings))),
     )
-said_over (Refused n) =
+said_over (Err r) =
+    let n = refusal_number r in
     over_append 10 refused_word (32 ∷ decimal 9 n) (over_literal 10 refused_word tt)
     (omega arith, over_less 10 32 (decimal 9 n) (omega arith) (decimal_over 9 n))
 

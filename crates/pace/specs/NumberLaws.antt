@@ -28,7 +28,7 @@ pub newlines_next : (l : List ℕ) (i : ℕ) → i < length l → newlines (drop
 unfolding newlines
 newlines_next l i h = rw (drop-cons l i 0 h, add-one)
 
--- a part more is counted; so a part stands in code, from `at` to `at + step`
+-- what ends in a part is added to what ended before it
 pub newlines_part :
     (l : List ℕ) (at step n r : ℕ) → n ≡ newlines (take at l) → r ≡ newlines (take (at + step - at) (drop at l))
     → n + r ≡ newlines (take (at + step) l)

@@ -3,14 +3,12 @@
 ghost use Rattle.std.specs.Prelude.{◌≡◌, ◌≤◌, length, take};
 ghost use Rattle.pace.specs.Numbers.{ends_of, newlines};
 
-use writing::least;
-
 const PART: usize = 224;
 
 fn ending(b: u8) -> u8
     ensures { result ≡ ends_of b }
 {
-    if b == b'\n' { 1 } else { 0 }
+    u8::from(b == b'\n')
 }
 
 fn count(part: &[u8]) -> u8
@@ -18,10 +16,8 @@ fn count(part: &[u8]) -> u8
     ensures { result ≡ newlines part.now }
 {
     let mut lines: u8 = 0;
-    let mut i: usize = 0;
-    while i < part.len() {
-        lines += ending(part[i]);
-        i += 1;
+    for byte in part {
+        lines += ending(*byte);
     }
     lines
 }
@@ -30,13 +26,10 @@ fn count(part: &[u8]) -> u8
 pub fn lines_in(block: &[u8], size: usize) -> u64
     ensures { result ≡ newlines (take size block.now) }
 {
-    let end = least(block.len(), size);
+    let end = block.len().min(size);
     let mut lines: u64 = 0;
-    let mut at: usize = 0;
-    while at < end {
-        let step = least(end - at, PART);
-        lines += count(&block[at..at + step]) as u64;
-        at += step;
+    for part in block[..end].chunks(PART) {
+        lines += u64::from(count(part));
     }
     lines
 }

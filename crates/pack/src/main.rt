@@ -13,8 +13,7 @@ fn pack_all(rt: HostRuntime, out: &mut [u8; OUT]) {
     let mut n: usize = 0;
     let mut lines: u64 = 0;
     // A proved loop has to end, and nothing says that the input does: so many turns no run uses up.
-    let mut turns = u64::MAX;
-    while turns > 0 {
+    for _ in 0..u64::MAX {
         match read_block(rt, &mut block) {
             Got::Bytes(size) => {
                 let fed = feed(&block, size, &mut held, n, out);
@@ -42,7 +41,6 @@ fn pack_all(rt: HostRuntime, out: &mut [u8; OUT]) {
                 return;
             }
         }
-        turns -= 1;
     }
 }
 

@@ -1,10 +1,9 @@
 -- Fed block by block, the input gives the work list of its lines, wherever the blocks are cut. Assumes nothing.
 use Rattle.std.specs.Prelude.{ℕ, ◌≡◌, refl, Bool, true, false, cond, List, [], ◌∷◌, ◌++◌, eqb, take}
-use Rattle.std.proofs.Common.{ap, ◌∙◌}
+use Rattle.std.proofs.Common.{ap, ◌∙◌, Option, Some, None}
+use Rattle.calls.specs.declared.Call.{Call}
 use Rattle.listing_read.specs.Lines.{call_of}
 use Rattle.listing_read.specs.LineLaws.{held_call}
-use Rattle.listing_read.specs.declared.Line.{Line}
-use Rattle.listing_read.specs.declared.Line.TheVariants.{Good, Bad}
 use Rattle.writing.specs.Fed.{Ran, quiet, and_ran, run}
 use Rattle.writing.specs.FedLaws.{quiet_and, and_assoc, run_over}
 use Rattle.writing.specs.Input.{last_line, lines_from}
@@ -18,12 +17,12 @@ at_end_lem [] = refl
 at_end_lem (b ∷ l) = rw (held_call (b ∷ l))
 
 -- a bad line ends both
-after_line_lem : (r : Line) (bs : List ℕ) → pack_all (holding []) bs ≡ pack_lines (holding []) (lines_from [] bs)
+after_line_lem : (r : Option Call) (bs : List ℕ) → pack_all (holding []) bs ≡ pack_lines (holding []) (lines_from [] bs)
     → pack_all (line_end r).left bs ≡ pack_lines (line_end r).left (lines_from [] bs)
 unfolding line_end run last_line
-after_line_lem (Good c) bs e = e
-after_line_lem Bad bs e =
-    let over = (line_end Bad).left in
+after_line_lem (Some c) bs e = e
+after_line_lem None bs e =
+    let over = (line_end None).left in
     rw (
       run_over pack_byte (λ h. h.bad) bs over refl,
       run_over (λ h l. line_end (call_of l)) (λ h. h.bad) (lines_from [] bs) over refl,
@@ -38,14 +37,14 @@ from_held (b ∷ bs) begun =
     ∙ go (eqb b 10) (call_of (take held_length begun)) (held_call begun) (from_held bs)
   where
     go :
-        (t : Bool) (r : Line) → r ≡ call_of begun
+        (t : Bool) (r : Option Call) → r ≡ call_of begun
         → ((l : List ℕ) → pack_all (holding (take held_length l)) bs ≡ pack_lines (holding []) (lines_from l bs))
         → (let p : Ran Held = cond t (line_end r) (quiet (holding (take held_length (take held_length begun ++ b ∷ [])))) in
         and_ran p (pack_all p.left bs)
         ≡ pack_lines (holding []) (cond t (begun ∷ lines_from [] bs) (lines_from (begun ++ b ∷ []) bs)))
     go true r e rest =
         ap (and_ran (line_end r)) (after_line_lem r bs (rest []))
-        ∙ ap (λ (k : Line). and_ran (line_end k) (pack_lines (line_end k).left (lines_from [] bs))) e
+        ∙ ap (λ (k : Option Call). and_ran (line_end k) (pack_lines (line_end k).left (lines_from [] bs))) e
     go false r e rest =
         let h : Held = holding (take held_length (take held_length begun ++ b ∷ [])) in
         quiet_and h (pack_all h bs) ∙ rw (held_again held_length begun b) (rest (begun ++ b ∷ []))

@@ -1,10 +1,8 @@
 -- Lines of the listing's form to a packed work list, a byte after the other. Definitions only.
-use Rattle.std.specs.Prelude.{ℕ, ◌+◌, Bool, true, false, cond, List, [], ◌∷◌, ◌++◌, eqb, get_or, take}
+use Rattle.std.specs.Prelude.{ℕ, ◌+◌, Bool, true, false, cond, List, [], ◌∷◌, ◌++◌, eqb, get_or, take, Option, Some, None}
 use Rattle.calls.specs.Calls.{arguments_of, number_of}
 use Rattle.calls.specs.declared.Call.{Call}
 use Rattle.listing_read.specs.Lines.{longest_line, call_of}
-use Rattle.listing_read.specs.declared.Line.{Line}
-use Rattle.listing_read.specs.declared.Line.TheVariants.{Good, Bad}
 use Rattle.packed.specs.Jobs.{job_bytes}
 use Rattle.packed.specs.declared.jobs.Job.{Job}
 use Rattle.writing.specs.Fed.{Ran, quiet, Fed, run}
@@ -31,9 +29,9 @@ abbrev pub holding : List ℕ → Held
 holding held = record { rest = held; bad = false }
 
 -- what comes of a line that has ended: its job; or it is bad. The lines are counted
-unfoldable pub line_end : Line → Ran Held
-line_end (Good c) = record { said = job_bytes (job_of c); count = 1; left = holding [] }
-line_end Bad = record { said = []; count = 1; left = record { rest = []; bad = true } }
+unfoldable pub line_end : Option Call → Ran Held
+line_end (Some c) = record { said = job_bytes (job_of c); count = 1; left = holding [] }
+line_end None = record { said = []; count = 1; left = record { rest = []; bad = true } }
 
 -- ---- what is right: the lines of the input in order, up to a bad one
 abbrev pub pack_lines : Held → List (List ℕ) → Ran Held

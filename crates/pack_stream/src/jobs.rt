@@ -5,7 +5,7 @@ ghost use Rattle.writing.specs.Written.{Put};
 ghost use Rattle.pack_stream.specs.Pack.{job_of, job_room};
 
 use calls::Call;
-use packed::{Job, Written, write_job};
+use packed::{Job, write_job};
 
 // The job of these words.
 fn job(function: u64, a: u64, b: u64, c: u64, d: u64) -> Job
@@ -39,7 +39,7 @@ pub fn put_call(call: Call, out: &mut [u8], at: usize) -> usize
     ensures { Put out.old at (job_bytes (job_of call)) out.new result }
 {
     match write_job(out, at, job_of(call)) {
-        Written::Next(next) => next,
-        Written::Refused(_) => at,
+        Ok(next) => next,
+        Err(_) => at,
     }
 }

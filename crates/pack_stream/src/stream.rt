@@ -5,7 +5,7 @@ ghost use Rattle.listing_read.specs.Lines.{call_of};
 ghost use Rattle.pack_stream.specs.Pack.{holding, line_end, pack_byte, pack_from, pack_last, held_length, job_room, Packs};
 
 use crate::jobs::put_call;
-use listing_read::{LONGEST, Line, call_of};
+use listing_read::{LONGEST, call_of};
 use writing::{OUT, least, push};
 
 // So many bytes are held of a line: one more than the longest good line has, so that a longer one is told by its length.
@@ -42,13 +42,13 @@ fn ended(line: &[u8], out: &mut [u8], used: usize) -> Progress
     ensures held_value { result.held ≡ 0 }
 {
     match call_of(line) {
-        Line::Good(call) => Progress {
+        Some(call) => Progress {
             held: 0,
             used: put_call(call, out, used),
             lines: 1,
             bad: false,
         },
-        Line::Bad => Progress {
+        None => Progress {
             held: 0,
             used,
             lines: 1,
@@ -88,19 +88,15 @@ fn feed_all(block: &[u8], size: usize, held: &mut [u8], n: usize, out: &mut [u8]
     ensures used_bound { result.used ≤ job_room * size }
 {
     let mut all = nothing(n);
-    let mut i = 0;
-    while i < size {
+    for i in 0..size {
         let fed = step(block[i], held, all.held, out, all.used);
         all = Progress {
-            held: fed.held,
-            used: fed.used,
             lines: all.lines + fed.lines,
-            bad: fed.bad,
+            ..fed
         };
         if all.bad {
             return all;
         }
-        i += 1;
     }
     all
 }

@@ -3,10 +3,6 @@ use Rattle.std.specs.Prelude.{ℕ, cond, List, [], ◌∷◌, ◌++◌, eqb, ltb
 use Rattle.packed_number.specs.Numbers.{number_bytes}
 use Rattle.packed.specs.declared.jobs.Job.{Job}
 
--- "16 unknown function"
-abbrev pub unknown_function : ℕ
-unknown_function = 16
-
 -- how many arguments a function has, by its number: "RF 1, RC 2, RD 3, RG 4, RJ 5", and cel 6
 -- (2026-09); 0 for every other number
 unfoldable pub arity_of : ℕ → ℕ

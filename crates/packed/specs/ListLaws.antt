@@ -1,42 +1,24 @@
 -- Whole work lists (document 02, 2026-03): "Writing then reading gives the jobs back; reading then writing gives the bytes
 -- back". A read is a function of the bytes and the place and stores nothing, so a refused one leaves its place. Every reading
 -- ends: `read_all` allows a job for each byte, and by `bytes_back` that is never too few. Assumes nothing.
-use Rattle.std.specs.Prelude.{ℕ, zero, suc, ◌+◌, ◌-◌, ◌≤◌, ◌<◌, ◌≡◌, refl, Bool, true, false, cond, List, [], ◌∷◌, ◌++◌, eqb, ltb, length, drop}
+use Rattle.refusals.specs.declared.Refusal.{Refusal}
+use Rattle.std.specs.Prelude.{Some, None, Result, Ok, Err}
+use Rattle.std.specs.Prelude.{ℕ, zero, suc, ◌+◌, ◌-◌, ◌≤◌, ◌<◌, ◌≡◌, refl, Bool, true, false, cond, List, [], ◌∷◌, ◌++◌, ltb, length, drop}
 use Rattle.std.proofs.Common.{sym, ap, subst, ◌∙◌, arith, le-ltb, ltb-false, length-append, length-drop, drop_of_length-le}
-use Rattle.packed_number.specs.Numbers.{number_at}
-use Rattle.packed.specs.Jobs.{unknown_function, arity_of, job_bytes, job_length, list_bytes}
-use Rattle.packed.specs.Reading.{
-  begun,
-  function_read,
-  argument_read,
-  argument_at,
-  argument_after,
-  job_at,
-  read_at,
-  Jobs,
-  jobs,
-  stopped,
-  with_job,
-  read_on,
-  read_from,
-  read_all,
-}
+use Rattle.packed.specs.Jobs.{job_bytes, job_length, list_bytes}
+use Rattle.packed.specs.Reading.{job_at, Read, found, read_at, Jobs, jobs, stopped, with_job, read_on, read_from, read_all}
 use Rattle.packed.specs.LengthLaws.{job_some}
 use Rattle.packed_number.specs.NumberLaws.{Bytes}
 use Rattle.packed.specs.JobLaws.{Proper, after, read_back, Is, read_is}
-use Rattle.packed_number.specs.declared.Number.{Number}
-use Rattle.packed_number.specs.declared.Number.TheVariants.{Whole, Refused as NoNumber}
 use Rattle.packed.specs.declared.jobs.Job.{Job}
 use Rattle.packed.specs.declared.read.Got.{Got}
-use Rattle.packed.specs.declared.read.Read.{Read}
-use Rattle.packed.specs.declared.read.Read.TheVariants.{Found, Nothing, Refused}
 
 abbrev pub Propers : List Job → Type 0
 Propers [] = Unit {0}
 Propers (j ∷ js) = Proper j × Propers js
 
 -- ---- writing, then reading
-none_left : (l : List ℕ) (at : ℕ) → length l ≤ at → read_at l at ≡ Nothing
+none_left : (l : List ℕ) (at : ℕ) → length l ≤ at → read_at l at ≡ Ok None
 unfolding read_at
 none_left l at h = rw (le-ltb at (length l) h)
 
@@ -66,38 +48,17 @@ jobs_back js p = from_back js (suc (length (list_bytes js))) (list_bytes js) 0 p
 
 -- ---- reading, then writing
 -- nothing is said to be left only at the end
-not_nothing : (l : List ℕ) (g : Got) (k : ℕ) → argument_at l g k ≡ Nothing → ⊥
-unfolding argument_at argument_read
-not_nothing l g k e = go (ltb k (arity_of g.job.function)) (number_at l g.next) e
-  where
-    go : (t : Bool) (n : Number) → cond t (argument_read g.job k n) (Found g) ≡ Nothing → ⊥
-    go true (Whole v next) e = let z : ◌≡◌ {A = ℕ} 0 1 = cc in omega arith
-    go true (NoNumber n) e = let z : ◌≡◌ {A = ℕ} 0 1 = cc in omega arith
-    go false n e = let z : ◌≡◌ {A = ℕ} 0 1 = cc in omega arith
+not_nothing : (r : Result Got Refusal) → found r ≡ Ok None → ⊥
+unfolding found
+not_nothing (Ok got) e = let z : ◌≡◌ {A = ℕ} 0 1 = cc in omega arith
+not_nothing (Err r) e = let z : ◌≡◌ {A = ℕ} 0 1 = cc in omega arith
 
-still_nothing : (l : List ℕ) (r : Read) (k : ℕ) → argument_after l r k ≡ Nothing → r ≡ Nothing
-unfolding argument_after
-still_nothing l (Found g) k e = absurd (not_nothing l g k e)
-still_nothing l Nothing k e = refl
-still_nothing l (Refused n) k e = e
-
-no_function : (n : Number) → function_read n ≡ Nothing → ⊥
-unfolding function_read
-no_function (Whole f next) e = go (eqb (arity_of f) 0) e
-  where
-    go : (t : Bool) → cond t (Refused unknown_function) (Found (begun f next)) ≡ Nothing → ⊥
-    go true e = let z : ◌≡◌ {A = ℕ} 0 1 = cc in omega arith
-    go false e = let z : ◌≡◌ {A = ℕ} 0 1 = cc in omega arith
-no_function (NoNumber n) e = let z : ◌≡◌ {A = ℕ} 0 1 = cc in omega arith
-
-pub nothing_left : (l : List ℕ) (at : ℕ) → read_at l at ≡ Nothing → length l ≤ at
-unfolding read_at job_at
+pub nothing_left : (l : List ℕ) (at : ℕ) → read_at l at ≡ Ok None → length l ≤ at
+unfolding read_at
 nothing_left l at e = go (ltb at (length l)) refl e
   where
-    go : (t : Bool) → ltb at (length l) ≡ t → cond t (job_at l at) Nothing ≡ Nothing → length l ≤ at
-    go true t e =
-        absurd
-        (no_function (number_at l at) (still_nothing l _ 0 (still_nothing l _ 1 (still_nothing l _ 2 (still_nothing l _ 3 e)))))
+    go : (t : Bool) → ltb at (length l) ≡ t → cond t (found (job_at l at)) (Ok None) ≡ Ok None → length l ≤ at
+    go true t e = absurd (not_nothing (job_at l at) e)
     go false t e = ltb-false at (length l) t
 
 -- the jobs are proper, and their bytes are those from the place on
@@ -110,7 +71,7 @@ bytes_on :
     → ((next : ℕ) (ks : List Job) → length l - next < most → read_from most l next ≡ jobs ks → Were l next ks)
     → read_on at r (read_from most l) ≡ jobs js → Were l at js
 unfolding read_on list_bytes with_job job_length
-bytes_on l at most (Found got) js b e h more f = go (read_from most l got.next) refl f
+bytes_on l at most (Ok (Some got)) js b e h more f = go (read_from most l got.next) refl f
   where
     r : (at < length l) × Is l at got
     r = read_is l at b got e
@@ -127,11 +88,11 @@ bytes_on l at most (Found got) js b e h more f = go (read_from most l got.next) 
         } in
         subst (λ (x : List Job). Were l at x) z made
     go (stopped ks n m) p q = let z : ◌≡◌ {A = ℕ} 0 1 = cc in absurd (omega arith)
-bytes_on l at most Nothing js b e h more f =
+bytes_on l at most (Ok None) js b e h more f =
     let z : [] ≡ js = cc in
     let made : Were l at [] = record { proper = tt; bytes = drop_of_length-le l {i = at} (nothing_left l at e) } in
     subst (λ (x : List Job). Were l at x) z made
-bytes_on l at most (Refused n) js b e h more f = let z : ◌≡◌ {A = ℕ} 0 1 = cc in absurd (omega arith)
+bytes_on l at most (Err n) js b e h more f = let z : ◌≡◌ {A = ℕ} 0 1 = cc in absurd (omega arith)
 
 from_bytes : (most : ℕ) (l : List ℕ) (at : ℕ) (js : List Job) → Bytes l → length l - at < most → read_from most l at ≡ jobs js
     → Were l at js

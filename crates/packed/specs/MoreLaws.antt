@@ -1,19 +1,20 @@
 -- "14 is given where the bytes seen so far are good": what is read otherwise stays so, whatever comes after. Assumes nothing.
+use Rattle.refusals.specs.declared.Refusal.{Refusal}
+use Rattle.refusals.specs.declared.Refusal.TheVariants.{ListCut, NumberBad, UnknownFunction}
+use Rattle.std.specs.Prelude.{None, Result, Ok, Err}
 use Rattle.std.specs.Prelude.{ℕ, zero, suc, ◌+◌, ◌-◌, ◌*◌, ◌≤◌, ◌<◌, ◌≡◌, refl, Bool, true, false, cond, List, [], ◌∷◌, ◌++◌, eqb, ltb, length, drop}
-use Rattle.std.proofs.Common.{ap, ◌∙◌, ⊎_elim, arith, lt-ltb, length-append, length-drop, drop_of_length-le}
+use Rattle.std.proofs.Common.{sym, ap, ◌∙◌, ⊎_elim, arith, lt-ltb, length-append, length-drop, drop_of_length-le}
 use Rattle.std.proofs.lemmas.List.{drop-append-le}
 use Rattle.algebra.specs.Order.{lt_or_le}
-use Rattle.packed_number.specs.Numbers.{list_cut, number_bad, number_from, number_at, last_group}
-use Rattle.packed.specs.Jobs.{unknown_function, arity_of}
-use Rattle.packed.specs.Reading.{begun, function_read, argument_read, argument_at, argument_after, job_at, read_at}
+use Rattle.packed_number.specs.Numbers.{whole, number_from, number_at, last_group}
+use Rattle.packed.specs.Jobs.{arity_of, with_argument}
+use Rattle.packed.specs.Reading.{begun, function_read, argument_read, argument_at, argument_after, job_at, Read, found, read_at}
+use Rattle.packed_number.proofs.NumberLaws.{whole_next}
 use Rattle.packed_number.specs.declared.Number.{Number}
-use Rattle.packed_number.specs.declared.Number.TheVariants.{Whole, Refused as NoNumber}
 use Rattle.packed.specs.declared.read.Got.{Got}
-use Rattle.packed.specs.declared.read.Read.{Read}
-use Rattle.packed.specs.declared.read.Read.TheVariants.{Found, Nothing, Refused}
 
 -- ---- a number
-from_more : (left w v at : ℕ) (xs ys : List ℕ) → (number_from left w v at xs ≡ NoNumber list_cut → ⊥)
+from_more : (left w v at : ℕ) (xs ys : List ℕ) → (number_from left w v at xs ≡ Err ListCut → ⊥)
     → number_from left w v at (xs ++ ys) ≡ number_from left w v at xs
 unfolding number_from
 from_more zero w v at [] ys h = absurd (h refl)
@@ -24,8 +25,8 @@ from_more (suc left) w v at (b ∷ xs) ys h =
   where
     go :
         (t : Bool)
-        → (cond t (last_group w v (at + 1) b) (number_from left (w * 128) (v + (b - 128) * w) (at + 1) xs) ≡ NoNumber list_cut → ⊥)
-        → ((number_from left (w * 128) (v + (b - 128) * w) (at + 1) xs ≡ NoNumber list_cut → ⊥)
+        → (cond t (last_group w v (at + 1) b) (number_from left (w * 128) (v + (b - 128) * w) (at + 1) xs) ≡ Err ListCut → ⊥)
+        → ((number_from left (w * 128) (v + (b - 128) * w) (at + 1) xs ≡ Err ListCut → ⊥)
         → number_from left (w * 128) (v + (b - 128) * w) (at + 1) (xs ++ ys)
         ≡ number_from left (w * 128) (v + (b - 128) * w) (at + 1) xs)
         → cond t (last_group w v (at + 1) b) (number_from left (w * 128) (v + (b - 128) * w) (at + 1) (xs ++ ys))
@@ -33,12 +34,12 @@ from_more (suc left) w v at (b ∷ xs) ys h =
     go true h more = refl
     go false h more = more h
 
-from_none : (left w v at : ℕ) → number_from left w v at [] ≡ NoNumber list_cut
+from_none : (left w v at : ℕ) → number_from left w v at [] ≡ Err ListCut
 unfolding number_from
 from_none zero w v at = refl
 from_none (suc left) w v at = refl
 
-number_more : (l m : List ℕ) (at : ℕ) → (number_at l at ≡ NoNumber list_cut → ⊥) → number_at (l ++ m) at ≡ number_at l at
+number_more : (l m : List ℕ) (at : ℕ) → (number_at l at ≡ Err ListCut → ⊥) → number_at (l ++ m) at ≡ number_at l at
 unfolding number_at
 number_more l m at h = ⊎_elim beyond inside (lt_or_le (length l) at)
   where
@@ -50,40 +51,46 @@ number_more l m at h = ⊎_elim beyond inside (lt_or_le (length l) at)
 
 -- ---- a job
 -- it is not cut so far; a refusal stays through the arguments that come after it
+abbrev Uncut : Result Got Refusal → Type 0
+Uncut r = r ≡ Err ListCut → ⊥
+
 abbrev pub Good : Read → Type 0
-Good r = r ≡ Refused list_cut → ⊥
+Good r = r ≡ Err ListCut → ⊥
 
-before : (l : List ℕ) (r : Read) (k : ℕ) → Good (argument_after l r k) → Good r
+uncut : (r : Result Got Refusal) → Good (found r) → Uncut r
+unfolding found
+uncut r h e = h (ap found e)
+
+before : (l : List ℕ) (r : Result Got Refusal) (k : ℕ) → Uncut (argument_after l r k) → Uncut r
 unfolding argument_after
-before l (Found g) k h e = let z : ◌≡◌ {A = ℕ} 0 1 = cc in omega arith
-before l Nothing k h e = let z : ◌≡◌ {A = ℕ} 0 1 = cc in omega arith
-before l (Refused n) k h e = h e
+before l (Ok g) k h e = let z : ◌≡◌ {A = ℕ} 0 1 = cc in omega arith
+before l (Err n) k h e = h e
 
-argument_more : (l m : List ℕ) (g : Got) (k : ℕ) → Good (argument_at l g k) → argument_at (l ++ m) g k ≡ argument_at l g k
+argument_more : (l m : List ℕ) (g : Got) (k : ℕ) → Uncut (argument_at l g k) → argument_at (l ++ m) g k ≡ argument_at l g k
 unfolding argument_at argument_read
 argument_more l m g k h = go (ltb k (arity_of g.job.function)) h
   where
     go :
-        (t : Bool) → Good (cond t (argument_read g.job k (number_at l g.next)) (Found g))
-        → cond t (argument_read g.job k (number_at (l ++ m) g.next)) (Found g)
-        ≡ cond t (argument_read g.job k (number_at l g.next)) (Found g)
+        (t : Bool) → Uncut (cond t (argument_read g.job k (number_at l g.next)) (Ok g))
+        → cond t (argument_read g.job k (number_at (l ++ m) g.next)) (Ok g)
+        ≡ cond t (argument_read g.job k (number_at l g.next)) (Ok g)
     go true h =
-        ap (λ (n : Number). argument_read g.job k n) (number_more l m g.next
-        (λ e. h (ap (λ (n : Number). argument_read g.job k n) e)))
+        ap (λ (n : Result Number Refusal). argument_read g.job k n) (number_more l m g.next
+        (λ e. h (ap (λ (n : Result Number Refusal). argument_read g.job k n) e)))
     go false h = refl
 
-after_more : (l m : List ℕ) (r : Read) (k : ℕ) → Good (argument_after l r k) → argument_after (l ++ m) r k ≡ argument_after l r k
+after_more : (l m : List ℕ) (r : Result Got Refusal) (k : ℕ) → Uncut (argument_after l r k)
+    → argument_after (l ++ m) r k ≡ argument_after l r k
 unfolding argument_after
-after_more l m (Found g) k h = argument_more l m g k h
-after_more l m Nothing k h = refl
-after_more l m (Refused n) k h = refl
+after_more l m (Ok g) k h = argument_more l m g k h
+after_more l m (Err n) k h = refl
 
-function_more : (l m : List ℕ) (at : ℕ) → Good (function_read (number_at l at))
+function_more : (l m : List ℕ) (at : ℕ) → Uncut (function_read (number_at l at))
     → function_read (number_at (l ++ m) at) ≡ function_read (number_at l at)
 unfolding function_read
 function_more l m at h = ap function_read (number_more l m at (λ e. h (ap function_read e)))
 
-job_more : (l m : List ℕ) (at : ℕ) → Good (job_at l at) → job_at (l ++ m) at ≡ job_at l at
+job_more : (l m : List ℕ) (at : ℕ) → Uncut (job_at l at) → job_at (l ++ m) at ≡ job_at l at
 unfolding job_at
 job_more l m at h =
     let g2 = before l _ 3 h in
@@ -97,88 +104,92 @@ pub read_more : (l m : List ℕ) (at : ℕ) → at < length l → Good (read_at 
 unfolding read_at
 read_more l m at i h =
     rw (lt-ltb at (length l) i, lt-ltb at (length (l ++ m)) (rw length-append (omega arith)))
-    (job_more l m at (rw (lt-ltb at (length l) i) at h))
+    (ap found (job_more l m at (uncut (job_at l at) (rw (lt-ltb at (length l) i) at h))))
 
 -- ---- how much may be waited for
-last_whole : (w v next b : ℕ) → last_group w v next b ≡ NoNumber list_cut → ⊥
+last_whole : (w v next b : ℕ) → last_group w v next b ≡ Err ListCut → ⊥
 unfolding last_group
 last_whole w v next b = go (eqb b 0) (ltb 1 w)
   where
-    go : (t u : Bool) → cond t (cond u (NoNumber number_bad) (Whole v next)) (Whole (v + b * w) next) ≡ NoNumber list_cut → ⊥
-    go true true e = let z : ◌≡◌ {A = ℕ} number_bad list_cut = cc in omega arith
+    go : (t u : Bool) → cond t (cond u (Err NumberBad) (whole v next)) (whole (v + b * w) next) ≡ Err ListCut → ⊥
+    go true true e = let z : ◌≡◌ {A = ℕ} 0 1 = cc in omega arith
     go true false e = let z : ◌≡◌ {A = ℕ} 0 1 = cc in omega arith
     go false u e = let z : ◌≡◌ {A = ℕ} 0 1 = cc in omega arith
 
-last_next : (w v at b x next : ℕ) → last_group w v at b ≡ Whole x next → next ≡ at
+last_next : (w v at b x next : ℕ) → last_group w v at b ≡ whole x next → next ≡ at
 unfolding last_group
 last_next w v at b x next = go (eqb b 0) (ltb 1 w)
   where
-    go : (t u : Bool) → cond t (cond u (NoNumber number_bad) (Whole v at)) (Whole (v + b * w) at) ≡ Whole x next → next ≡ at
+    go : (t u : Bool) → cond t (cond u (Err NumberBad) (whole v at)) (whole (v + b * w) at) ≡ whole x next → next ≡ at
     go true true e = let z : ◌≡◌ {A = ℕ} 0 1 = cc in absurd (omega arith)
-    go true false e = cc
-    go false u e = cc
+    go true false e = sym (whole_next e)
+    go false u e = sym (whole_next e)
 
-from_cut : (left w v at : ℕ) (xs : List ℕ) → number_from left w v at xs ≡ NoNumber list_cut → length xs ≤ left
+from_cut : (left w v at : ℕ) (xs : List ℕ) → number_from left w v at xs ≡ Err ListCut → length xs ≤ left
 unfolding number_from
 from_cut zero w v at [] e = omega arith
 from_cut zero w v at (b ∷ xs) e = go (eqb b 1) e
   where
-    go : (t : Bool) → cond t (Whole (v + w) (at + 1)) (NoNumber number_bad) ≡ NoNumber list_cut → length (b ∷ xs) ≤ 0
+    go : (t : Bool) → cond t (whole (v + w) (at + 1)) (Err NumberBad) ≡ Err ListCut → length (b ∷ xs) ≤ 0
     go true e = let z : ◌≡◌ {A = ℕ} 0 1 = cc in absurd (omega arith)
-    go false e = let z : ◌≡◌ {A = ℕ} number_bad list_cut = cc in absurd (omega arith)
+    go false e = let z : ◌≡◌ {A = ℕ} 0 1 = cc in absurd (omega arith)
 from_cut (suc left) w v at [] e = omega arith
 from_cut (suc left) w v at (b ∷ xs) e = go (ltb b 128) e (from_cut left (w * 128) (v + (b - 128) * w) (at + 1) xs)
   where
     go :
         (t : Bool) → cond t (last_group w v (at + 1) b) (number_from left (w * 128) (v + (b - 128) * w) (at + 1) xs)
-        ≡ NoNumber list_cut
-        → (number_from left (w * 128) (v + (b - 128) * w) (at + 1) xs ≡ NoNumber list_cut → length xs ≤ left)
+        ≡ Err ListCut
+        → (number_from left (w * 128) (v + (b - 128) * w) (at + 1) xs ≡ Err ListCut → length xs ≤ left)
         → suc (length xs) ≤ suc left
     go true e more = absurd (last_whole w v (at + 1) b e)
     go false e more = omega (arith, more e)
 
-from_next : (left w v at : ℕ) (xs : List ℕ) (x next : ℕ) → number_from left w v at xs ≡ Whole x next → next ≤ at + suc left
+from_next : (left w v at : ℕ) (xs : List ℕ) (x next : ℕ) → number_from left w v at xs ≡ whole x next → next ≤ at + suc left
 unfolding number_from
 from_next zero w v at [] x next e = let z : ◌≡◌ {A = ℕ} 0 1 = cc in absurd (omega arith)
 from_next zero w v at (b ∷ xs) x next e = go (eqb b 1) e
   where
-    go : (t : Bool) → cond t (Whole (v + w) (at + 1)) (NoNumber number_bad) ≡ Whole x next → next ≤ at + 1
-    go true e = let z : at + 1 ≡ next = cc in omega arith
+    go : (t : Bool) → cond t (whole (v + w) (at + 1)) (Err NumberBad) ≡ whole x next → next ≤ at + 1
+    go true e = let z : at + 1 ≡ next = whole_next e in omega arith
     go false e = let z : ◌≡◌ {A = ℕ} 0 1 = cc in absurd (omega arith)
 from_next (suc left) w v at [] x next e = let z : ◌≡◌ {A = ℕ} 0 1 = cc in absurd (omega arith)
 from_next (suc left) w v at (b ∷ xs) x next e = go (ltb b 128) e (from_next left (w * 128) (v + (b - 128) * w) (at + 1) xs x next)
   where
     go :
-        (t : Bool) → cond t (last_group w v (at + 1) b) (number_from left (w * 128) (v + (b - 128) * w) (at + 1) xs) ≡ Whole x next
-        → (number_from left (w * 128) (v + (b - 128) * w) (at + 1) xs ≡ Whole x next → next ≤ at + 1 + suc left)
+        (t : Bool) → cond t (last_group w v (at + 1) b) (number_from left (w * 128) (v + (b - 128) * w) (at + 1) xs)
+        ≡ whole x next
+        → (number_from left (w * 128) (v + (b - 128) * w) (at + 1) xs ≡ whole x next → next ≤ at + 1 + suc left)
         → next ≤ at + suc (suc left)
     go true e more = omega (arith, last_next w v (at + 1) b x next e)
     go false e more = omega (arith, more e)
 
-number_cut : (l : List ℕ) (at : ℕ) → number_at l at ≡ NoNumber list_cut → length l ≤ at + 9
+number_cut : (l : List ℕ) (at : ℕ) → number_at l at ≡ Err ListCut → length l ≤ at + 9
 unfolding number_at
 number_cut l at e = omega (arith, length-drop at l, from_cut 9 1 0 at (drop at l) e)
 
-number_next : (l : List ℕ) (at x next : ℕ) → number_at l at ≡ Whole x next → next ≤ at + 10
+number_next : (l : List ℕ) (at x next : ℕ) → number_at l at ≡ whole x next → next ≤ at + 10
 unfolding number_at
 number_next l at x next e = from_next 9 1 0 at (drop at l) x next e
 
 -- cut so far only where so few bytes are there; and a job found ends by there
-record Near (l : List ℕ) (b : ℕ) (r : Read) : Type 0 where
-  cut : r ≡ Refused list_cut → length l ≤ b
-  found : (g : Got) → r ≡ Found g → g.next ≤ b
+record Near (l : List ℕ) (b : ℕ) (r : Result Got Refusal) : Type 0 where
+  cut : r ≡ Err ListCut → length l ≤ b
+  found : (g : Got) → r ≡ Ok g → g.next ≤ b
 
 argument_near : (l : List ℕ) (b : ℕ) (g : Got) (k : ℕ) → g.next ≤ b → Near l (b + 10) (argument_at l g k)
 unfolding argument_at argument_read
 argument_near l b g k h = go (ltb k (arity_of g.job.function)) (number_at l g.next) refl
   where
-    go : (t : Bool) (n : Number) → number_at l g.next ≡ n → Near l (b + 10) (cond t (argument_read g.job k n) (Found g))
-    go true (Whole v next) e = record {
+    go : (t : Bool) (n : Result Number Refusal) → number_at l g.next ≡ n
+        → Near l (b + 10) (cond t (argument_read g.job k n) (Ok g))
+    go true (Ok n) e = record {
       cut = λ f. let z : ◌≡◌ {A = ℕ} 0 1 = cc in absurd (omega arith);
-      found = λ g' f. let z : next ≡ g'.next = cc in omega (arith, number_next l g.next v next e);
+      found = λ g' f. let y : ◌≡◌ {A = Got} (record { job = with_argument g.job k n.value; next = n.next }) g' = cc in
+          let z : n.next ≡ g'.next = ap (λ (x : Got). x.next) y in
+          omega (arith, number_next l g.next n.value n.next e);
     }
-    go true (NoNumber n) e = record {
-      cut = λ f. let z : n ≡ list_cut = cc in omega (arith, number_cut l g.next (e ∙ ap NoNumber z));
+    go true (Err n) e = record {
+      cut = λ f. let z : n ≡ ListCut = cc in omega (arith, number_cut l g.next (e ∙ ap (λ (r : Refusal). Err r) z));
       found = λ g' f. let z : ◌≡◌ {A = ℕ} 0 1 = cc in absurd (omega arith);
     }
     go false n e = record {
@@ -186,38 +197,42 @@ argument_near l b g k h = go (ltb k (arity_of g.job.function)) (number_at l g.ne
       found = λ g' f. let z : g ≡ g' = cc in let y : g.next ≡ g'.next = ap (λ (x : Got). x.next) z in omega arith;
     }
 
-after_near : (l : List ℕ) (b : ℕ) (r : Read) (k : ℕ) → Near l b r → Near l (b + 10) (argument_after l r k)
+after_near : (l : List ℕ) (b : ℕ) (r : Result Got Refusal) (k : ℕ) → Near l b r → Near l (b + 10) (argument_after l r k)
 unfolding argument_after
-after_near l b (Found g) k h = argument_near l b g k (h.found g refl)
-after_near l b Nothing k h = record {
-  cut = λ f. let z : ◌≡◌ {A = ℕ} 0 1 = cc in absurd (omega arith);
-  found = λ g f. let z : ◌≡◌ {A = ℕ} 0 1 = cc in absurd (omega arith);
-}
-after_near l b (Refused n) k h = record {
+after_near l b (Ok g) k h = argument_near l b g k (h.found g refl)
+after_near l b (Err n) k h = record {
   cut = λ f. omega (arith, h.cut f);
   found = λ g f. let z : ◌≡◌ {A = ℕ} 0 1 = cc in absurd (omega arith);
 }
 
-function_near : (l : List ℕ) (n : Number) → number_at l 0 ≡ n → Near l 10 (function_read n)
+function_near : (l : List ℕ) (n : Result Number Refusal) → number_at l 0 ≡ n → Near l 10 (function_read n)
 unfolding function_read begun
-function_near l (Whole f next) e = go (eqb (arity_of f) 0)
+function_near l (Ok n) e = go (eqb (arity_of n.value) 0)
   where
-    go : (t : Bool) → Near l 10 (cond t (Refused unknown_function) (Found (begun f next)))
+    go : (t : Bool) → Near l 10 (cond t (Err UnknownFunction) (Ok (begun n.value n.next)))
     go true = record {
-      cut = λ f. let z : ◌≡◌ {A = ℕ} unknown_function list_cut = cc in absurd (omega arith);
+      cut = λ f. let z : ◌≡◌ {A = ℕ} 0 1 = cc in absurd (omega arith);
       found = λ g f. let z : ◌≡◌ {A = ℕ} 0 1 = cc in absurd (omega arith);
     }
     go false = record {
       cut = λ f. let z : ◌≡◌ {A = ℕ} 0 1 = cc in absurd (omega arith);
-      found = λ g h. let z : next ≡ g.next = cc in omega (arith, number_next l 0 f next e);
+      found = λ g h.
+          let y : begun n.value n.next ≡ g = cc in
+          let z : n.next ≡ g.next = ap (λ (x : Got). x.next) y in
+          omega (arith, number_next l 0 n.value n.next e);
     }
-function_near l (NoNumber n) e = record {
-  cut = λ f. let z : n ≡ list_cut = cc in omega (arith, number_cut l 0 (e ∙ ap NoNumber z));
+function_near l (Err n) e = record {
+  cut = λ f. let z : n ≡ ListCut = cc in omega (arith, number_cut l 0 (e ∙ ap (λ (r : Refusal). Err r) z));
   found = λ g f. let z : ◌≡◌ {A = ℕ} 0 1 = cc in absurd (omega arith);
 }
 
+was_cut : (r : Result Got Refusal) → found r ≡ Err ListCut → r ≡ Err ListCut
+unfolding found
+was_cut (Ok got) e = let z : ◌≡◌ {A = ℕ} 0 1 = cc in absurd (omega arith)
+was_cut (Err r) e = let z : r ≡ ListCut = cc in ap (λ (r : Refusal). Err r) z
+
 -- no more than fifty bytes are ever waited over
-pub cut_short : (l : List ℕ) → read_at l 0 ≡ Refused list_cut → length l ≤ 50
+pub cut_short : (l : List ℕ) → read_at l 0 ≡ Err ListCut → length l ≤ 50
 unfolding read_at job_at
 cut_short l e = go (ltb 0 (length l)) refl e
   where
@@ -225,6 +240,6 @@ cut_short l e = go (ltb 0 (length l)) refl e
     near = after_near l 40 _ 3 (after_near l 30 _ 2 (after_near l 20 _ 1
         (after_near l 10 _ 0 (function_near l (number_at l 0) refl))))
 
-    go : (t : Bool) → ltb 0 (length l) ≡ t → cond t (job_at l 0) Nothing ≡ Refused list_cut → length l ≤ 50
-    go true t e = near.cut e
+    go : (t : Bool) → ltb 0 (length l) ≡ t → cond t (found (job_at l 0)) (Ok None) ≡ Err ListCut → length l ≤ 50
+    go true t e = near.cut (was_cut (job_at l 0) e)
     go false t e = let z : ◌≡◌ {A = ℕ} 0 1 = cc in absurd (omega arith)

@@ -2,9 +2,6 @@
 ghost use Rattle.std.specs.Prelude.{◌≡◌};
 ghost use Rattle.packed.specs.Jobs.{arity_of, argument_of, with_argument};
 
-// Document 02's number for no: a function that the work lists do not know.
-pub const UNKNOWN_FUNCTION: u32 = 16;
-
 #[derive(Clone, Copy)]
 pub struct Job {
     pub function: u64,
@@ -14,83 +11,45 @@ pub struct Job {
     pub d: u64,
 }
 
-// How many arguments the function of this number has; 0 for an unknown one.
+// How many arguments the function of this number has; 0 for an unknown one. It stays a number: it is the file's, and a list may
+// hold any.
+#[tactic(auto, unfolding(crate::specs::Jobs::arity_of))]
 pub fn arity(function: u64) -> usize
     ensures { result ≡ arity_of function }
 {
-    if function == 1 {
-        return 3;
+    match function {
+        1 => 3,
+        2 => 2,
+        3 => 3,
+        4 => 3,
+        5 => 4,
+        6 => 4,
+        _ => 0,
     }
-    if function == 2 {
-        return 2;
-    }
-    if function == 3 {
-        return 3;
-    }
-    if function == 4 {
-        return 3;
-    }
-    if function == 5 {
-        return 4;
-    }
-    if function == 6 {
-        return 4;
-    }
-    0
 }
 
 // The argument at k, counted from 0.
+#[tactic(auto, unfolding(crate::specs::Jobs::argument_of))]
 pub fn argument_of(job: Job, k: usize) -> u64
     ensures { result ≡ argument_of job k }
 {
-    if k == 0 {
-        return job.a;
+    match k {
+        0 => job.a,
+        1 => job.b,
+        2 => job.c,
+        _ => job.d,
     }
-    if k == 1 {
-        return job.b;
-    }
-    if k == 2 {
-        return job.c;
-    }
-    job.d
 }
 
 // The job with another argument at k.
+#[tactic(auto, unfolding(crate::specs::Jobs::with_argument))]
 pub fn with_argument(job: Job, k: usize, value: u64) -> Job
     ensures { result ≡ with_argument job k value }
 {
-    if k == 0 {
-        return Job {
-            function: job.function,
-            a: value,
-            b: job.b,
-            c: job.c,
-            d: job.d,
-        };
-    }
-    if k == 1 {
-        return Job {
-            function: job.function,
-            a: job.a,
-            b: value,
-            c: job.c,
-            d: job.d,
-        };
-    }
-    if k == 2 {
-        return Job {
-            function: job.function,
-            a: job.a,
-            b: job.b,
-            c: value,
-            d: job.d,
-        };
-    }
-    Job {
-        function: job.function,
-        a: job.a,
-        b: job.b,
-        c: job.c,
-        d: value,
+    match k {
+        0 => Job { a: value, ..job },
+        1 => Job { b: value, ..job },
+        2 => Job { c: value, ..job },
+        _ => Job { d: value, ..job },
     }
 }

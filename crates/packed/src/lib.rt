@@ -8,5 +8,5 @@ mod read;
 mod write;
 
 pub use crate::jobs::{Job, argument_of, arity};
-pub use crate::read::{Got, Read, read_job};
-pub use crate::write::{Written, job_length, write_job};
+pub use crate::read::{Got, read_job};
+pub use crate::write::{job_length, write_job};

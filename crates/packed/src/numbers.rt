@@ -8,10 +8,9 @@ pub fn put_number(n: u64, out: &mut [u8], place: usize) -> usize
     requires { place + length (number_bytes n) ≤ length out.old }
     ensures { Put out.old place (number_bytes n) out.new result }
 {
-    let mut left: usize = 9;
     let mut rest = n;
     let mut at = place;
-    while 0 < left {
+    for left in (0..9usize).rev() {
         if rest < 128 {
             out[at] = rest as u8;
             return at + 1;
@@ -19,7 +18,6 @@ pub fn put_number(n: u64, out: &mut [u8], place: usize) -> usize
         out[at] = 128 + (rest % 128) as u8;
         rest = rest / 128;
         at += 1;
-        left -= 1;
     }
     out[at] = rest as u8;
     at + 1

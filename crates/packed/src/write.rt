@@ -4,18 +4,10 @@ ghost use Rattle.writing.specs.Written.{Put};
 ghost use Rattle.packed.specs.Jobs.{argument_bytes, job_bytes, job_length};
 ghost use Rattle.packed.specs.Writing.{left_after, write_at, bytes_after};
 
-use crate::jobs::{Job, UNKNOWN_FUNCTION, argument_of, arity};
+use crate::jobs::{Job, argument_of, arity};
 use crate::numbers::put_number;
 use packed_number::number_length;
-
-// Document 02's number for no: the job is longer than what is left.
-pub const NO_ROOM: u32 = 17;
-
-#[derive(Clone, Copy)]
-pub enum Written {
-    Next(usize),
-    Refused(u32),
-}
+use refusals::Refusal;
 
 fn argument_length(job: Job, k: usize) -> usize
     ensures { result ≡ length (argument_bytes job k) }
@@ -66,15 +58,15 @@ fn left_after(length: usize, place: usize) -> usize
 }
 
 // Writes the job at a place; the place after it. Refused, no byte changes.
-pub fn write_job(bytes: &mut [u8], place: usize, job: Job) -> Written
+pub fn write_job(bytes: &mut [u8], place: usize, job: Job) -> Result<usize, Refusal>
     ensures value { result ≡ write_at (length bytes.old) place job }
     ensures bytes_after { bytes.new ≡ bytes_after result bytes.old place job }
 {
     if arity(job.function) == 0 {
-        return Written::Refused(UNKNOWN_FUNCTION);
+        return Err(Refusal::UnknownFunction);
     }
     if left_after(bytes.len(), place) < job_length(job) {
-        return Written::Refused(NO_ROOM);
+        return Err(Refusal::NoRoom);
     }
-    Written::Next(put_job(job, bytes, place))
+    Ok(put_job(job, bytes, place))
 }

@@ -1,10 +1,10 @@
 -- One group more of a number, read or written. Assumes nothing.
-use Rattle.std.specs.Prelude.{ℕ, zero, suc, ◌+◌, ◌-◌, ◌*◌, ◌/◌, ◌%◌, ◌^◌, ◌≤◌, ◌<◌, ◌≡◌, refl, List, [], ◌∷◌, length, get_or, drop}
+use Rattle.std.specs.Prelude.{ℕ, zero, suc, ◌+◌, ◌-◌, ◌*◌, ◌/◌, ◌%◌, ◌^◌, ◌≤◌, ◌<◌, ◌≡◌, refl, List, Err, [], ◌∷◌, length, get_or, drop}
 use Rattle.std.proofs.Common.{sym, mul-le-mul_right, le-mul_of_pos_right, pow-suc, add-one, arith, lt-ltb, le-ltb, eq-eqb, ne_eqb, drop_of_length-le, drop-cons}
 use Rattle.std.proofs.Math.Nat.{pow-zero}
-use Rattle.packed_number.specs.Numbers.{list_cut, number_bad, groups_of, last_group, number_from}
+use Rattle.packed_number.specs.Numbers.{whole, groups_of, last_group, number_from}
 use Rattle.packed_number.proofs.NumberLaws.{power_some, group_adds}
-use Rattle.packed_number.specs.declared.Number.TheVariants.{Whole, Refused}
+use Rattle.refusals.specs.declared.Refusal.TheVariants.{ListCut, NumberBad}
 use Rattle.packed_number.specs.Groups.{tenth}
 
 -- ---- the weight of a group and the value before it
@@ -24,7 +24,7 @@ pub value_more : (w v g : ℕ) → v < w → g < 128 → v + g * w < w * 128
 value_more w v g h k = let z : g ≤ 127 = omega arith in omega (arith, mul-le-mul_right w z)
 
 -- ---- what is read
-pub read_cut : (left w v at : ℕ) (l : List ℕ) → length l ≤ at → Refused list_cut ≡ number_from left w v at (drop at l)
+pub read_cut : (left w v at : ℕ) (l : List ℕ) → length l ≤ at → Err ListCut ≡ number_from left w v at (drop at l)
 unfolding number_from
 read_cut zero w v at l h = rw (drop_of_length-le l {i = at} h)
 read_cut (suc left) w v at l h = rw (drop_of_length-le l {i = at} h)
@@ -40,12 +40,12 @@ read_more left m w v at l e h k =
     rw (e, drop-cons l at 0 h, add-one) (rw add-one at (sym (group_adds m w v at (get_or l at 0) (drop (suc at) l) k)))
 
 pub read_tenth : (left w v at : ℕ) (l : List ℕ) → left ≡ 0 → at < length l → get_or l at 0 ≡ 1
-    → Whole (v + w) (at + 1) ≡ number_from left w v at (drop at l)
+    → whole (v + w) (at + 1) ≡ number_from left w v at (drop at l)
 unfolding number_from
 read_tenth left w v at l e h k = rw (e, drop-cons l at 0 h, eq-eqb (get_or l at 0) 1 k)
 
 pub read_beyond : (left w v at : ℕ) (l : List ℕ) → left ≡ 0 → at < length l → (get_or l at 0 ≡ 1 → ⊥)
-    → Refused number_bad ≡ number_from left w v at (drop at l)
+    → Err NumberBad ≡ number_from left w v at (drop at l)
 unfolding number_from
 read_beyond left w v at l e h k = rw (e, drop-cons l at 0 h, ne_eqb (get_or l at 0) 1 k)
 

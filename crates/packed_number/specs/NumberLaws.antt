@@ -1,11 +1,7 @@
 -- A number that is written is read back, whatever follows it, and what is read whole is how that number is written. Assumes
 -- nothing.
-use Rattle.std.specs.Prelude.{ℕ, zero, suc, ◌+◌, ◌-◌, ◌*◌, ◌/◌, ◌%◌, ◌^◌, ◌≤◌, ◌<◌, ◌≡◌, refl, Bool, true, false, cond, List, [], ◌∷◌, ◌++◌, eqb, ltb, length, drop}
-use Rattle.std.proofs.Common.{sym, ap, ap₂, ◌∙◌, pow-suc, pos_of_ne-zero, arith, eqb-true, ltb-true, ltb-false, lt-ltb, le-ltb, drop-drop}
-use Rattle.std.proofs.Math.Nat.{pow-zero}
-use Rattle.std.proofs.lemmas.Bool.{eqb-false}
-use Rattle.packed_number.specs.Numbers.{list_cut, number_bad, groups_of, number_bytes, last_group, number_from, number_at}
-use Rattle.packed_number.specs.declared.Number.TheVariants.{Whole, Refused}
+use Rattle.std.specs.Prelude.{ℕ, ◌+◌, ◌*◌, ◌^◌, ◌<◌, ◌≡◌, List, [], ◌∷◌, ◌++◌, length, drop}
+use Rattle.packed_number.specs.Numbers.{groups_of}
 
 -- a list of bytes
 abbrev pub Bytes : List ℕ → Type 0

@@ -19,17 +19,15 @@ pub enum Piece {
     Bits(u64),
 }
 
-// The bytes, from the last to the first; the place after them.
+// The bytes, from the last to the first; the place after them. `writing` has a loop like this for digits: each has its own text.
 fn spell(n: u64, k: usize, out: &mut [u8], at: usize) -> usize
     requires { at + k ≤ length out.old }
     ensures { Put out.old at (letters k n) out.new result }
 {
-    let mut i = k;
     let mut rest = n;
-    while i > 0 {
-        i -= 1;
+    for i in (0..k).rev() {
         out[at + i] = (rest % 256) as u8;
-        rest = rest / 256;
+        rest /= 256;
     }
     at + k
 }
@@ -44,6 +42,7 @@ fn put_letters(n: u64, k: usize, out: &mut [u8], at: usize) -> usize
 }
 
 // Writes a piece, if there is room for the longest of its form; the place after it.
+#[tactic(auto, unfolding(crate::specs::Pieces::piece_text, crate::specs::Pieces::room_of))]
 pub fn put_piece(piece: Piece, out: &mut [u8], at: usize) -> usize
     ensures { Tried (room_of piece) out.old at (piece_text piece) out.new result }
 {

@@ -22,9 +22,7 @@ pub fn polynomial(y: f64) -> f64
     ensures { result ≡ horner y }
 {
     let mut sum = COEFFICIENTS[8];
-    let mut k: usize = 8;
-    while 0 < k {
-        k -= 1;
+    for k in (0..8usize).rev() {
         sum = sum * y + COEFFICIENTS[k];
     }
     sum

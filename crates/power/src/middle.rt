@@ -8,7 +8,7 @@ ghost use Rattle.power.specs.Parts.{cut_at, Held, Told};
 
 use crate::bound::{Side, quick};
 use crate::exact::exact;
-use limbs::Order;
+use std::cmp::Ordering;
 
 const ONE: u64 = 0x10_0000_0000_0000; // 2 ^ 52
 
@@ -42,9 +42,9 @@ fn past(n: u64, y: u64, r: u64) -> bool
 {
     let e = exponent(r);
     match exact(n, 2 * (r - e * ONE) + 1, 3 * y + e) {
-        Order::Less => true,
-        Order::Equal => r % 2 == 1,
-        Order::Greater => false,
+        Ordering::Less => true,
+        Ordering::Equal => r % 2 == 1,
+        Ordering::Greater => false,
     }
 }
 

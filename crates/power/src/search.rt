@@ -50,10 +50,8 @@ fn digits(n: u64, y: u64) -> u64
     ensures { Answer (cut_at n y) result }
 {
     let mut found: u64 = 0;
-    let mut turns: u64 = 63;
-    while 0 < turns {
-        turns -= 1;
-        let next = found + (1 << turns);
+    for turn in (0..63u64).rev() {
+        let next = found + (1 << turn);
         if reaches(n, y, next) {
             found = next;
         }
@@ -79,14 +77,14 @@ pub fn search(n: u64, y: u64, r: u64) -> Pattern
             way: Way::Product,
         };
     }
-    let before = std::num::wrapping_sub_u64(r, 1);
+    let before = r.wrapping_sub(1);
     if is_answer(n, y, before) {
         return Pattern {
             r: before,
             way: Way::Neighbour,
         };
     }
-    let after = std::num::wrapping_add_u64(r, 1);
+    let after = r.wrapping_add(1);
     if is_answer(n, y, after) {
         return Pattern {
             r: after,

@@ -21,35 +21,32 @@ ghost use Rattle.profile.specs.Profile.{
 
 use binary64::min;
 use carlson::answer::Answer;
-use carlson::constants::{BELOW_ZERO, NAN_GIVEN, Z_NOT_ABOVE, ZERO_GIVEN, ZEROS};
-use carlson_arguments::checks::{any_nan2, any_nan3, any_nan4, below3, both, zeros3};
+use carlson_arguments::checks::{any_nan2, any_nan3, any_nan4, below3, zeros3};
 use elliprc::elliprc;
 use elliprd::elliprd;
 use elliprf::elliprf;
 use elliprg::elliprg;
 use elliprj::elliprj_positive;
 use profile_arguments::{plus_zero, sized2, sized3, sized4};
+use refusals::Refusal;
 use sorting::{Triple, rise_xy, rising};
-
-// Document 02, 2026-14: size outside the profile, infinities included.
-const OUTSIDE_PROFILE: u32 = 23;
 
 fn rc_plain(x: f64, y: f64) -> Answer
     ensures { result ≡ rc_plain x y }
 {
     if x < 0.0 {
-        return Answer::Refused(BELOW_ZERO);
+        return Err(Refusal::BelowZero);
     }
     if y == 0.0 {
-        return Answer::Refused(ZERO_GIVEN);
+        return Err(Refusal::ZeroGiven);
     }
     if any_nan2(x, y) {
-        return Answer::Refused(NAN_GIVEN);
+        return Err(Refusal::NanGiven);
     }
     if sized2(x, y) {
         return elliprc(x, y);
     }
-    Answer::Refused(OUTSIDE_PROFILE)
+    Err(Refusal::OutsideProfile)
 }
 
 fn rf_upward(x: f64, y: f64, z: f64) -> Answer
@@ -63,18 +60,18 @@ fn rf_plain(x: f64, y: f64, z: f64) -> Answer
     ensures { result ≡ rf_plain x y z }
 {
     if any_nan3(x, y, z) {
-        return Answer::Refused(NAN_GIVEN);
+        return Err(Refusal::NanGiven);
     }
     if below3(x, y, z) {
-        return Answer::Refused(BELOW_ZERO);
+        return Err(Refusal::BelowZero);
     }
     if zeros3(x, y, z) {
-        return Answer::Refused(ZEROS);
+        return Err(Refusal::Zeros);
     }
     if sized3(x, y, z) {
         return rf_upward(x, y, z);
     }
-    Answer::Refused(OUTSIDE_PROFILE)
+    Err(Refusal::OutsideProfile)
 }
 
 fn rd_upward(x: f64, y: f64, z: f64) -> Answer
@@ -84,40 +81,41 @@ fn rd_upward(x: f64, y: f64, z: f64) -> Answer
     elliprd(t.x, t.y, t.z)
 }
 
+#[tactic(auto, unfolding(crate::specs::Profile::rd_plain))]
 fn rd_plain(x: f64, y: f64, z: f64) -> Answer
     ensures { result ≡ rd_plain x y z }
 {
     if min(x, y) < 0.0 {
-        return Answer::Refused(BELOW_ZERO);
+        return Err(Refusal::BelowZero);
     }
-    if both(x == 0.0, y == 0.0) {
-        return Answer::Refused(ZEROS);
+    if x == 0.0 && y == 0.0 {
+        return Err(Refusal::Zeros);
     }
     if z <= 0.0 {
-        return Answer::Refused(Z_NOT_ABOVE);
+        return Err(Refusal::ZNotAbove);
     }
     if any_nan3(x, y, z) {
-        return Answer::Refused(NAN_GIVEN);
+        return Err(Refusal::NanGiven);
     }
     if sized3(x, y, z) {
         return rd_upward(x, y, z);
     }
-    Answer::Refused(OUTSIDE_PROFILE)
+    Err(Refusal::OutsideProfile)
 }
 
 fn rg_plain(x: f64, y: f64, z: f64) -> Answer
     ensures { result ≡ rg_plain x y z }
 {
     if below3(x, y, z) {
-        return Answer::Refused(BELOW_ZERO);
+        return Err(Refusal::BelowZero);
     }
     if any_nan3(x, y, z) {
-        return Answer::Refused(NAN_GIVEN);
+        return Err(Refusal::NanGiven);
     }
     if sized3(x, y, z) {
         return elliprg(x, y, z);
     }
-    Answer::Refused(OUTSIDE_PROFILE)
+    Err(Refusal::OutsideProfile)
 }
 
 fn rj_upward(x: f64, y: f64, z: f64, p: f64) -> Answer
@@ -131,21 +129,21 @@ fn rj_plain(x: f64, y: f64, z: f64, p: f64) -> Answer
     ensures { result ≡ rj_plain x y z p }
 {
     if any_nan4(x, y, z, p) {
-        return Answer::Refused(NAN_GIVEN);
+        return Err(Refusal::NanGiven);
     }
     if p == 0.0 {
-        return Answer::Refused(ZERO_GIVEN);
+        return Err(Refusal::ZeroGiven);
     }
     if below3(x, y, z) {
-        return Answer::Refused(BELOW_ZERO);
+        return Err(Refusal::BelowZero);
     }
     if zeros3(x, y, z) {
-        return Answer::Refused(ZEROS);
+        return Err(Refusal::Zeros);
     }
     if sized4(x, y, z, p) {
         return rj_upward(x, y, z, p);
     }
-    Answer::Refused(OUTSIDE_PROFILE)
+    Err(Refusal::OutsideProfile)
 }
 
 pub fn profile_rc(x: f64, y: f64) -> Answer

@@ -1,5 +1,5 @@
 -- What the bench profile answers to a call (document 02, 2026-14): its entry's answer. Definitions only.
-use Rattle.carlson.specs.declared.answer.Answer.{Answer}
+use Rattle.carlson.specs.Answer.{Answer}
 use Rattle.cel.specs.Cel.{cel}
 use Rattle.calls.specs.declared.Call.{Call}
 use Rattle.calls.specs.declared.Call.TheVariants.{Rc, Rf, Rd, Rg, Rj, Cel}

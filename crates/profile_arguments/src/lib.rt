@@ -5,7 +5,6 @@ ghost use Rattle.std.specs.Prelude.{◌≡◌};
 ghost use Rattle.profile_arguments.specs.Arguments.{plus_zero, sized, sized2, sized3, sized4};
 
 use binary64::abs;
-use carlson_arguments::checks::both;
 
 const LEAST: f64 = 5.421010862427522e-20; // 2 ^ -64
 
@@ -21,32 +20,30 @@ pub fn plus_zero(x: f64) -> f64
     x
 }
 
+#[tactic(auto, unfolding(crate::specs::Arguments::sized))]
 fn sized(x: f64) -> bool
     ensures { result ≡ sized x }
 {
-    if x == 0.0 {
-        return true;
-    }
-    if LEAST <= abs(x) {
-        return abs(x) <= MOST;
-    }
-    false
+    x == 0.0 || (LEAST <= abs(x) && abs(x) <= MOST)
 }
 
+#[tactic(auto, unfolding(crate::specs::Arguments::sized2))]
 pub fn sized2(x: f64, y: f64) -> bool
     ensures { result ≡ sized2 x y }
 {
-    both(sized(x), sized(y))
+    sized(x) && sized(y)
 }
 
+#[tactic(auto, unfolding(crate::specs::Arguments::sized3))]
 pub fn sized3(x: f64, y: f64, z: f64) -> bool
     ensures { result ≡ sized3 x y z }
 {
-    both(sized2(x, y), sized(z))
+    sized2(x, y) && sized(z)
 }
 
+#[tactic(auto, unfolding(crate::specs::Arguments::sized4))]
 pub fn sized4(x: f64, y: f64, z: f64, p: f64) -> bool
     ensures { result ≡ sized4 x y z p }
 {
-    both(sized3(x, y, z), sized(p))
+    sized3(x, y, z) && sized(p)
 }

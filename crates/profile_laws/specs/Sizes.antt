@@ -1,20 +1,21 @@
 -- The profile's size check (document 02, 2026-14): "then 23 size outside the profile, infinities included". Where none of the
 -- base's checks on arguments refuses and the sizes do not pass, the answer is 23; where they pass it never is. And demand 1: a
 -- finite value, or one of the entry's numbers. Assumes nothing.
-use Rattle.std.specs.Prelude.{ℕ, ◌≡◌, refl, Bool, true, false, not, ◌&&◌, ◌||◌, cond, List, [], ◌∷◌, T}
+use Rattle.std.specs.Prelude.{ℕ, ◌≡◌, refl, Bool, true, false, not, ◌&&◌, ◌||◌, cond, List, [], ◌∷◌, T, Err}
 use Rattle.std.proofs.Common.{sym, subst, T_not}
 use Rattle.std.proofs.Math.Dec.{not_T}
 use Rattle.std.specs.Float.{nan, inf, binary64}
 use Rattle.std.specs.Float.Ieee.{lt, le, eq, of_bits}
 use Rattle.std.specs.Float.Ieee.Bits.{of_bits-fits}
+use Rattle.refusals.specs.Numbers.{refusal_number, refusal_numbers}
+use Rattle.refusals.specs.declared.Refusal.TheVariants.{BelowZero, NanGiven, OutsideProfile, ZNotAbove, ZeroGiven, Zeros}
 use Rattle.binary64.specs.Leaves.{absolute, minimum}
 use Rattle.binary64.specs.Operators.{bits}
-use Rattle.carlson.specs.Constants.{zero, nan_given, below_zero_number, zeros, zero_given, z_not_above}
+use Rattle.carlson.specs.Constants.{zero}
 use Rattle.carlson_arguments.specs.Checks.{any_nan2, any_nan3, any_nan4, below3, zeros_of3}
 use Rattle.carlson.specs.Only.{among, part, Only, refused, Finite}
 use Rattle.carlson.proofs.Only.{longer}
-use Rattle.carlson.specs.declared.answer.Answer.{Answer}
-use Rattle.carlson.specs.declared.answer.Answer.TheVariants.{Refused}
+use Rattle.carlson.specs.Answer.{Answer}
 use Rattle.sorting.specs.declared.Triple.{Triple}
 use Rattle.sorting.specs.Sorting.{three}
 use Rattle.sorting.specs.Permuted.{mapped}
@@ -25,7 +26,7 @@ use Rattle.units.specs.Statement.{least, most}
 use Rattle.demands.specs.Total.{rc_numbers, rf_numbers, rd_numbers, rg_numbers, rj_signed_numbers, cel_numbers}
 use Rattle.demands.proofs.Total.{rc_only, rf_only, rd_only, rg_only, rj_positive_only, cel_only}
 use Rattle.rg_order.specs.Seen.{at}
-use Rattle.profile.specs.Profile.{outside_profile, rc_plain, rf_upward, rf_plain, rd_upward, rd_plain, rg_plain, rj_upward, rj_plain}
+use Rattle.profile.specs.Profile.{rc_plain, rf_upward, rf_plain, rd_upward, rd_plain, rg_plain, rj_upward, rj_plain}
 use Rattle.profile.specs.Profile.{profile_rc, profile_rf, profile_rd, profile_rg, profile_rj}
 use Rattle.profile_arguments.specs.Arguments.{plus_zero, sized, sized2, sized3, sized4}
 use Rattle.profile_answers.specs.ProfileAnswers.{profile_of}
@@ -51,11 +52,11 @@ use Rattle.profile_laws.specs.Checks.{
 -- ---- the numbers of each entry
 -- "the base ones first where they rest on arguments alone"
 abbrev pub argument_numbers : Call → List ℕ
-argument_numbers (Rc x y) = below_zero_number ∷ zero_given ∷ nan_given ∷ []
-argument_numbers (Rf x y z) = nan_given ∷ below_zero_number ∷ zeros ∷ []
-argument_numbers (Rd x y z) = below_zero_number ∷ zeros ∷ z_not_above ∷ nan_given ∷ []
-argument_numbers (Rg x y z) = below_zero_number ∷ nan_given ∷ []
-argument_numbers (Rj x y z p) = nan_given ∷ zero_given ∷ below_zero_number ∷ zeros ∷ []
+argument_numbers (Rc x y) = refusal_numbers (BelowZero ∷ ZeroGiven ∷ NanGiven ∷ [])
+argument_numbers (Rf x y z) = refusal_numbers (NanGiven ∷ BelowZero ∷ Zeros ∷ [])
+argument_numbers (Rd x y z) = refusal_numbers (BelowZero ∷ Zeros ∷ ZNotAbove ∷ NanGiven ∷ [])
+argument_numbers (Rg x y z) = refusal_numbers (BelowZero ∷ NanGiven ∷ [])
+argument_numbers (Rj x y z p) = refusal_numbers (NanGiven ∷ ZeroGiven ∷ BelowZero ∷ Zeros ∷ [])
 -- cel is no call of the profile: the base entry alone answers
 argument_numbers (Cel kc p a b) = []
 
@@ -70,7 +71,7 @@ base_numbers (Cel kc p a b) = cel_numbers
 
 -- all that the profile's entry can give
 abbrev pub profile_numbers : Call → List ℕ
-profile_numbers c = outside_profile ∷ base_numbers c
+profile_numbers c = refusal_number OutsideProfile ∷ base_numbers c
 
 -- ---- the checks of each entry
 -- those of the base that rest on arguments alone, in the base order
@@ -103,5 +104,5 @@ passes (Cel kc p a b) = true
 -- ---- what is answered, by whether a check on arguments refuses, and by whether the sizes pass
 pub data Told (ns ms : List ℕ) : Bool → Bool → Answer → Type 0 where
   by_arguments : {s : Bool} {a : Answer} → Only Finite ns a → Told ns ms true s a
-  by_size : Told ns ms false false (Refused outside_profile)
+  by_size : Told ns ms false false (Err OutsideProfile)
   by_base : {a : Answer} → Only Finite ms a → Told ns ms false true a

@@ -10,11 +10,11 @@ fn put_number(before: &[u8], n: u64, after: &[u8], text: &mut [u8], at: usize) -
     put_text(after, text, end)
 }
 
-fn put_pace(told: bool, pace: u64, text: &mut [u8], at: usize) -> usize {
-    if told {
-        return put_number(b", ", pace, b" a second", text, at);
+fn put_pace(pace: Option<u64>, text: &mut [u8], at: usize) -> usize {
+    match pace {
+        Some(each) => put_number(b", ", each, b" a second", text, at),
+        None => at,
     }
-    at
 }
 
 fn put_share(read: u64, size: u64, text: &mut [u8], at: usize) -> usize {
@@ -30,10 +30,10 @@ fn write_line(rt: HostRuntime, text: &mut [u8], at: usize) {
 }
 
 // What was done, how much of it in a second where that is told, and what part of the input is read where its size is known.
-pub fn say(rt: HostRuntime, unit: &[u8], done: u64, told: bool, pace: u64, read: u64, size: u64) {
+pub fn say(rt: HostRuntime, unit: &[u8], done: u64, pace: Option<u64>, read: u64, size: u64) {
     let mut text = [0u8; 128];
     let paced = put_number(b"progress: ", done, unit, &mut text, 0);
-    let shared = put_pace(told, pace, &mut text, paced);
+    let shared = put_pace(pace, &mut text, paced);
     let end = put_share(read, size, &mut text, shared);
     write_line(rt, &mut text, end);
 }

@@ -82,8 +82,7 @@ fn take_rows(rt: HostRuntime, tally: Tally) -> Tally {
     let mut t = tally;
     let mut rows = begin();
     // A proved loop has to end, and nothing says that the input does: so many turns no run uses up.
-    let mut turns = u64::MAX;
-    while turns > 0 {
+    for _ in 0..u64::MAX {
         rows = next(rt, rows, &mut block, &mut held);
         if rows.whole {
             let n = rows.row;
@@ -91,7 +90,6 @@ fn take_rows(rt: HostRuntime, tally: Tally) -> Tally {
         } else {
             return t;
         }
-        turns -= 1;
     }
     t
 }

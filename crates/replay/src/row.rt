@@ -3,7 +3,7 @@ ghost use Rattle.std.specs.Prelude.{◌≤◌, length};
 
 use calls::Call;
 use console::write_out;
-use listing_read::{Line, call_of};
+use listing_read::call_of;
 use listing_write::LONGEST;
 
 // What a row led to, with the entry's place in the order RC, RF, RD, RG, RJ, CEL.
@@ -30,14 +30,7 @@ fn place(call: Call) -> usize {
 fn first(row: &[u8], byte: u8) -> usize
     ensures { result ≤ length row.now }
 {
-    let mut i = 0;
-    while i < row.len() {
-        if row[i] == byte {
-            return i;
-        }
-        i += 1;
-    }
-    i
+    row.iter().position(|b| *b == byte).unwrap_or(row.len())
 }
 
 // Where the answer ends: before the mark ` s`, if there is one.
@@ -102,7 +95,7 @@ pub(crate) fn judge(rt: HostRuntime, row: &[u8], shown: bool) -> Verdict {
         return Verdict::Odd;
     }
     match call_of(&row[..at - 1]) {
-        Line::Good(call) => compare(rt, call, &row[at + 1..last], row, shown),
-        Line::Bad => Verdict::Odd,
+        Some(call) => compare(rt, call, &row[at + 1..last], row, shown),
+        None => Verdict::Odd,
     }
 }

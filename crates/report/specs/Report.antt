@@ -1,5 +1,7 @@
 -- The report of a work list (document 02, 2026-05). Definitions only.
-use Rattle.std.specs.Prelude.{ℕ, cond, List, [], ◌∷◌, eqb}
+use Rattle.std.specs.Prelude.{ℕ, cond, List, Result, [], ◌∷◌}
+use Rattle.std.specs.Result.{is_ok}
+use Rattle.refusals.specs.declared.Refusal.{Refusal}
 use Rattle.packed.specs.Reading.{Jobs, jobs, stopped, read_all}
 use Rattle.packed.specs.declared.jobs.Job.{Job}
 use Rattle.worklist.specs.Count.{count_of}
@@ -22,10 +24,10 @@ unfoldable pub jobs_of : Jobs → List Job
 jobs_of (jobs js) = js
 jobs_of (stopped js place n) = js
 
--- "Refusals: the work list's own, then 18"; 0 where there is none
-unfoldable pub list_number : List ℕ → List ℕ → ℕ
-list_number ws list = list_judged ws (count_of 0 (read_all list))
+-- "Refusals: the work list's own, then 18"
+unfoldable pub report_judged : List ℕ → List ℕ → Result (Unit {0}) Refusal
+report_judged ws list = list_judged ws (count_of 0 (read_all list))
 
 -- "each leaves the report unchanged"
 unfoldable pub list_after : List ℕ → List ℕ → List ℕ
-list_after ws list = cond (eqb (list_number ws list) 0) (jobs_added ws (jobs_of (read_all list))) ws
+list_after ws list = cond (is_ok (report_judged ws list)) (jobs_added ws (jobs_of (read_all list))) ws

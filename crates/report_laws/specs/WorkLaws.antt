@@ -6,7 +6,7 @@ use Rattle.std.proofs.Math.Bool.{true, false, cond}
 use mathlib.Core.List.{List, [], ◌∷◌, ◌++◌}
 use Rattle.std.proofs.Math.Nat.{zero-add}
 use native.Mathlib.Omega.{arith}
-use borrow.Author.Tests.{eq-eqb, ne_eqb, eqb-true, leb-false, lt-leb}
+use borrow.Author.Tests.{eq-eqb, eqb-true, leb-false, lt-leb}
 use Rattle.std.proofs.Math.Dec.{leb}
 use Rattle.std.proofs.Math.ListN.{length}
 use Rattle.exact.specs.Exact.{held_sum, Reordered, nothing, kept, swapped, onward}
@@ -14,7 +14,10 @@ use Rattle.packed.specs.Jobs.{arity_of}
 use Rattle.packed.specs.Reading.{Jobs, jobs, stopped, read_all}
 use Rattle.packed.specs.declared.jobs.Job.{Job}
 use Rattle.worklist.specs.Count.{count_of}
-use Rattle.worklist.specs.declared.count.Count.TheVariants.{Jobs as Several}
+use Rattle.refusals.specs.declared.Refusal.{Refusal}
+use Rattle.refusals.specs.declared.Refusal.TheVariants.{TooMany}
+use Rattle.std.specs.Prelude.{Result, Ok, Err}
+use Rattle.std.specs.Result.{is_ok}
 use Rattle.answers.specs.Answers.{answer_of}
 use Rattle.job_answers.specs.JobAnswers.{call_of_job}
 use Rattle.table.specs.RefusalLaws.{list_numbers}
@@ -24,11 +27,11 @@ use Rattle.tally.specs.Meaning.{calls_of, refused_of, rounds_of, most_of, values
 use Rattle.tally.specs.MeaningLaws.{block_at}
 use Rattle.tally.specs.declared.counted.Counted.{Counted}
 use Rattle.report_words.specs.Words.{counted_added, calls_in, calls_in_all}
-use Rattle.report_words.specs.Room.{most_calls, too_many, room_for, list_judged}
+use Rattle.report_words.specs.Room.{most_calls, room_for, list_judged}
 use Rattle.report_words.specs.Meaning.{Entry, counts_of, blocks_from, report_of, entries_added}
 use Rattle.report_words.specs.BlockLaws.{block_word}
 use Rattle.report_words.specs.ReportLaws.{report_long, report_block, added_order, report_added}
-use Rattle.report.specs.Report.{job_added, jobs_added, jobs_of, list_number, list_after}
+use Rattle.report.specs.Report.{job_added, jobs_added, jobs_of, report_judged, list_after}
 
 -- ---- a job's answer, with its function's number
 abbrev pub entry_of : Job → Entry
@@ -167,46 +170,53 @@ calls_jobs js k l =
 -- ---- a list
 module _ (ws list : List ℕ) where
   pub list_added : {js : List Job} → read_all list ≡ jobs js → room_for ws (length js) ≡ true
-      → (list_number ws list ≡ 0) × (list_after ws list ≡ jobs_added ws js)
-  list_added {js} e r = (number, after)
+      → (report_judged ws list ≡ Ok tt) × (list_after ws list ≡ jobs_added ws js)
+  list_added {js} e r = (judged, after)
     where
-      counted : count_of 0 (jobs js) ≡ Several (length js)
-      counted = unfold count_of in ap Several (zero-add (length js))
+      counted : count_of 0 (jobs js) ≡ Ok (length js)
+      counted = unfold count_of in ap (λ (n : ℕ). Ok n) (zero-add (length js))
 
-      number : list_number ws list ≡ 0
-      number = unfold list_number list_judged in rw (e, counted, r)
+      judged : report_judged ws list ≡ Ok tt
+      judged = unfold report_judged list_judged in rw (e, counted, r)
 
       after : list_after ws list ≡ jobs_added ws js
-      after = unfold list_after jobs_of in rw (number, e)
+      after = unfold list_after jobs_of in rw (judged, e)
 
   -- "the work list's own" refusals come first
-  pub list_first : {js : List Job} {place n : ℕ} → read_all list ≡ stopped js place n → list_number ws list ≡ n
-  unfolding list_number list_judged count_of
+  pub list_first : {js : List Job} {place : ℕ} {r : Refusal} → read_all list ≡ stopped js place r → report_judged ws list ≡ Err r
+  unfolding report_judged list_judged count_of
   list_first e = rw e
 
   -- "then 18"
   pub then_too_many : {js : List Job} → read_all list ≡ jobs js → most_calls < calls_in_all ws + length js
-      → list_number ws list ≡ too_many
-  unfolding list_number list_judged count_of room_for
+      → report_judged ws list ≡ Err TooMany
+  unfolding report_judged list_judged count_of room_for
   then_too_many {js} e l = rw (e, zero-add (length js), lt-leb (calls_in_all ws + length js) most_calls l)
 
   -- 18 exactly there
-  pub exactly_too_many : list_number ws list ≡ too_many
+  pub exactly_too_many : report_judged ws list ≡ Err TooMany
       → (js : List Job) × (read_all list ≡ jobs js) × (most_calls < calls_in_all ws + length js)
-  unfolding list_number list_judged count_of room_for
+  unfolding report_judged list_judged count_of room_for
   exactly_too_many e = go (read_all list) refl e
     where
-      go : (all : Jobs) → read_all list ≡ all → list_judged ws (count_of 0 all) ≡ too_many
+      go : (all : Jobs) → read_all list ≡ all → list_judged ws (count_of 0 all) ≡ Err TooMany
           → (js : List Job) × (read_all list ≡ jobs js) × (most_calls < calls_in_all ws + length js)
-      go (stopped js place n) is e = absurd (omega (arith, list_numbers list is))
+      go (stopped js place r) is e =
+          let z : r ≡ TooMany = cc in
+          let f = list_numbers list (is ∙ ap (stopped js place) z) in absurd (omega (arith, f))
       go (jobs js) is e = (js, is, many (leb (calls_in_all ws + (0 + length js)) most_calls) refl e)
         where
-          many : (t : Bool) → leb (calls_in_all ws + (0 + length js)) most_calls ≡ t → cond t 0 too_many ≡ too_many
+          many : (t : Bool) → leb (calls_in_all ws + (0 + length js)) most_calls ≡ t
+              → cond t (Ok (tt {0})) (Err TooMany) ≡ Err TooMany
               → most_calls < calls_in_all ws + length js
-          many true p e = absurd (omega arith)
+          many true p e = let z : ◌≡◌ {A = ℕ} 0 1 = cc in absurd (omega arith)
           many false p e = let l = leb-false (calls_in_all ws + (0 + length js)) most_calls p in omega arith
 
   -- "each leaves the report unchanged"
-  pub refused_same : (list_number ws list ≡ 0 → ⊥) → list_after ws list ≡ ws
+  pub refused_same : (report_judged ws list ≡ Ok tt → ⊥) → list_after ws list ≡ ws
   unfolding list_after
-  refused_same n = rw (ne_eqb (list_number ws list) 0 n)
+  refused_same n = go (report_judged ws list) n
+    where
+      go : (r : Result (Unit {0}) Refusal) → (r ≡ Ok tt → ⊥) → cond (is_ok r) (jobs_added ws (jobs_of (read_all list))) ws ≡ ws
+      go (Ok done) n = absurd (n refl)
+      go (Err r) n = refl

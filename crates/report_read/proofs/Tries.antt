@@ -18,8 +18,7 @@ use Rattle.writing.specs.Written.{Tried, tried_put, put_length}
 use Rattle.report_text.specs.Text.{slot_line, exact_line, sum_line, held_at, tally_at}
 use Rattle.report_read.specs.Reading.{trailing, said_sum, with_sum, placed, fits_at, tried_at}
 use Rattle.report_read.specs.Reading.{take_line, took, bad, line_taken, answer_of, words_of}
-use Rattle.report_read.specs.declared.taken.Taken.{Taken}
-use Rattle.report_read.specs.declared.taken.Taken.TheVariants.{At, Bad}
+use Rattle.std.specs.Prelude.{Option, Some, None}
 use Rattle.report_read.specs.PlacedLaws.{slot_placed, slot_fits, exact_placed, exact_fits, sum_placed, sum_fits}
 
 -- ---- what was written at the start of a buffer
@@ -166,14 +165,14 @@ tried_missed ws q line e f = rw (sym e ∙ f)
 
 -- ---- what is answered
 module _ (q : ℕ) (ws line : List ℕ) where
-  abbrev pub Takes : Taken → List ℕ → Type 0
+  abbrev pub Takes : Option ℕ → List ℕ → Type 0
   Takes r after = (r ≡ answer_of (line_taken q ws line)) × (after ≡ words_of ws (line_taken q ws line))
 
-  pub takes_bad : (after : List ℕ) → after ≡ ws → line_taken q ws line ≡ bad → Takes Bad after
+  pub takes_bad : (after : List ℕ) → after ≡ ws → line_taken q ws line ≡ bad → Takes None after
   unfolding answer_of words_of
   takes_bad after f e = rw e (refl, f)
 
-  pub takes_line : (k : ℕ) (vs after : List ℕ) → after ≡ vs → line_taken q ws line ≡ took k vs → Takes (At k) after
+  pub takes_line : (k : ℕ) (vs after : List ℕ) → after ≡ vs → line_taken q ws line ≡ took k vs → Takes (Some k) after
   unfolding answer_of words_of
   takes_line k vs after f e = rw e (refl, f)
 
@@ -186,7 +185,7 @@ module _ (q : ℕ) (ws line : List ℕ) where
     tried_too : after ≡ tried_at ws k line
     tried_too = f ∙ ap (λ (us : List ℕ). tried_at us k line) v
 
-    pub takes_found : t ≡ true → Takes (At (k + 1)) after
+    pub takes_found : t ≡ true → Takes (Some (k + 1)) after
     takes_found p =
         takes_line (k + 1) (placed ws k line) after (tried_too ∙ tried_hit ws k line fits_too p)
         (take_found q ws line k l i h fits_too p)
@@ -194,7 +193,7 @@ module _ (q : ℕ) (ws line : List ℕ) where
     pub stays : t ≡ false → after ≡ ws
     stays p = tried_too ∙ tried_missed ws k line fits_too p
 
-    pub takes_none : {u : Bool} → t ≡ false → u ≡ tally_at k → u ≡ false → Takes Bad after
+    pub takes_none : {u : Bool} → t ≡ false → u ≡ tally_at k → u ≡ false → Takes None after
     takes_none p g j = takes_bad after (stays p) (take_stop q ws line k l i h fits_too p g j)
 
     pub goes_on : {u : Bool} → t ≡ false → u ≡ tally_at k → u ≡ true

@@ -1,13 +1,11 @@
 -- A report's text read back: a line is taken if it is just the line that would be written of what it says. Definitions only.
-use Rattle.std.specs.Prelude.{ℕ, zero, suc, ◌+◌, ◌-◌, ◌*◌, ◌%◌, ◌^◌, Bool, true, false, not, ◌&&◌, cond, List, [], ◌∷◌, ◌++◌, eqb, ltb, length, take, drop, set, replicate}
+use Rattle.std.specs.Prelude.{ℕ, zero, suc, ◌+◌, ◌-◌, ◌*◌, ◌%◌, ◌^◌, Bool, true, false, not, ◌&&◌, cond, List, Option, Some, None, [], ◌∷◌, ◌++◌, eqb, ltb, length, take, drop, set, replicate}
 use Rattle.limbs.specs.Value.{limbs_of}
 use Rattle.exact.specs.Exact.{sum_words, turn}
 use Rattle.digits.specs.Digits.{digit_of}
 use Rattle.tally.specs.Tally.{block_words, sum_place}
 use Rattle.listing_read.specs.Lines.{same}
 use Rattle.report_words.specs.Words.{report_words}
-use Rattle.report_read.specs.declared.taken.Taken.{Taken}
-use Rattle.report_read.specs.declared.taken.Taken.TheVariants.{At, Bad}
 use Rattle.report_text.specs.Text.{block_at, slot_at, place_at, line_at, line_count, tally_at, left_out}
 
 -- the number at a line's end, modulo m: every byte that is no digit begins it anew
@@ -74,9 +72,9 @@ no_words = replicate report_words 0
 unfoldable pub line_taken : ℕ → List ℕ → List ℕ → After
 line_taken q ws line = cond (eqb (length ws) report_words) (take_line q (line_count - q) ws line) bad
 
-unfoldable pub answer_of : After → Taken
-answer_of (took q ws) = At q
-answer_of bad = Bad
+unfoldable pub answer_of : After → Option ℕ
+answer_of (took q ws) = Some q
+answer_of bad = None
 
 -- the words that it leaves: as they were where the line is none
 unfoldable pub words_of : List ℕ → After → List ℕ

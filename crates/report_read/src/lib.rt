@@ -7,4 +7,4 @@ mod number;
 mod sum;
 mod taken;
 
-pub use crate::taken::{Taken, is_header, take_line};
+pub use crate::taken::{is_header, take_line};

@@ -20,10 +20,8 @@ pub fn last_decimal(line: &[u8]) -> u64
     ensures { result ≡ trailing 10 (2 ^ 64) 0 line.now }
 {
     let mut v: u64 = 0;
-    let mut i: usize = 0;
-    while i < line.len() {
-        v = decimal_step(v, line[i]);
-        i += 1;
+    for b in line {
+        v = decimal_step(v, *b);
     }
     v
 }
@@ -31,12 +29,10 @@ pub fn last_decimal(line: &[u8]) -> u64
 pub fn has_minus(line: &[u8]) -> bool
     ensures { result ≡ has_minus line.now }
 {
-    let mut i: usize = 0;
-    while i < line.len() {
-        if line[i] == b'-' {
+    for b in line {
+        if *b == b'-' {
             return true;
         }
-        i += 1;
     }
     false
 }

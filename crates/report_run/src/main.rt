@@ -10,7 +10,6 @@ use progress::{asked, jobs};
 use report::add_job;
 use report_say::say_report;
 use report_words::judge_list;
-use worklist::Count;
 use writing::OUT;
 
 fn add(words: &mut [u64; 384], job: Job) {
@@ -20,12 +19,11 @@ fn add(words: &mut [u64; 384], job: Job) {
 // After the list's last job: 18 where there were too many, else the report.
 fn end(rt: HostRuntime, words: &[u64; 384], calls: u64, at: u64, out: &mut [u8; OUT]) {
     let none = [0u64; 384];
-    let number = judge_list(&none, Count::Jobs(calls));
-    if number == 0 {
-        say_report(rt, words, out);
+    if let Err(refusal) = judge_list(&none, Ok(calls)) {
+        say_refused(rt, at, refusal.number());
         return;
     }
-    say_refused(rt, at, number);
+    say_report(rt, words, out);
 }
 
 fn report_all(rt: HostRuntime, out: &mut [u8; OUT]) {
@@ -35,23 +33,19 @@ fn report_all(rt: HostRuntime, out: &mut [u8; OUT]) {
     let mut calls: u64 = 0;
     let mut meter = progress::begin(rt, asked(rt, 1), Source::Standard);
     // A proved loop has to end, and nothing says that the list does: so many turns no run uses up.
-    let mut turns = u64::MAX;
-    while turns > 0 {
+    for _ in 0..u64::MAX {
         match pull(rt, Source::Standard, &mut window, stands) {
             Pulled::Job(job, next) => {
                 add(&mut words, job);
                 stands = next;
                 meter = jobs(rt, meter, calls, place(stands));
             }
-            Pulled::More => {
-                return;
-            }
             Pulled::End => {
                 end(rt, &words, calls, place(stands), out);
                 return;
             }
-            Pulled::Refused(number) => {
-                say_refused(rt, place(stands), number);
+            Pulled::Refused(refusal) => {
+                say_refused(rt, place(stands), refusal.number());
                 return;
             }
             Pulled::Failed => {
@@ -59,7 +53,6 @@ fn report_all(rt: HostRuntime, out: &mut [u8; OUT]) {
             }
         }
         calls = std::num::wrapping_add_u64(calls, 1);
-        turns -= 1;
     }
 }
 

@@ -2,18 +2,14 @@
 #![tactic(auto)]
 
 use console::written;
-use report_text::{put_header, put_line};
+use report_text::{LINES, put_header, put_line};
 use writing::OUT;
-
-const LINES: usize = 192;
 
 // All its lines go into one buffer: they are some twelve thousand bytes at most.
 pub fn say_report(rt: HostRuntime, words: &[u64; 384], out: &mut [u8; OUT]) -> bool {
     let mut used = put_header(out, 0);
-    let mut q: usize = 0;
-    while q < LINES {
+    for q in 0..LINES {
         used = put_line(words, q, out, used);
-        q += 1;
     }
     written(rt, out, used)
 }

@@ -7,4 +7,4 @@ mod report;
 mod word;
 
 pub use crate::line::{put_exact, put_slot, put_sum};
-pub use crate::report::{ROOM, put_header, put_line};
+pub use crate::report::{LINES, ROOM, put_header, put_line};

@@ -5,14 +5,13 @@ ghost use Rattle.writing.specs.Written.{Put, Tried};
 ghost use Rattle.report_text.specs.Text.{header_text, header_room, line_count, left_out, line_at, line_text, line_room};
 
 use crate::line::{put_exact, put_slot, put_sum};
+use report_words::WORDS;
 use writing::{has_room, put_text};
 
 // No line is longer, with its end.
 pub const ROOM: usize = 556;
 
-const WORDS: usize = 384;
-
-const LINES: usize = 192;
+pub const LINES: usize = 192;
 
 const LAST: usize = 27; // the largest number that is tallied
 

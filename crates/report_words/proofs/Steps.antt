@@ -1,8 +1,9 @@
 -- From what each function leaves to its definition. Assumes nothing.
+use Rattle.std.specs.Prelude.{Some, None}
 use Prim.Native.Nat.{ℕ, zero, suc, ◌+◌, ◌-◌, ◌*◌, ◌≤◌, ◌<◌}
 use mathlib.Core.Path.{◌≡◌, refl, sym, ◌∙◌}
 use mathlib.Core.Bool.{Bool, true, false, ◌&&◌}
-use mathlib.Core.List.{List, []}
+use mathlib.Core.List.{List}
 use native.Mathlib.Nat.{zero-add, suc-add, sub-zero}
 use native.Mathlib.Numerals.{add-one}
 use native.Mathlib.Omega.{arith}
@@ -16,7 +17,6 @@ use Rattle.tally.specs.Tally.{block_added, block_joined}
 use Rattle.tally.specs.declared.counted.Counted.{Counted}
 use Rattle.report_words.specs.Words.{stands_in, counted_added, calls_in, calls_in_all, room_after, blocks_joined, words_joined}
 use Rattle.report_words.specs.Words.{word_at, refused_at, sum_at}
-use Rattle.report_words.specs.declared.calls.Room.TheVariants.{For, Over}
 
 -- ---- what the test tells
 pub stands_other : (n f : ℕ) → (n ≡ 384 → ⊥) → false ≡ stands_in n f
@@ -99,7 +99,7 @@ unfolding sum_at rounded_held size_held below_zero turn round of_bits
 sum_not ws f e h = rw (sym e ∙ h)
 
 -- ---- the calls
-pub calls_other : (room : ℕ) (ws : List ℕ) → (length ws ≡ 384 → ⊥) → For room ≡ room_after room ws
+pub calls_other : (room : ℕ) (ws : List ℕ) → (length ws ≡ 384 → ⊥) → Some room ≡ room_after room ws
 unfolding room_after calls_in_all
 calls_other room ws h = rw (ne_eqb (length ws) 384 h, le-leb 0 room (omega arith), sub-zero)
 
@@ -109,7 +109,7 @@ calls_grow zero k ws = rw zero-add (omega arith)
 calls_grow (suc left) k ws = rw suc-add (omega (arith, calls_grow left k ws))
 
 pub calls_over : (room left k : ℕ) (ws : List ℕ) → length ws ≡ 384 → k < 6 → left + calls_in k ws ≡ room
-    → left < get_or ws (k * 64) 0 → Over ≡ room_after room ws
+    → left < get_or ws (k * 64) 0 → None ≡ room_after room ws
 unfolding room_after calls_in_all calls_in
 calls_over room left k ws h i e m =
     let j : 5 - k + suc k ≡ 6 = omega arith in
@@ -117,7 +117,7 @@ calls_over room left k ws h i e m =
     rw (eq-eqb (length ws) 384 h, lt-leb (calls_in 6 ws) room (omega arith))
 
 pub calls_left : (room left k : ℕ) (ws : List ℕ) → length ws ≡ 384 → k ≤ 6 → 6 ≤ k → left + calls_in k ws ≡ room
-    → For left ≡ room_after room ws
+    → Some left ≡ room_after room ws
 unfolding room_after calls_in_all
 calls_left room left k ws h i j e =
     let f : k ≡ 6 = omega arith in

@@ -13,7 +13,7 @@ use Rattle.std.proofs.Math.ListN.{get_or}
 use Rattle.tally.specs.Tally.{word_joined}
 use Rattle.tally.specs.JoinLaws.{word_joined_lem}
 use Rattle.report_words.specs.Words.{block_in, calls_in, calls_in_all, words_joined}
-use Rattle.report_words.specs.Room.{most_calls, room_both, join_number}
+use Rattle.report_words.specs.Room.{most_calls, room_both, join_judged}
 use Rattle.report_words.specs.BlockLaws.{block_word, block_long}
 use Rattle.report_words.specs.ReportLaws.{words_long, words_block}
 
@@ -105,6 +105,6 @@ module _ (ws os vs : List ℕ) (h : length ws ≡ 384) (o : length os ≡ 384) (
           sym (lt-leb all most_calls (let l = leb-false (calls_in_all os + calls_in_all vs) most_calls e in omega arith))
 
 -- ---- and two, whichever comes first
-pub join_number_comm : (ws os : List ℕ) → join_number ws os ≡ join_number os ws
-unfolding join_number room_both
-join_number_comm ws os = let e : calls_in_all ws + calls_in_all os ≡ calls_in_all os + calls_in_all ws = omega arith in rw e
+pub join_judged_comm : (ws os : List ℕ) → join_judged ws os ≡ join_judged os ws
+unfolding join_judged room_both
+join_judged_comm ws os = let e : calls_in_all ws + calls_in_all os ≡ calls_in_all os + calls_in_all ws = omega arith in rw e

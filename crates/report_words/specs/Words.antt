@@ -1,10 +1,8 @@
 -- A report as words: six blocks, one for each function that the work lists know (document 02, 2026-05). Definitions only.
-use Rattle.std.specs.Prelude.{ℕ, zero, suc, ◌+◌, ◌-◌, ◌*◌, Bool, ◌&&◌, cond, List, ◌++◌, eqb, leb, ltb, length, get_or, take, drop, Float}
+use Rattle.std.specs.Prelude.{ℕ, zero, suc, ◌+◌, ◌-◌, ◌*◌, Bool, ◌&&◌, cond, List, Option, Some, None, ◌++◌, eqb, leb, ltb, length, get_or, take, drop, Float}
 use Rattle.exact.specs.Exact.{sum_words, held_by, rounded_held}
 use Rattle.tally.specs.Tally.{block_words, last_number, sum_place, block_added, block_joined}
 use Rattle.tally.specs.declared.counted.Counted.{Counted}
-use Rattle.report_words.specs.declared.calls.Room.{Room}
-use Rattle.report_words.specs.declared.calls.Room.TheVariants.{For, Over}
 
 abbrev pub functions : ℕ
 functions = 6
@@ -36,9 +34,9 @@ calls_in (suc k) ws = calls_in k ws + get_or ws (k * block_words) 0
 unfoldable pub calls_in_all : List ℕ → ℕ
 calls_in_all ws = cond (eqb (length ws) report_words) (calls_in functions ws) 0
 
--- what is left of so much room for calls
-unfoldable pub room_after : ℕ → List ℕ → Room
-room_after room ws = cond (leb (calls_in_all ws) room) (For (room - calls_in_all ws)) Over
+-- what is left of so much room for calls; nothing where there are more already
+unfoldable pub room_after : ℕ → List ℕ → Option ℕ
+room_after room ws = cond (leb (calls_in_all ws) room) (Some (room - calls_in_all ws)) None
 
 -- ---- "Two partial reports can be joined": so many blocks from one on
 unfoldable pub blocks_joined : ℕ → ℕ → List ℕ → List ℕ → List ℕ

@@ -7,30 +7,17 @@ use crate::place::BLOCK;
 
 const FUNCTIONS: usize = 6;
 
-#[derive(Clone, Copy)]
-pub enum Room {
-    // So many calls more.
-    For(u64),
-    // There are more calls already.
-    Over,
-}
-
-// What is left of `room` calls after those of a report. Words in another number hold none.
-pub fn room_after(room: u64, report: &[u64]) -> Room
+// What is left of `room` calls after those of a report; None where there are more calls already. Words in another number hold
+// none.
+pub fn room_after(room: u64, report: &[u64]) -> Option<u64>
     ensures { result ≡ room_after room report.now }
 {
     if report.len() != WORDS {
-        return Room::For(room);
+        return Some(room);
     }
     let mut left = room;
-    let mut k: usize = 0;
-    while k < FUNCTIONS {
-        let calls = report[k * BLOCK];
-        if left < calls {
-            return Room::Over;
-        }
-        left -= calls;
-        k += 1;
+    for k in 0..FUNCTIONS {
+        left = left.checked_sub(report[k * BLOCK])?;
     }
-    Room::For(left)
+    Some(left)
 }

@@ -18,11 +18,9 @@ pub fn join_words(report: &mut [u64], other: &[u64])
     if other.len() != WORDS {
         return;
     }
-    let mut k: usize = 0;
-    while k < FUNCTIONS {
+    for k in 0..FUNCTIONS {
         let at = k * BLOCK;
         let end = at + BLOCK;
         join_blocks(&mut report[at..end], &other[at..end]);
-        k += 1;
     }
 }

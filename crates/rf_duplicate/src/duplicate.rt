@@ -1,5 +1,5 @@
 // RF's duplication (DLMF 19.26.18, 19.36.1): each pass brings the arguments nearer to their mean, until the series serves.
-ghost use Rattle.std.specs.Prelude.{◌-◌, ◌≤◌, ◌≡◌, true, false};
+ghost use Rattle.std.specs.Prelude.{◌-◌, ◌≤◌, ◌≡◌, true, false, IfSome};
 ghost use Rattle.root.specs.Root.{root};
 ghost use Rattle.root.specs.Together.{Numbers3, Rooted3};
 ghost use Rattle.carlson.specs.Common.{lambda_with};
@@ -22,7 +22,7 @@ ghost use Rattle.rf_duplicate.specs.Duplicate.{
 
 use binary64::{abs, max};
 use carlson::answer::{Found, duplication, not_a_number};
-use carlson::common::{Lambda, Trial, lambda_with};
+use carlson::common::{Lambda, lambda_with};
 use root::together::numbers3;
 use root::{certain, sqrt};
 use root_guess::{by_row, row};
@@ -91,25 +91,17 @@ fn told(a: u64, b: u64, c: u64, rx: f64, ry: f64, rz: f64, last: bool) -> bool
     ensures { result ≡ true → Rooted3 a b c rx ry rz }
 {
     if last {
-        if certain(c, f64::to_bits(rz)) {
-            if certain(b, f64::to_bits(ry)) {
-                return certain(a, f64::to_bits(rx));
-            }
-        }
-        return false;
+        return certain(c, f64::to_bits(rz))
+            && certain(b, f64::to_bits(ry))
+            && certain(a, f64::to_bits(rx));
     }
-    if certain(a, f64::to_bits(rx)) {
-        if certain(b, f64::to_bits(ry)) {
-            return certain(c, f64::to_bits(rz));
-        }
-    }
-    false
+    certain(a, f64::to_bits(rx)) && certain(b, f64::to_bits(ry)) && certain(c, f64::to_bits(rz))
 }
 
 // The guesses first and then the tests, so that the processor makes the guesses side by side. This stands in each entry, since
 // LLVM compiles a function of this size into a loop only where it is called once.
-fn tried(x: f64, y: f64, z: f64, last: bool) -> Trial
-    ensures { result.told ≡ true → result.by ≡ lambda_with (root x) (root y) (root z) }
+fn tried(x: f64, y: f64, z: f64, last: bool) -> Option<Lambda>
+    ensures { IfSome result (λ l. l ≡ lambda_with (root x) (root y) (root z)) }
 {
     if numbers3(x, y, z) {
         let a = f64::to_bits(x);
@@ -120,17 +112,11 @@ fn tried(x: f64, y: f64, z: f64, last: bool) -> Trial
         let rz = by_row(c, row(c));
         if numbers3(rx, ry, rz) {
             if told(a, b, c, rx, ry, rz, last) {
-                return Trial {
-                    told: true,
-                    by: lambda_with(rx, ry, rz),
-                };
+                return Some(lambda_with(rx, ry, rz));
             }
         }
     }
-    Trial {
-        told: false,
-        by: lambda_with(x, y, z),
-    }
+    None
 }
 
 fn step(s: Round) -> Round
@@ -174,17 +160,13 @@ fn onward(x: f64, y: f64, a0: f64, s: Round, from: u32) -> Found
     ensures { result ≡ capped rf_step rf_close (rf_found x y a0) rf_spent (rf_cap - from) false s from }
 {
     let mut at = s;
-    let mut n = from;
-    loop {
-        if n == CAP {
-            break duplication(not_a_number(), n);
-        }
+    for m in from..CAP {
         at = step(at);
-        n += 1;
         if close(at) {
-            break duplication(series(x, y, a0, at.an, at.fnval), n);
+            return duplication(series(x, y, a0, at.an, at.fnval), m + 1);
         }
     }
+    duplication(not_a_number(), CAP)
 }
 
 // While the roots are told at once; the rest of the passes is made out of line, root by root.
@@ -193,20 +175,14 @@ pub fn duplicated(x: f64, y: f64, z: f64) -> Found
 {
     let mut at = begin(x, y, z);
     let a0 = at.an;
-    let mut n: u32 = 0;
-    loop {
-        if n == CAP {
-            break onward(x, y, a0, at, n);
-        }
-        let t = tried(at.xn, at.yn, at.zn, at.q * 0.25 < at.an);
-        if t.told {
-            at = moved(at, t.by);
-            n += 1;
-            if close(at) {
-                break duplication(series(x, y, a0, at.an, at.fnval), n);
-            }
-        } else {
-            break onward(x, y, a0, at, n);
+    for n in 0..CAP {
+        let Some(by) = tried(at.xn, at.yn, at.zn, at.q * 0.25 < at.an) else {
+            return onward(x, y, a0, at, n);
+        };
+        at = moved(at, by);
+        if close(at) {
+            return duplication(series(x, y, a0, at.an, at.fnval), n + 1);
         }
     }
+    duplication(not_a_number(), CAP)
 }

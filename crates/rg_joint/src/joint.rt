@@ -25,7 +25,6 @@ ghost use Rattle.rg_joint.specs.Joint.{
 use binary64::abs;
 use carlson::answer::{Found, joint, not_a_number};
 use carlson::common::{Lambda, lambda_with};
-use carlson_arguments::checks::both;
 use root::together::numbers3;
 use root::{certain, sqrt};
 use root_guess::{by_row, row};
@@ -225,27 +224,16 @@ fn told(a: u64, b: u64, c: u64, rx: f64, ry: f64, rz: f64, rf_last: bool, rd_las
     ensures { result ≡ true → Rooted3 a b c rx ry rz }
 {
     if rf_last {
-        if certain(c, f64::to_bits(rz)) {
-            if certain(b, f64::to_bits(ry)) {
-                return certain(a, f64::to_bits(rx));
-            }
-        }
-        return false;
+        return certain(c, f64::to_bits(rz))
+            && certain(b, f64::to_bits(ry))
+            && certain(a, f64::to_bits(rx));
     }
     if rd_last {
-        if certain(b, f64::to_bits(ry)) {
-            if certain(a, f64::to_bits(rx)) {
-                return certain(c, f64::to_bits(rz));
-            }
-        }
-        return false;
+        return certain(b, f64::to_bits(ry))
+            && certain(a, f64::to_bits(rx))
+            && certain(c, f64::to_bits(rz));
     }
-    if certain(a, f64::to_bits(rx)) {
-        if certain(b, f64::to_bits(ry)) {
-            return certain(c, f64::to_bits(rz));
-        }
-    }
-    false
+    certain(a, f64::to_bits(rx)) && certain(b, f64::to_bits(ry)) && certain(c, f64::to_bits(rz))
 }
 
 // The guesses first and then the tests, so that the processor makes the guesses side by side. This stands in each entry, since
@@ -278,12 +266,13 @@ fn step(s: Joint, x: f64, y: f64, arf: f64, ard: f64) -> Joint
     moved(s, l, x, y, arf, ard)
 }
 
+#[tactic(auto, unfolding(crate::specs::Joint::all_done))]
 fn all_done(s: Joint) -> bool
     ensures { result ≡ all_done s }
 {
     let p = s.rf;
     let q = s.rd;
-    both(p.done, q.done)
+    p.done && q.done
 }
 
 fn result(s: Joint, rounds: u32) -> RfRd
@@ -304,17 +293,13 @@ fn elliprf_rd_unchecked(x: f64, y: f64, z: f64) -> RfRd
     let arf = rf_duplicate::duplicate::mean_of(x, y, z);
     let ard = rd_duplicate::duplicate::mean_of(x, y, z);
     let mut at = begin(x, y, z);
-    let mut n: u32 = 0;
-    loop {
-        if n == CAP {
-            break result(at, n);
-        }
+    for n in 0..CAP {
         at = step(at, x, y, arf, ard);
-        n += 1;
         if all_done(at) {
-            break result(at, n);
+            return result(at, n + 1);
         }
     }
+    result(at, CAP)
 }
 
 fn value_of(x: f64, y: f64, z: f64, rf: f64, rd: f64) -> f64

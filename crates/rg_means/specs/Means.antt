@@ -1,15 +1,15 @@
 -- RG with one zero, by the compensated arithmetic-geometric mean (elliprg.rs; document 01, Rounds). Definitions only.
-use Rattle.std.specs.Prelude.{ℕ, Bool, not, Float}
+use Rattle.std.specs.Prelude.{ℕ, Bool, not, Float, Ok, Err}
 use Rattle.std.specs.Float.Ieee.{neg}
+use Rattle.refusals.specs.declared.Refusal.TheVariants.{AgmSpent}
 use Rattle.binary64.specs.Operators.{◌⊕◌, ◌⊖◌, ◌⊗◌, ◌⊘◌, bits}
 use Rattle.root.specs.Root.{root}
 use Rattle.fused.specs.Fused.{fused}
-use Rattle.carlson.specs.Constants.{two, pi, agm_spent}
+use Rattle.carlson.specs.Constants.{two, pi}
 use Rattle.carlson.specs.Common.{mean_cap, apart}
 use Rattle.carlson.specs.Loop.{capped}
 use Rattle.carlson.specs.Answer.{agm_at}
-use Rattle.carlson.specs.declared.answer.Answer.{Answer}
-use Rattle.carlson.specs.declared.answer.Answer.TheVariants.{Value, Refused}
+use Rattle.carlson.specs.Answer.{Answer}
 use Rattle.rg_means.specs.declared.means.Sums.{Sums}
 
 -- the square of the mean, and what its rounding lost: the fused step is exact there
@@ -39,10 +39,10 @@ abbrev pub rg_together : Sums → Bool
 rg_together s = not (apart s.xn s.yn)
 
 abbrev pub rg_agm_found : Sums → ℕ → Answer
-rg_agm_found s n = Value (agm_at (rg_mean_value s) n)
+rg_agm_found s n = Ok (agm_at (rg_mean_value s) n)
 
 abbrev pub rg_agm_spent : Sums → ℕ → Answer
-rg_agm_spent s n = Refused agm_spent
+rg_agm_spent s n = Err AgmSpent
 
 -- document 01, Rounds: with the added cap spent it is refused with 9, if the test still says go on
 unfoldable pub rg_agm_of : Float → Float → Answer

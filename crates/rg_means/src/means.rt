@@ -4,8 +4,9 @@ ghost use Rattle.rg_means.specs.Means.{rg_begin, rg_moved, rg_next, rg_mean_valu
 
 use carlson::answer::{Answer, agm};
 use carlson::common::{MEAN_CAP, still_apart};
-use carlson::constants::{AGM_SPENT, PI};
+use carlson::constants::PI;
 use fused::mul_add;
+use refusals::Refusal;
 use root::{sqrt, sqrt_ahead};
 use root_guess::{Ahead, nearly_twice, ready, unready};
 
@@ -76,7 +77,7 @@ fn value_of(s: Sums) -> f64
     s.rg * rf / 2.0
 }
 
-// Refused if the cap is spent and the test still says go on.
+// Refused if the cap is spent and the test still says go on. (No `for`: it would have to make that test again behind its end.)
 pub fn agm_of(x: f64, z: f64) -> Answer
     ensures { result ≡ rg_agm_of x z }
 {
@@ -86,14 +87,14 @@ pub fn agm_of(x: f64, z: f64) -> Answer
     loop {
         if still_apart(s.xn, s.yn) {
             if n == MEAN_CAP {
-                break Answer::Refused(AGM_SPENT);
+                break Err(Refusal::AgmSpent);
             }
             let later = ready_next(s, k);
             s = next_sums(s, k);
             k = later;
             n += 1;
         } else {
-            break Answer::Value(agm(value_of(s), n));
+            break Ok(agm(value_of(s), n));
         }
     }
 }

@@ -1,7 +1,7 @@
 -- RG in any order (document 02, 2026-13): the whole answer is the same, value, count, road and rescalings, or refusal, where no
 -- argument is NaN and none is -0. With a -0 it is false, and the counterexample computes. Assumes nothing.
 use Rattle.std.specs.Prelude.{◌≡◌, refl, Bool, false, Float}
-use Rattle.std.proofs.Common.{sym, ap, ap₂, ◌∙◌, true≢false}
+use Rattle.std.proofs.Common.{sym, ap, ap₂, ◌∙◌, true≢false, Ok}
 use Rattle.std.specs.Float.Ieee.{of_bits, neg, lt, eq, is_nan}
 use Rattle.binary64.specs.Leaves.{absolute, maximum, minimum}
 use Rattle.root.specs.Root.{root}
@@ -11,8 +11,7 @@ use Rattle.carlson.specs.Constants.{zero}
 use Rattle.carlson.specs.Answer.{closed_at, settled_late}
 use Rattle.carlson_arguments.specs.Checks.{below3}
 use Rattle.carlson_arguments.specs.Rescaling.{rescaling3}
-use Rattle.carlson.specs.declared.answer.Answer.{Answer}
-use Rattle.carlson.specs.declared.answer.Answer.TheVariants.{Value, Refused}
+use Rattle.carlson.specs.Answer.{Answer}
 use Rattle.sorting.specs.declared.Triple.{Triple}
 use Rattle.sorting.specs.Sorting.{fall_xy, fall_xz, rise_yz, largest_first, three, Permuted}
 use Rattle.sorting.specs.Permuted.{Each}
@@ -38,7 +37,7 @@ rg_any_order {x} {y} {z} {x'} {y'} {z'} p a b c =
     (λ h. ap₂ rg_settled (rescaling_permuted p e times_root rg_steps steps_permuted h) (nan_permuted p))
 
 -- ---- with a -0 it is false: no zero is below another, and the root of the one that comes first is the answer
-pub first_zero : (rg (neg zero) zero zero ≡ Value (closed_at (neg zero))) × (rg zero (neg zero) zero ≡ Value (closed_at zero))
+pub first_zero : (rg (neg zero) zero zero ≡ Ok (closed_at (neg zero))) × (rg zero (neg zero) zero ≡ Ok (closed_at zero))
 unfolding rg rg_unchecked rg_steps rg_sorted rg_top rg_equal rg_settled fall_xy fall_xz rise_yz largest_first rescaling3 closed_at
     settled_late absolute maximum minimum root of_bits neg lt eq is_nan
 first_zero = (refl, refl)

@@ -1,6 +1,6 @@
 -- With a -0 the law of any order is false. Assumes nothing.
 use Rattle.std.specs.Prelude.{◌≡◌, refl, Bool, false, Float}
-use Rattle.std.proofs.Common.{sym, ap, ap₂, ◌∙◌, true≢false}
+use Rattle.std.proofs.Common.{sym, ap, ap₂, ◌∙◌, true≢false, Ok, Err}
 use Rattle.std.specs.Float.Ieee.{of_bits, neg, lt, eq, is_nan}
 use Rattle.binary64.specs.Leaves.{absolute, maximum, minimum}
 use Rattle.root.specs.Root.{root}
@@ -10,8 +10,7 @@ use Rattle.carlson.specs.Constants.{zero}
 use Rattle.carlson.specs.Answer.{closed_at, settled_late}
 use Rattle.carlson_arguments.specs.Checks.{below3}
 use Rattle.carlson_arguments.specs.Rescaling.{rescaling3}
-use Rattle.carlson.specs.declared.answer.Answer.{Answer}
-use Rattle.carlson.specs.declared.answer.Answer.TheVariants.{Value, Refused}
+use Rattle.carlson.specs.Answer.{Answer}
 use Rattle.sorting.specs.declared.Triple.{Triple}
 use Rattle.sorting.specs.Sorting.{fall_xy, fall_xz, rise_yz, largest_first, three, Permuted}
 use Rattle.sorting.specs.Permuted.{Each}
@@ -28,5 +27,5 @@ unfolding closed_at neg of_bits
 minus_zero e = true≢false (ap signed (sym first_zero.0 ∙ e ∙ first_zero.1))
   where
     signed : Answer → Bool
-    signed (Value f) = sign f.value
-    signed (Refused n) = false
+    signed (Ok f) = sign f.value
+    signed (Err n) = false

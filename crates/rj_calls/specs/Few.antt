@@ -5,7 +5,7 @@ use Rattle.std.proofs.Common.{arith}
 use Rattle.carlson.specs.Answer.{taylor_at}
 use Rattle.carlson.specs.Ways.{Few}
 use Rattle.carlson.proofs.Ways.{counted, few_wider}
-use Rattle.carlson.specs.declared.answer.Answer.{Answer}
+use Rattle.carlson.specs.Answer.{Answer}
 use Rattle.rf_duplicate.specs.Duplicate.{rf_cap}
 use Rattle.elliprd.specs.Rd.{over_scale}
 use Rattle.elliprd.proofs.Few.{over_scale_few}

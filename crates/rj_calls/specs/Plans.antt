@@ -1,5 +1,5 @@
 -- What holds of whatever a plan can be, for any property. Assumes nothing.
-use Rattle.std.specs.Prelude.{◌≡◌, true, false, Float}
+use Rattle.std.specs.Prelude.{◌≡◌, true, false, Float, Ok, Option, Some, None}
 use Rattle.std.proofs.Common.{sym, ◌∙◌, true≢false}
 use Rattle.std.specs.Float.Ieee.{neg, le}
 use Rattle.binary64.specs.Operators.{◌⊘◌}
@@ -7,12 +7,9 @@ use Rattle.carlson.specs.Constants.{zero as zero_above}
 use Rattle.carlson_arguments.specs.Rescaling.{scale_of4, rescales4}
 use Rattle.carlson.specs.Answer.{taylor_at}
 use Rattle.carlson.proofs.Only.{asked}
-use Rattle.carlson.specs.declared.answer.Answer.{Answer}
-use Rattle.carlson.specs.declared.answer.Answer.TheVariants.{Value}
+use Rattle.carlson.specs.Answer.{Answer}
 use Rattle.sorting.specs.Sorting.{rising}
 use Rattle.rj_positive.specs.Positive.{rj_positive}
-use Rattle.rj_near_zero.specs.declared.nearzero.Near.{Near}
-use Rattle.rj_near_zero.specs.declared.nearzero.Near.TheVariants.{Taylor, Far}
 use Rattle.rj_negative.specs.declared.reduction.Reduced.{Reduced}
 use Rattle.rj_near_zero.specs.NearZero.{near_zero}
 use Rattle.rj_negative.specs.Reduction.{reduce_of}
@@ -33,7 +30,7 @@ divided_of x y z p = let s = scale_of4 x y z p in record { x = x ⊘ s; y = y �
 
 -- p at most zero: the expansion, a rescaling or the reduction. Else RJ for p above zero, or a rescaling.
 module _ (A : Answer → Type 0) (C : Rescaled → Type 0) (R : Reduced → Type 0) (p : Float)
-    (near : le p zero_above ≡ true → (v : Float) → A (Value (taylor_at v)))
+    (near : le p zero_above ≡ true → (v : Float) → A (Ok (taylor_at v)))
     (scaled : (x y z : Float) → rescales4 x y z p (scale_of4 x y z p) ≡ true → C (divided_of x y z p))
     (reduced : le p zero_above ≡ true → (x y z : Float) → R (reduce_of x y z (neg p))) where
   scaled_holds : (x y z : Float) → (le p zero_above ≡ false → A (rj_positive x y z p)) → Plans A C R (plan_scaled x y z p)
@@ -42,10 +39,10 @@ module _ (A : Answer → Type 0) (C : Rescaled → Type 0) (R : Reduced → Type
       asked (Plans A C R) (rescales4 x y z p (scale_of4 x y z p)) (scaled x y z)
       (λ e. asked (Plans A C R) (le p zero_above) (λ h. reduced h x y z) positive)
 
-  near_holds : le p zero_above ≡ true → (n : Near) (x y z : Float) → Plans A C R (plan_near n x y z p)
+  near_holds : le p zero_above ≡ true → (n : Option Float) (x y z : Float) → Plans A C R (plan_near n x y z p)
   unfolding plan_near
-  near_holds h (Taylor v) x y z = near h v
-  near_holds h Far x y z = scaled_holds x y z (λ e. absurd (true≢false (sym h ∙ e)))
+  near_holds h (Some v) x y z = near h v
+  near_holds h None x y z = scaled_holds x y z (λ e. absurd (true≢false (sym h ∙ e)))
 
   pub plan_holds : (x y z : Float) → (le p zero_above ≡ false → A (rj_positive x y z p)) → Plans A C R (plan_of x y z p)
   unfolding plan_of

@@ -1,18 +1,15 @@
 -- RJ before its checks as the steps of elliprj.rs, each rounded once, with document 01's rescaling and depth. Definitions only.
-use Rattle.std.specs.Prelude.{ℕ, zero, suc, cond, Float}
+use Rattle.std.specs.Prelude.{ℕ, zero, suc, cond, Float, Ok, Err, Option, Some, None}
 use Rattle.std.specs.Float.Ieee.{neg, le}
+use Rattle.refusals.specs.declared.Refusal.TheVariants.{TooDeep}
 use Rattle.binary64.specs.Operators.{◌⊘◌}
-use Rattle.carlson.specs.Constants.{too_deep}
 use Rattle.carlson.specs.Constants.{zero as zero_above}
 use Rattle.carlson_arguments.specs.Rescaling.{scale_of4, rescales4}
 use Rattle.carlson.specs.Answer.{taylor_at}
-use Rattle.carlson.specs.declared.answer.Answer.{Answer}
-use Rattle.carlson.specs.declared.answer.Answer.TheVariants.{Value, Refused}
+use Rattle.carlson.specs.Answer.{Answer}
 use Rattle.sorting.specs.Sorting.{rising}
 use Rattle.elliprd.specs.Rd.{over_scale}
 use Rattle.rj_positive.specs.Positive.{rj_positive}
-use Rattle.rj_near_zero.specs.declared.nearzero.Near.{Near}
-use Rattle.rj_near_zero.specs.declared.nearzero.Near.TheVariants.{Taylor, Far}
 use Rattle.rj_near_zero.specs.NearZero.{near_zero}
 use Rattle.rj_negative.specs.Reduction.{reduce_of, reduced_answer}
 use Rattle.rj_calls.specs.declared.plan.Plan.{Plan}
@@ -29,9 +26,9 @@ plan_scaled x y z p =
     cond (rescales4 x y z p s) (Rescale (record { x = x ⊘ s; y = y ⊘ s; z = z ⊘ s; p = p ⊘ s; scale = s })) (plan_unscaled x y z p)
 
 -- near RJ's zero the expansion answers, before any rescaling
-unfoldable pub plan_near : Near → Float → Float → Float → Float → Plan
-plan_near (Taylor v) x y z p = Done (Value (taylor_at v))
-plan_near Far x y z p = plan_scaled x y z p
+unfoldable pub plan_near : Option Float → Float → Float → Float → Float → Plan
+plan_near (Some v) x y z p = Done (Ok (taylor_at v))
+plan_near None x y z p = plan_scaled x y z p
 
 -- for p at most zero, at the arguments in rising order
 unfoldable pub plan_of : Float → Float → Float → Float → Plan
@@ -41,7 +38,7 @@ plan_of x y z p =
 
 -- ---- document 01, Rounds: with no call left it is refused with 10
 unfoldable pub rj_run : ℕ → Plan → Answer
-rj_run zero plan = Refused too_deep
+rj_run zero plan = Err TooDeep
 rj_run (suc left) (Done a) = a
 rj_run (suc left) (Rescale c) = over_scale (rj_run left (plan_of c.x c.y c.z c.p)) c.scale
 rj_run (suc left) (Reduce r) = reduced_answer r (rj_run left (plan_of r.x r.y r.z r.p))

@@ -8,9 +8,9 @@ ghost use Rattle.rj_calls.specs.Run.{plan_of, rj_run, rj_unchecked};
 
 use crate::plan::{Plan, planned};
 use carlson::answer::Answer;
-use carlson::constants::TOO_DEEP;
 use carlson_arguments::rescaling::{rescales4, scale4};
 use elliprd::over_scale;
+use refusals::Refusal;
 use rj_negative::carried;
 use rj_positive::positive::positive;
 
@@ -23,7 +23,7 @@ fn call(x: f64, y: f64, z: f64, p: f64, left: u32) -> Answer
     ensures { result ≡ rj_run left (plan_of x y z p) }
 {
     if left == 0 {
-        return Answer::Refused(TOO_DEEP);
+        return Err(Refusal::TooDeep);
     }
     let plan = planned(x, y, z, p);
     match plan {

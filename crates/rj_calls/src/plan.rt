@@ -4,7 +4,7 @@ ghost use Rattle.rj_calls.specs.Run.{plan_unscaled, plan_scaled, plan_near, plan
 
 use carlson::answer::{Answer, taylor};
 use carlson_arguments::rescaling::{rescales4, scale4};
-use rj_near_zero::{Near, elliprj_pv_near_zero};
+use rj_near_zero::elliprj_pv_near_zero;
 use rj_negative::{Reduced, reduce};
 use rj_positive::positive::positive;
 use sorting::{Triple, rising};
@@ -52,12 +52,12 @@ fn scaled(x: f64, y: f64, z: f64, p: f64) -> Plan
     unscaled(x, y, z, p)
 }
 
-fn unless_near(near: Near, x: f64, y: f64, z: f64, p: f64) -> Plan
+fn unless_near(near: Option<f64>, x: f64, y: f64, z: f64, p: f64) -> Plan
     ensures { result ≡ plan_near near x y z p }
 {
     match near {
-        Near::Taylor(value) => Plan::Done(Answer::Value(taylor(value))),
-        Near::Far => scaled(x, y, z, p),
+        Some(value) => Plan::Done(Ok(taylor(value))),
+        None => scaled(x, y, z, p),
     }
 }
 

@@ -1,6 +1,6 @@
 -- RJ near its zero, in the steps of elliprj_pv_near_zero (elliprj.rs). Definitions, and that a constant of the code is what the
 -- Rust takes.
-use Rattle.std.specs.Prelude.{◌≡◌, refl, Bool, cond, Float}
+use Rattle.std.specs.Prelude.{◌≡◌, refl, Bool, cond, Float, Option, Some, None}
 use Rattle.std.specs.Float.Ieee.{neg, lt, le, of_bits}
 use Rattle.rounding.specs.Cut.{value, rounded}
 use Rattle.binary64.specs.Leaves.{absolute, maximum}
@@ -9,8 +9,6 @@ use Rattle.root.specs.Root.{root}
 use Rattle.fused.specs.Fused.{fused}
 use Rattle.carlson.specs.Constants.{two, three, four, epsilon}
 use Rattle.rj_near_zero.specs.declared.nearzero.Deltas.{Deltas}
-use Rattle.rj_near_zero.specs.declared.nearzero.Near.{Near}
-use Rattle.rj_near_zero.specs.declared.nearzero.Near.TheVariants.{Taylor, Far}
 
 unfoldable pub largest_of : Float → Float → Float → Float
 largest_of x y z = maximum (maximum (absolute x) (absolute y)) (absolute z)
@@ -70,8 +68,8 @@ unfolding root rounded value of_bits
 root_epsilon = refl
 
 -- within a quarter of q times the root of epsilon, after a wider first test
-unfoldable pub near_zero : Float → Float → Float → Float → Near
+unfoldable pub near_zero : Float → Float → Float → Float → Option Float
 near_zero x y z q =
     let radius = q ⊗ root epsilon in
     let d = deltas_of x y z q in
-    cond (distant x y z q radius) Far (cond (le (largest_of d.x d.y d.z) (radius ⊘ four)) (Taylor (taylor_of d q)) Far)
+    cond (distant x y z q radius) None (cond (le (largest_of d.x d.y d.z) (radius ⊘ four)) (Some (taylor_of d q)) None)

@@ -3,4 +3,4 @@
 
 mod nearzero;
 
-pub use crate::nearzero::{Near, elliprj_pv_near_zero};
+pub use crate::nearzero::elliprj_pv_near_zero;

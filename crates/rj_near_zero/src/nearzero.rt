@@ -19,13 +19,6 @@ use root::sqrt;
 
 const ROOT_EPSILON: f64 = 1.4901161193847656e-8; // 2 ^ -26, the root of 2 ^ -52
 
-// The expansion's value, or that the arguments are too far from the zero.
-#[derive(Clone, Copy)]
-pub enum Near {
-    Taylor(f64),
-    Far,
-}
-
 // The arguments' distances from 2q, 2q and 3q.
 #[derive(Clone, Copy)]
 pub struct Deltas {
@@ -101,16 +94,17 @@ fn value_of(d: Deltas, q: f64) -> f64
     (first / q + (quadratic(sum, product, dz) + cubic(sum, product, dz))) / q / sqrt(q)
 }
 
-pub fn elliprj_pv_near_zero(x: f64, y: f64, z: f64, q: f64) -> Near
+// The expansion's value, or none where the arguments are too far from the zero.
+pub fn elliprj_pv_near_zero(x: f64, y: f64, z: f64, q: f64) -> Option<f64>
     ensures { result ≡ near_zero x y z q }
 {
     let radius = q * ROOT_EPSILON;
     if far_off(x, y, z, q, radius) {
-        return Near::Far;
+        return None;
     }
     let d = deltas_of(x, y, z, q);
     if largest(d.x, d.y, d.z) <= radius / 4.0 {
-        return Near::Taylor(value_of(d, q));
+        return Some(value_of(d, q));
     }
-    Near::Far
+    None
 }

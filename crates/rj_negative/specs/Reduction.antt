@@ -1,12 +1,11 @@
 -- RJ for p below zero, by an RJ at another p (elliprj.rs; DLMF 19.20.14). Definitions only.
-use Rattle.std.specs.Prelude.{Float}
+use Rattle.std.specs.Prelude.{Float, Ok, Err}
 use Rattle.binary64.specs.Operators.{◌⊕◌, ◌⊖◌, ◌⊗◌, ◌⊘◌}
 use Rattle.root.specs.Root.{root}
 use Rattle.carlson.specs.Constants.{three}
 use Rattle.carlson.specs.Answer.{both_ways, wrapped_ways, reduction_at}
 use Rattle.carlson.specs.declared.answer.Found.{Found}
-use Rattle.carlson.specs.declared.answer.Answer.{Answer}
-use Rattle.carlson.specs.declared.answer.Answer.TheVariants.{Value, Refused}
+use Rattle.carlson.specs.Answer.{Answer}
 use Rattle.elliprc.specs.Rc.{rc_unchecked}
 use Rattle.elliprf.specs.Rf.{rf_unchecked}
 use Rattle.rj_negative.specs.declared.reduction.Reduced.{Reduced}
@@ -32,8 +31,8 @@ reduced_found r rj rf rc =
     reduction_at (reduced_value r rj.value rf.value rc.value) (both_ways (both_ways rj.way rf.way) rc.way)
 
 unfoldable pub reduced_answer : Reduced → Answer → Answer
-reduced_answer r (Value rj) = Value (reduced_found r rj (rf_unchecked r.x r.y r.z) (reduced_rc r))
-reduced_answer r (Refused n) = Refused n
+reduced_answer r (Ok rj) = Ok (reduced_found r rj (rf_unchecked r.x r.y r.z) (reduced_rc r))
+reduced_answer r (Err n) = Err n
 
 -- ---- what the code makes of any inner answer, its sums being of u32; of a call's it is the same (Few, `carried_plain`)
 unfoldable pub wrapped_found : Reduced → Found → Found → Found → Found
@@ -41,5 +40,5 @@ wrapped_found r rj rf rc =
     reduction_at (reduced_value r rj.value rf.value rc.value) (wrapped_ways (wrapped_ways rj.way rf.way) rc.way)
 
 unfoldable pub wrapped_answer : Reduced → Answer → Answer
-wrapped_answer r (Value rj) = Value (wrapped_found r rj (rf_unchecked r.x r.y r.z) (reduced_rc r))
-wrapped_answer r (Refused n) = Refused n
+wrapped_answer r (Ok rj) = Ok (wrapped_found r rj (rf_unchecked r.x r.y r.z) (reduced_rc r))
+wrapped_answer r (Err n) = Err n

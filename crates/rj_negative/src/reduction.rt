@@ -59,12 +59,7 @@ pub fn carried(r: Reduced, inner: Answer) -> Answer
     ensures { result ≡ wrapped_answer r inner }
 {
     match inner {
-        Answer::Value(rj) => Answer::Value(together(
-            r,
-            rj,
-            elliprf_unchecked(r.x, r.y, r.z),
-            rc_of(r),
-        )),
-        Answer::Refused(n) => Answer::Refused(n),
+        Ok(rj) => Ok(together(r, rj, elliprf_unchecked(r.x, r.y, r.z), rc_of(r))),
+        Err(n) => Err(n),
     }
 }

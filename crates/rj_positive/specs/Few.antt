@@ -10,7 +10,7 @@ use Rattle.carlson.specs.Loop.{capped_keeps}
 use Rattle.carlson.proofs.Only.{chosen}
 use Rattle.carlson.specs.Ways.{Within, Few}
 use Rattle.carlson.proofs.Ways.{counted, wider, few_wider, both_within}
-use Rattle.carlson.specs.declared.answer.Answer.{Answer}
+use Rattle.carlson.specs.Answer.{Answer}
 use Rattle.elliprc.specs.Few.{rc_within}
 use Rattle.elliprd.specs.Rd.{rd_unchecked}
 use Rattle.elliprd.proofs.Few.{rd_few}

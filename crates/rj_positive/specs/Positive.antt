@@ -1,13 +1,12 @@
 -- RJ for p above zero: the special cases in the Rust's order (elliprj.rs; DLMF 19.20(iii)). Definitions only.
-use Rattle.std.specs.Prelude.{Bool, cond, Float}
+use Rattle.std.specs.Prelude.{Bool, cond, Float, Ok}
 use Rattle.std.specs.Float.Ieee.{lt, le, eq}
 use Rattle.binary64.specs.Leaves.{maximum, minimum}
 use Rattle.binary64.specs.Operators.{◌⊖◌, ◌⊗◌, ◌⊘◌, bits}
 use Rattle.root.specs.Root.{root}
 use Rattle.carlson.specs.Constants.{one, three}
 use Rattle.carlson.specs.Answer.{both_ways, closed_at, carried_at}
-use Rattle.carlson.specs.declared.answer.Answer.{Answer}
-use Rattle.carlson.specs.declared.answer.Answer.TheVariants.{Value}
+use Rattle.carlson.specs.Answer.{Answer}
 use Rattle.elliprc.specs.Rc.{rc_unchecked}
 use Rattle.elliprd.specs.Rd.{rd_unchecked}
 use Rattle.rj_positive.specs.Duplicate.{rj_duplication}
@@ -18,22 +17,22 @@ well_apart p x = lt (bits 0x3FF3_3333_3333_3333) (maximum p x ⊘ minimum p x)
 
 -- RJ(x, x, x, x)
 unfoldable pub rj_all : Float → Answer
-rj_all x = Value (closed_at (one ⊘ (x ⊗ root x)))
+rj_all x = Ok (closed_at (one ⊘ (x ⊗ root x)))
 
 -- RJ(x, x, x, p)
 unfoldable pub rj_three : Float → Float → Answer
-rj_three x p = let rc = rc_unchecked x p in Value (carried_at (three ⊘ (x ⊖ p) ⊗ (rc.value ⊖ one ⊘ root x)) rc.way)
+rj_three x p = let rc = rc_unchecked x p in Ok (carried_at (three ⊘ (x ⊖ p) ⊗ (rc.value ⊖ one ⊘ root x)) rc.way)
 
 -- RJ(x, y, y, p)
 unfoldable pub rj_two : Float → Float → Float → Answer
 rj_two x y p =
     let first = rc_unchecked x y in
     let second = rc_unchecked x p in
-    Value (carried_at (three ⊗ (first.value ⊖ second.value) ⊘ (p ⊖ y)) (both_ways first.way second.way))
+    Ok (carried_at (three ⊗ (first.value ⊖ second.value) ⊘ (p ⊖ y)) (both_ways first.way second.way))
 
 -- RJ(x, y, z, z) is RD(x, y, z); else duplication
 unfoldable pub rj_last : Float → Float → Float → Float → Answer
-rj_last x y z p = cond (eq z p) (rd_unchecked x y z) (Value (rj_duplication x y z p))
+rj_last x y z p = cond (eq z p) (rd_unchecked x y z) (Ok (rj_duplication x y z p))
 
 -- y = z
 unfoldable pub rj_pair : Float → Float → Float → Float → Answer

@@ -147,19 +147,17 @@ fn roots_at(x: f64, y: f64, z: f64, p: f64) -> Roots
         let rz = by_row(c, row(c));
         let rp = by_row(d, row(d));
         if numbers4(rx, ry, rz, rp) {
-            if certain(a, f64::to_bits(rx)) {
-                if certain(b, f64::to_bits(ry)) {
-                    if certain(c, f64::to_bits(rz)) {
-                        if certain(d, f64::to_bits(rp)) {
-                            return Roots {
-                                x: rx,
-                                y: ry,
-                                z: rz,
-                                p: rp,
-                            };
-                        }
-                    }
-                }
+            if certain(a, f64::to_bits(rx))
+                && certain(b, f64::to_bits(ry))
+                && certain(c, f64::to_bits(rz))
+                && certain(d, f64::to_bits(rp))
+            {
+                return Roots {
+                    x: rx,
+                    y: ry,
+                    z: rz,
+                    p: rp,
+                };
             }
         }
     }
@@ -223,15 +221,11 @@ pub fn duplicated(x: f64, y: f64, z: f64, p: f64) -> Found
     let mut at = begin(x, y, z, p);
     let a0 = at.an;
     let q = start_of(a0, x, y, z, p);
-    let mut n: u32 = 0;
-    loop {
-        if n == CAP {
-            break duplication_over(not_a_number(), n, at.rescalings);
-        }
+    for n in 0..CAP {
         at = step(at);
-        n += 1;
         if close(at, q) {
-            break duplication_over(series(x, y, z, a0, at), n, at.rescalings);
+            return duplication_over(series(x, y, z, a0, at), n + 1, at.rescalings);
         }
     }
+    duplication_over(not_a_number(), CAP, at.rescalings)
 }

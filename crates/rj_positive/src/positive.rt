@@ -23,7 +23,7 @@ fn well_apart(p: f64, x: f64) -> bool
 fn all_equal(x: f64) -> Answer
     ensures { result ≡ rj_all x }
 {
-    Answer::Value(closed(1.0 / (x * sqrt(x))))
+    Ok(closed(1.0 / (x * sqrt(x))))
 }
 
 // RJ(x, x, x, p)
@@ -31,7 +31,7 @@ fn three_equal(x: f64, p: f64) -> Answer
     ensures { result ≡ rj_three x p }
 {
     let rc = elliprc_unchecked(x, p);
-    Answer::Value(carried((3.0 / (x - p)) * (rc.value - 1.0 / sqrt(x)), rc.way))
+    Ok(carried((3.0 / (x - p)) * (rc.value - 1.0 / sqrt(x)), rc.way))
 }
 
 // RJ(x, y, y, p)
@@ -41,7 +41,7 @@ fn two_equal(x: f64, y: f64, p: f64) -> Answer
     let first = elliprc_unchecked(x, y);
     let second = elliprc_unchecked(x, p);
     let way = both_ways(first.way, second.way);
-    Answer::Value(carried(3.0 * (first.value - second.value) / (p - y), way))
+    Ok(carried(3.0 * (first.value - second.value) / (p - y), way))
 }
 
 // No two of x, y, z are of use; RJ(x, y, z, z) is RD.
@@ -53,7 +53,7 @@ fn last(x: f64, y: f64, z: f64, p: f64) -> Answer
         return a;
     }
     let found = duplicated(x, y, z, p);
-    Answer::Value(found)
+    Ok(found)
 }
 
 // y = z. A large x makes the RC values nearly equal even when p and y differ, so both sources of cancellation are excluded.

@@ -1,9 +1,7 @@
 -- Several f64s of which none is NaN, by one test of their sum; and what the test of a guess says of the f64s. Assumes nothing.
-use Rattle.std.specs.Prelude.{◌≡◌, ℕ, Bool, true, not, T, from_bits, to_bits, Float}
-use Rattle.std.proofs.Common.{sym, ap, ◌∙◌, subst, true≢false}
-use Rattle.std.specs.Float.{nan, inf, fin, binary64}
-use Rattle.std.specs.Float.Ieee.{fits, is_nan, eq, add}
-use Rattle.std.specs.Float.Ieee.Bits.{of_bits-to_bits}
+use Rattle.std.specs.Prelude.{◌≡◌, ℕ, Bool, not, T, from_bits, to_bits, Float}
+use Rattle.std.specs.Float.{binary64}
+use Rattle.std.specs.Float.Ieee.{is_nan, eq}
 use Rattle.binary64.specs.Operators.{◌⊕◌}
 use Rattle.root.specs.Root.{root}
 

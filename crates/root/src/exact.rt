@@ -42,10 +42,8 @@ fn bisect(n: u64) -> u64
     ensures { RootDigits n result }
 {
     let mut low = ONE - 1;
-    let mut turns = 52u64;
-    while 0 < turns {
-        turns -= 1;
-        let middle = low + (1 << turns);
+    for turn in (0..52u64).rev() {
+        let middle = low + (1 << turn);
         if above(n, middle) {
             low = middle;
         }
@@ -72,7 +70,7 @@ fn near(n: u64) -> u64
     let r = 0.5186 + v * (0.526 - v * 0.0395);
     let s = nearer(h, nearer(h, nearer(h, r)));
     if s > 0.0 {
-        return std::num::wrapping_sub_u64(f64::to_bits(s), TWO);
+        return f64::to_bits(s).wrapping_sub(TWO);
     }
     0
 }
@@ -96,14 +94,14 @@ pub fn search(n: u64) -> Digits
             way: Way::Second,
         };
     }
-    let before = std::num::wrapping_sub_u64(c, 1);
+    let before = c.wrapping_sub(1);
     if is_root(n, before) {
         return Digits {
             c: before,
             way: Way::Neighbour,
         };
     }
-    let after = std::num::wrapping_add_u64(c, 1);
+    let after = c.wrapping_add(1);
     if is_root(n, after) {
         return Digits {
             c: after,

@@ -23,7 +23,8 @@ fn normal(b: u64) -> Parts
     Parts { n: m * 2, y }
 }
 
-// With no leading digit, n is multiplied by 4 until it has 53, at most 26 times.
+// With no leading digit, n is multiplied by 4 until it has 53, at most 26 times. (A `while`, since only n says when that is: a
+// `for` would want a count and a way out.)
 fn subnormal(b: u64) -> Parts
     requires { (0 < b) × (b < 2 ^ 52) }
     ensures { Scaled b result.n result.y }

@@ -2,10 +2,11 @@
 -- ends in a refusal, which carries no count. Assumes nothing.
 use Rattle.std.specs.Prelude.{ℕ, ◌-◌, ◌≤◌, ◌≡◌, Bool, true, false, ◌&&◌, ◌||◌, cond, Float}
 use Rattle.std.proofs.Math.Path.{refl}
-use Rattle.std.proofs.Common.{sym, arith}
+use Rattle.std.proofs.Common.{sym, arith, Ok, Err}
 use Rattle.std.specs.Float.Ieee.{lt, le, eq}
 use Rattle.std.specs.Float.Ieee.Scale.{finite}
 use Rattle.binary64.specs.Leaves.{minimum}
+use Rattle.refusals.specs.declared.Refusal.{Refusal}
 use Rattle.carlson.specs.Constants.{zero as +0}
 use Rattle.carlson_arguments.specs.Checks.{any_nan2, any_nan3, any_nan4, any_infinite2, any_infinite3, any_infinite4, below3, zeros_of3}
 use Rattle.carlson.specs.Answer.{infinite_at, loop_at, settled, settled_late}
@@ -13,8 +14,7 @@ use Rattle.carlson.specs.Loop.{capped_holds}
 use Rattle.carlson.proofs.Only.{asked, chosen, chosen_both}
 use Rattle.carlson.specs.declared.answer.Found.{Found}
 use Rattle.carlson.specs.declared.answer.Road.TheVariants.{Infinite}
-use Rattle.carlson.specs.declared.answer.Answer.{Answer}
-use Rattle.carlson.specs.declared.answer.Answer.TheVariants.{Value, Refused}
+use Rattle.carlson.specs.Answer.{Answer}
 use Rattle.elliprc.specs.Rc.{rc_unchecked, rc}
 use Rattle.elliprc.specs.Few.{rc_within}
 use Rattle.rf_duplicate.specs.Duplicate.{rf_cap}
@@ -52,36 +52,36 @@ use Rattle.rounds.specs.Runs.{rj_inside, rj_above_inside}
 use Rattle.rounds.specs.Bounds.{Begun, Counted, above_most, below_most, cel_most, infinite, most_of, refused, rounds_of, value}
 
 -- ---- how an entry settles what was found inside
-module _ {m k n : ℕ} (f : Found) (h : k ≤ m) (i : Exactly k (Value f) n) where
-  stands : Begun m (Value f) n
+module _ {m k n : ℕ} (f : Found) (h : k ≤ m) (i : Exactly k (Ok f) n) where
+  stands : Begun m (Ok f) n
   stands = record { most = omega (arith, i.most); counts = value i.exact }
 
-  no : {r : ℕ} → Begun m (Refused r) n
+  no : {r : Refusal} → Begun m (Err r) n
   no = record { most = omega (arith, i.most); counts = refused }
 
   zero_given : Begun m infinite_at n
   unfolding infinite_at
   zero_given = record { most = omega (arith, i.most); counts = infinite refl refl }
 
-  plainly : (r : ℕ) → Begun m (settled f r) n
+  plainly : (r : Refusal) → Begun m (settled f r) n
   unfolding settled
   plainly r = chosen (λ a. Begun m a n) (finite f.value) stands no
 
-  late : (nan unbounded : Bool) (r : ℕ) → Begun m (settled_late f nan unbounded r) n
+  late : (nan unbounded : Bool) (r : Refusal) → Begun m (settled_late f nan unbounded r) n
   unfolding settled_late
   late nan unbounded r =
       chosen (λ a. Begun m a n) (finite f.value) stands
       (chosen (λ a. Begun m a n) nan no (chosen (λ a. Begun m a n) unbounded zero_given no))
 
 -- refused by its arguments, or zero for an infinite one
-unbegun : {m r : ℕ} → Begun m (Refused r) 0
+unbegun : {m : ℕ} {r : Refusal} → Begun m (Err r) 0
 unbegun = record { most = omega arith; counts = refused }
 
 unbegun_zero : {m : ℕ} → Begun m infinite_at 0
 unfolding infinite_at
 unbegun_zero = record { most = omega arith; counts = value refl }
 
-of_found : {m : ℕ} (f : Found) → rounds_in f ≤ m → Exactly m (Value f) (rounds_in f)
+of_found : {m : ℕ} (f : Found) → rounds_in f ≤ m → Exactly m (Ok f) (rounds_in f)
 of_found f h = record { most = h; exact = refl }
 
 -- ---- the entries, with any m that is at least the cap
@@ -89,7 +89,7 @@ rc_begun : (x y : Float) → Begun 0 (rc x y) 0
 unfolding rc
 rc_begun x y =
     let f = rc_unchecked x y in
-    let none : Exactly 0 (Value f) 0 = record { most = omega arith; exact = omega (arith, (rc_within x y).begun) } in
+    let none : Exactly 0 (Ok f) 0 = record { most = omega arith; exact = omega (arith, (rc_within x y).begun) } in
     chosen (λ a. Begun 0 a 0) (lt x +0) unbegun
     (chosen (λ a. Begun 0 a 0) (eq y +0) unbegun (late f (omega arith) none (any_nan2 x y) (any_infinite2 x y) _))
 
@@ -105,8 +105,8 @@ rf_begun_lem {m} h x y z =
 rd_settled_lem : {m k : ℕ} → k ≤ m → (a : Answer) (n : ℕ) (nan unbounded : Bool) → Exactly k a n
     → Begun m (rd_settled a nan unbounded) n
 unfolding rd_settled
-rd_settled_lem h (Value f) n nan unbounded i = late f h i nan unbounded _
-rd_settled_lem h (Refused r) n nan unbounded i = record { most = omega (arith, i.most); counts = refused }
+rd_settled_lem h (Ok f) n nan unbounded i = late f h i nan unbounded _
+rd_settled_lem h (Err r) n nan unbounded i = record { most = omega (arith, i.most); counts = refused }
 
 rd_begun_lem : {m : ℕ} → rd_cap ≤ m → (x y z : Float) → Begun m (rd x y z) (rd_begun x y z)
 unfolding rd rd_begun
@@ -118,8 +118,8 @@ rd_begun_lem {m} h x y z =
 
 rg_settled_lem : {m k : ℕ} → k ≤ m → (a : Answer) (n : ℕ) (nan : Bool) → Exactly k a n → Begun m (rg_settled a nan) n
 unfolding rg_settled
-rg_settled_lem h (Value f) n nan i = late f h i nan false _
-rg_settled_lem h (Refused r) n nan i = record { most = omega (arith, i.most); counts = refused }
+rg_settled_lem h (Ok f) n nan i = late f h i nan false _
+rg_settled_lem h (Err r) n nan i = record { most = omega (arith, i.most); counts = refused }
 
 rg_begun_lem : {m : ℕ} → joint_cap ≤ m → (x y z : Float) → Begun m (rg x y z) (rg_begun x y z)
 unfolding rg rg_begun
@@ -130,8 +130,8 @@ rg_begun_lem {m} h x y z =
 -- ---- RJ, where p is no zero and has not the wrong sign
 rj_settled_lem : {m k : ℕ} → k ≤ m → (a : Answer) (n : ℕ) → Exactly k a n → Begun m (rj_settled a) n
 unfolding rj_settled
-rj_settled_lem h (Value f) n i = plainly f h i _
-rj_settled_lem h (Refused r) n i = record { most = omega (arith, i.most); counts = refused }
+rj_settled_lem h (Ok f) n i = plainly f h i _
+rj_settled_lem h (Err r) n i = record { most = omega (arith, i.most); counts = refused }
 
 unless : {A B : Type 0} (R : A → B → Type 0) (b : Bool) {u v : A} {u' v' : B} → R u u' → (b ≡ false → R v v')
     → R (cond b u v) (cond b u' v')
@@ -218,21 +218,21 @@ pub begun_bound : (c : Call) → begun_of c ≤ most_of c
 begun_bound c = (begun c).most
 
 -- it is the count, but for the zero of an infinite argument
-pub begun_counts : (c : Call) (f : Found) → answer_of c ≡ Value f → (f.road ≡ Infinite → ⊥) → begun_of c ≡ f.way.rounds
+pub begun_counts : (c : Call) (f : Found) → answer_of c ≡ Ok f → (f.road ≡ Infinite → ⊥) → begun_of c ≡ f.way.rounds
 begun_counts c f e k = exact (rw e at (begun c).counts)
   where
-    exact : Counted (begun_of c) (Value f) → begun_of c ≡ f.way.rounds
+    exact : Counted (begun_of c) (Ok f) → begun_of c ≡ f.way.rounds
     exact (value g) = sym g
     exact (infinite r g) = absurd (k r)
 
 -- and never less
 counted_most : {m n : ℕ} (a : Answer) → Begun m a n → rounds_of a ≤ n
-counted_most (Value f) b = go b.counts
+counted_most (Ok f) b = go b.counts
   where
-    go : {n : ℕ} → Counted n (Value f) → f.way.rounds ≤ n
+    go : {n : ℕ} → Counted n (Ok f) → f.way.rounds ≤ n
     go (value g) = omega arith
     go (infinite r g) = omega arith
-counted_most (Refused r) b = omega arith
+counted_most (Err r) b = omega arith
 
 pub rounds_begun : (c : Call) → rounds_of (answer_of c) ≤ begun_of c
 rounds_begun c = counted_most (answer_of c) (begun c)

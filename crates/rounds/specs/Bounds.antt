@@ -1,11 +1,12 @@
 -- HOW MUCH WORK A CALL CAN BE (document 02, 2026-12): the rounds of every answer, and the passes begun inside also where a call
 -- ends in a refusal, which carries no count. Assumes nothing.
-use Rattle.std.specs.Prelude.{ℕ, ◌-◌, ◌≤◌, ◌≡◌, Bool, true, false, ◌&&◌, ◌||◌, cond, Float}
+use Rattle.std.specs.Prelude.{ℕ, ◌-◌, ◌≤◌, ◌≡◌, Bool, true, false, ◌&&◌, ◌||◌, cond, Float, Ok, Err}
 use Rattle.std.proofs.Math.Path.{refl}
 use Rattle.std.proofs.Common.{sym, arith}
 use Rattle.std.specs.Float.Ieee.{lt, le, eq}
 use Rattle.std.specs.Float.Ieee.Scale.{finite}
 use Rattle.binary64.specs.Leaves.{minimum}
+use Rattle.refusals.specs.declared.Refusal.{Refusal}
 use Rattle.carlson.specs.Constants.{zero as +0}
 use Rattle.carlson_arguments.specs.Checks.{any_nan2, any_nan3, any_nan4, any_infinite2, any_infinite3, any_infinite4, below3, zeros_of3}
 use Rattle.carlson.specs.Answer.{infinite_at, loop_at, settled, settled_late}
@@ -13,8 +14,7 @@ use Rattle.carlson.specs.Loop.{capped_holds}
 use Rattle.carlson.proofs.Only.{asked, chosen, chosen_both}
 use Rattle.carlson.specs.declared.answer.Found.{Found}
 use Rattle.carlson.specs.declared.answer.Road.TheVariants.{Infinite}
-use Rattle.carlson.specs.declared.answer.Answer.{Answer}
-use Rattle.carlson.specs.declared.answer.Answer.TheVariants.{Value, Refused}
+use Rattle.carlson.specs.Answer.{Answer}
 use Rattle.elliprc.specs.Rc.{rc_unchecked, rc}
 use Rattle.elliprc.specs.Few.{rc_within}
 use Rattle.rf_duplicate.specs.Duplicate.{rf_cap}
@@ -53,8 +53,8 @@ use Rattle.rounds.specs.Runs.{rj_inside, rj_above_inside}
 -- ---- THE STATEMENT
 -- the rounds of an answer
 abbrev pub rounds_of : Answer → ℕ
-rounds_of (Value f) = f.way.rounds
-rounds_of (Refused n) = 0
+rounds_of (Ok f) = f.way.rounds
+rounds_of (Err n) = 0
 
 abbrev pub above_most : ℕ
 above_most = 100
@@ -77,9 +77,9 @@ most_of (Cel kc p a b) = cel_most
 
 -- n is what the answer counts; the zero for an infinite argument counts none (document 02, 2026-04), whatever was begun
 pub data Counted (n : ℕ) : Answer → Type 0 where
-  value : {f : Found} → f.way.rounds ≡ n → Counted n (Value f)
-  infinite : {f : Found} → f.road ≡ Infinite → f.way.rounds ≡ 0 → Counted n (Value f)
-  refused : {m : ℕ} → Counted n (Refused m)
+  value : {f : Found} → f.way.rounds ≡ n → Counted n (Ok f)
+  infinite : {f : Found} → f.road ≡ Infinite → f.way.rounds ≡ 0 → Counted n (Ok f)
+  refused : {r : Refusal} → Counted n (Err r)
 
 -- n passes are begun: at most m, and the answer counts them
 pub record Begun (m : ℕ) (a : Answer) (n : ℕ) : Type 0 where

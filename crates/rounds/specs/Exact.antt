@@ -1,10 +1,11 @@
 -- The counts of Inside are those of the answers that they mirror: RD and RG. Assumes nothing.
-use Rattle.std.specs.Prelude.{ℕ, ◌≤◌, ◌≡◌, Float}
+use Rattle.std.specs.Prelude.{ℕ, ◌≤◌, ◌≡◌, Float, Ok, Err}
 use Rattle.std.proofs.Math.Path.{refl}
 use Rattle.std.proofs.Common.{arith}
 use Rattle.std.specs.Float.Ieee.{le, eq}
 use Rattle.binary64.specs.Operators.{◌⊗◌, bits}
 use Rattle.root.specs.Root.{root}
+use Rattle.refusals.specs.declared.Refusal.{Refusal}
 use Rattle.carlson.specs.Constants.{zero as +0}
 use Rattle.carlson.specs.Common.{mean_cap}
 use Rattle.carlson.specs.Answer.{closed_at, carried_at, agm_at, rescaled_at}
@@ -13,8 +14,7 @@ use Rattle.carlson.proofs.Only.{chosen, chosen_both}
 use Rattle.carlson_arguments.specs.Rescaled.{rescaled3_both}
 use Rattle.carlson.specs.Ways.{Within}
 use Rattle.carlson.specs.declared.answer.Found.{Found}
-use Rattle.carlson.specs.declared.answer.Answer.{Answer}
-use Rattle.carlson.specs.declared.answer.Answer.TheVariants.{Value, Refused}
+use Rattle.carlson.specs.Answer.{Answer}
 use Rattle.sorting.specs.Sorting.{largest_first}
 use Rattle.elliprc.specs.Few.{rc_within}
 use Rattle.elliprd.specs.Means.{sums_of, rd_together, rd_agm_found, rd_agm_spent, rd_agm_start, rd_agm_of}
@@ -42,20 +42,20 @@ use Rattle.rounds.specs.Inside.{
 
 -- ---- n passes are begun, at most m, and a value counts just those; inside no road is infinite
 abbrev pub Exact : Answer → ℕ → Type 0
-Exact (Value f) n = f.way.rounds ≡ n
-Exact (Refused m) n = Unit {0}
+Exact (Ok f) n = f.way.rounds ≡ n
+Exact (Err m) n = Unit {0}
 
 pub record Exactly (m : ℕ) (a : Answer) (n : ℕ) : Type 0 where
   pub most : n ≤ m
   pub exact : Exact a n
 
-pub found : {m : ℕ} (f : Found) → rounds_in f ≤ m → Exactly m (Value f) (rounds_in f)
+pub found : {m : ℕ} (f : Found) → rounds_in f ≤ m → Exactly m (Ok f) (rounds_in f)
 found f h = record { most = h; exact = refl }
 
-pub closed : {m k : ℕ} (f : Found) → Within 0 k f.way → Exactly m (Value f) 0
+pub closed : {m k : ℕ} (f : Found) → Within 0 k f.way → Exactly m (Ok f) 0
 closed f h = record { most = omega arith; exact = omega (arith, h.begun) }
 
-pub none : {m : ℕ} (f : Found) → rounds_in f ≡ 0 → Exactly m (Value f) 0
+pub none : {m : ℕ} (f : Found) → rounds_in f ≡ 0 → Exactly m (Ok f) 0
 none f h = record { most = omega arith; exact = h }
 
 pub more : {m m' n : ℕ} (a : Answer) → m ≤ m' → Exactly m a n → Exactly m' a n
@@ -63,11 +63,11 @@ more a h i = record { most = omega (arith, i.most); exact = i.exact }
 
 -- a mean is a value, or refused with its cap spent
 module _ {m n : ℕ} (h : n ≤ mean_cap) (g : mean_cap ≤ m) where
-  agm_found : (v : Float) → Exactly m (Value (agm_at v n)) n
+  agm_found : (v : Float) → Exactly m (Ok (agm_at v n)) n
   unfolding agm_at
   agm_found v = record { most = omega arith; exact = refl }
 
-  agm_refused : (k : ℕ) → Exactly m (Refused k) n
+  agm_refused : (r : Refusal) → Exactly m (Err r) n
   agm_refused k = record { most = omega arith; exact = tt }
 
 -- ---- RD
@@ -97,8 +97,8 @@ rd_steps_lem x y z = chosen_both (Exactly rd_cap) (eq x z) (rd_ordered_lem y x z
 
 pub over_scale_lem : (m : ℕ) (a : Answer) (n : ℕ) (s : Float) → Exactly m a n → Exactly m (over_scale a s) n
 unfolding over_scale rescaled_at
-over_scale_lem m (Value f) n s i = record { most = i.most; exact = i.exact }
-over_scale_lem m (Refused k) n s i = record { most = i.most; exact = tt }
+over_scale_lem m (Ok f) n s i = record { most = i.most; exact = i.exact }
+over_scale_lem m (Err k) n s i = record { most = i.most; exact = tt }
 
 pub rd_inside_lem : (x y z : Float) → Exactly rd_cap (rd_unchecked x y z) (rd_inside x y z)
 unfolding rd_unchecked rd_inside
@@ -143,8 +143,8 @@ rg_steps_lem x y z = let t = largest_first (record { x = x; y = y; z = z }) in r
 
 times_root_lem : (a : Answer) (n : ℕ) (s : Float) → Exactly joint_cap a n → Exactly joint_cap (times_root a s) n
 unfolding times_root rescaled_at
-times_root_lem (Value f) n s i = record { most = i.most; exact = i.exact }
-times_root_lem (Refused k) n s i = record { most = i.most; exact = tt }
+times_root_lem (Ok f) n s i = record { most = i.most; exact = i.exact }
+times_root_lem (Err k) n s i = record { most = i.most; exact = tt }
 
 pub rg_inside_lem : (x y z : Float) → Exactly joint_cap (rg_unchecked x y z) (rg_inside x y z)
 unfolding rg_unchecked rg_inside

@@ -1,6 +1,6 @@
 -- The passes that a call begins inside, whatever it then answers (document 02, 2026-12): the entries' roads with their counts
 -- alone. Definitions only.
-use Rattle.std.specs.Prelude.{ℕ, zero, suc, ◌+◌, Bool, false, ◌&&◌, ◌||◌, cond, Float}
+use Rattle.std.specs.Prelude.{ℕ, zero, suc, ◌+◌, Bool, false, ◌&&◌, ◌||◌, cond, Float, Ok, Err}
 use Rattle.std.specs.Float.Ieee.{lt, le, eq}
 use Rattle.binary64.specs.Leaves.{minimum, maximum}
 use Rattle.binary64.specs.Operators.{◌⊗◌, bits}
@@ -11,8 +11,7 @@ use Rattle.carlson_arguments.specs.Checks.{any_nan3, any_nan4, any_infinite3, an
 use Rattle.carlson_arguments.specs.Rescaling.{rescaling3}
 use Rattle.carlson.specs.Loop.{capped}
 use Rattle.carlson.specs.declared.answer.Found.{Found}
-use Rattle.carlson.specs.declared.answer.Answer.{Answer}
-use Rattle.carlson.specs.declared.answer.Answer.TheVariants.{Value, Refused}
+use Rattle.carlson.specs.Answer.{Answer}
 use Rattle.sorting.specs.Sorting.{largest_first}
 use Rattle.elliprf.specs.Rf.{rf_unchecked}
 use Rattle.elliprd.specs.Means.{sums_of, rd_together, rd_agm_start}
@@ -98,8 +97,8 @@ rj_done_inside x y z p = cond (le p +0) 0 (rj_positive_inside x y z p)
 
 -- a reduction calls RF after RJ, where that was not refused; RC begins none
 unfoldable pub reduced_inside : Reduced → Answer → ℕ → ℕ
-reduced_inside r (Value f) n = n + rounds_in (rf_unchecked r.x r.y r.z)
-reduced_inside r (Refused m) n = n
+reduced_inside r (Ok f) n = n + rounds_in (rf_unchecked r.x r.y r.z)
+reduced_inside r (Err m) n = n
 
 -- so many calls are left; the plan, and what it begins if it is done
 unfoldable pub rj_run_inside : ℕ → Plan → ℕ → ℕ

@@ -1,10 +1,11 @@
 -- No answer's rescalings come near 2 ^ 32: the modulus with which the definitions count them, as u32 do, never acts (carlson's
 -- `rescaled_plain`). Assumes nothing.
-use Rattle.std.specs.Prelude.{ℕ, ◌+◌, ◌-◌, ◌≤◌, Bool, false, ◌&&◌, ◌||◌, Float}
+use Rattle.std.specs.Prelude.{ℕ, ◌+◌, ◌-◌, ◌≤◌, Bool, false, ◌&&◌, ◌||◌, Float, Ok, Err}
 use Rattle.std.proofs.Common.{arith}
 use Rattle.std.specs.Float.Ieee.{lt, le, eq}
 use Rattle.std.specs.Float.Ieee.Scale.{finite}
 use Rattle.binary64.specs.Leaves.{minimum}
+use Rattle.refusals.specs.declared.Refusal.{Refusal}
 use Rattle.carlson.specs.Constants.{zero as +0}
 use Rattle.carlson_arguments.specs.Checks.{any_nan2, any_nan3, any_nan4, any_infinite2, any_infinite3, any_infinite4, below3, zeros_of3}
 use Rattle.carlson.specs.Answer.{infinite_at, loop_at, settled, settled_late}
@@ -13,8 +14,7 @@ use Rattle.carlson.proofs.Only.{chosen}
 use Rattle.carlson.specs.Ways.{Within, Few}
 use Rattle.carlson.proofs.Ways.{counted}
 use Rattle.carlson.specs.declared.answer.Found.{Found}
-use Rattle.carlson.specs.declared.answer.Answer.{Answer}
-use Rattle.carlson.specs.declared.answer.Answer.TheVariants.{Value, Refused}
+use Rattle.carlson.specs.Answer.{Answer}
 use Rattle.elliprc.specs.Rc.{rc_unchecked, rc}
 use Rattle.elliprc.specs.Few.{rc_within}
 use Rattle.elliprf.specs.Rf.{rf_unchecked, rf}
@@ -34,8 +34,8 @@ use Rattle.answers.specs.Answers.{number, answer_of}
 
 -- ---- the statement
 abbrev pub rescalings_of : Answer → ℕ
-rescalings_of (Value f) = f.way.rescalings
-rescalings_of (Refused n) = 0
+rescalings_of (Ok f) = f.way.rescalings
+rescalings_of (Err n) = 0
 
 -- RC and RD rescale once, RF and RG beside an RC; RJ once a pass, by RC, and three times a call
 abbrev pub most_rescalings : Call → ℕ
@@ -52,11 +52,11 @@ unfolding infinite_at
 zero_few m k = counted 0 (omega arith)
 
 module _ (m k : ℕ) (f : Found) (h : Within m k f.way) where
-  settled_few : (n : ℕ) → Few m k (settled f n)
+  settled_few : (n : Refusal) → Few m k (settled f n)
   unfolding settled
   settled_few n = chosen (Few m k) (finite f.value) h tt
 
-  late_few : (nan unbounded : Bool) (n : ℕ) → Few m k (settled_late f nan unbounded n)
+  late_few : (nan unbounded : Bool) (n : Refusal) → Few m k (settled_late f nan unbounded n)
   unfolding settled_late
   late_few nan unbounded n =
       chosen (Few m k) (finite f.value) h (chosen (Few m k) nan tt (chosen (Few m k) unbounded (zero_few m k) tt))
@@ -79,8 +79,8 @@ rf_entry x y z =
 
 rd_settled_lem : (a : Answer) (nan unbounded : Bool) → Few 50 1 a → Few 50 1 (rd_settled a nan unbounded)
 unfolding rd_settled
-rd_settled_lem (Value f) nan unbounded h = late_few 50 1 f h nan unbounded _
-rd_settled_lem (Refused n) nan unbounded h = tt
+rd_settled_lem (Ok f) nan unbounded h = late_few 50 1 f h nan unbounded _
+rd_settled_lem (Err n) nan unbounded h = tt
 
 rd_entry : (x y z : Float) → Few 50 1 (rd x y z)
 unfolding rd
@@ -92,8 +92,8 @@ rd_entry x y z =
 
 rg_settled_lem : (a : Answer) (nan : Bool) → Few 50 2 a → Few 50 2 (rg_settled a nan)
 unfolding rg_settled
-rg_settled_lem (Value f) nan h = late_few 50 2 f h nan false _
-rg_settled_lem (Refused n) nan h = tt
+rg_settled_lem (Ok f) nan h = late_few 50 2 f h nan false _
+rg_settled_lem (Err n) nan h = tt
 
 rg_entry : (x y z : Float) → Few 50 2 (rg x y z)
 unfolding rg
@@ -101,8 +101,8 @@ rg_entry x y z = chosen (Few 50 2) (below3 x y z) tt (rg_settled_lem (rg_uncheck
 
 rj_settled_lem : (a : Answer) → Few 133 109 a → Few 133 109 (rj_settled a)
 unfolding rj_settled
-rj_settled_lem (Value f) h = settled_few 133 109 f h _
-rj_settled_lem (Refused n) h = tt
+rj_settled_lem (Ok f) h = settled_few 133 109 f h _
+rj_settled_lem (Err n) h = tt
 
 rj_entry : (x y z p : Float) → Few 133 109 (rj x y z p)
 unfolding rj rj_signed rj_rest rj_unchecked
@@ -135,8 +135,8 @@ cel_entry kc p a b =
 
 -- ---- THE LAW
 few_rescalings : (m k : ℕ) (a : Answer) → Few m k a → rescalings_of a ≤ k
-few_rescalings m k (Value f) h = h.scaled
-few_rescalings m k (Refused n) h = omega arith
+few_rescalings m k (Ok f) h = h.scaled
+few_rescalings m k (Err n) h = omega arith
 
 pub rescalings_bound : (c : Call) → rescalings_of (answer_of c) ≤ most_rescalings c
 unfolding answer_of

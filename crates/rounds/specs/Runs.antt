@@ -1,5 +1,5 @@
 -- The counts of Inside are those of the answers that they mirror: RJ. Assumes nothing.
-use Rattle.std.specs.Prelude.{ℕ, zero, suc, ◌+◌, ◌≡◌, refl, true, false, Float}
+use Rattle.std.specs.Prelude.{ℕ, zero, suc, ◌+◌, ◌≡◌, refl, true, false, Float, Ok, Err}
 use Rattle.std.proofs.Common.{sym, ◌∙◌, true≢false, arith}
 use Rattle.std.specs.Float.Ieee.{le, eq}
 use Rattle.binary64.specs.Leaves.{maximum}
@@ -8,8 +8,7 @@ use Rattle.carlson.specs.Answer.{closed_at, carried_at, taylor_at, reduction_at,
 use Rattle.carlson.proofs.Only.{chosen_both}
 use Rattle.carlson_arguments.specs.Rescaling.{scale_of4}
 use Rattle.carlson.proofs.Ways.{both_within}
-use Rattle.carlson.specs.declared.answer.Answer.{Answer}
-use Rattle.carlson.specs.declared.answer.Answer.TheVariants.{Value, Refused}
+use Rattle.carlson.specs.Answer.{Answer}
 use Rattle.elliprc.specs.Few.{rc_within}
 use Rattle.rf_duplicate.specs.Duplicate.{rf_cap}
 use Rattle.elliprf.proofs.Few.{rf_within}
@@ -78,7 +77,7 @@ module _ (p : Float) where
       (cases x y z)
 
 -- ---- what a call is done with at once
-near : (x y z p v : Float) → le p +0 ≡ true → Own (Value (taylor_at v)) (rj_done_inside x y z p)
+near : (x y z p v : Float) → le p +0 ≡ true → Own (Ok (taylor_at v)) (rj_done_inside x y z p)
 unfolding rj_done_inside taylor_at
 near x y z p v h = rw h (none _ refl)
 
@@ -111,11 +110,11 @@ above x y z p k =
 reduced : (m : ℕ) (r : Reduced) (a : Answer) (n : ℕ) → Exactly m a n
     → Exactly (m + rf_cap) (reduced_answer r a) (reduced_inside r a n)
 unfolding reduced_answer reduced_found reduction_at both_ways reduced_inside
-reduced m r (Value f) n i = record {
+reduced m r (Ok f) n i = record {
   most = omega (arith, i.most, (rf_within r.x r.y r.z).begun);
   exact = omega (arith, i.exact, (reduced_rc_within r).begun);
 }
-reduced m r (Refused k) n i = record { most = omega (arith, i.most); exact = tt }
+reduced m r (Err k) n i = record { most = omega (arith, i.most); exact = tt }
 
 run : (left : ℕ) (plan : Plan) (n : ℕ) → Anywhere plan n → Exactly (run_most left) (rj_run left plan) (rj_run_inside left plan n)
 unfolding rj_run rj_run_inside

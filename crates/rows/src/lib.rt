@@ -42,14 +42,12 @@ fn scan(rows: Rows, block: &[u8], held: &mut [u8]) -> Rows
     ensures { result.row ≤ length held.new }
 {
     let size = least(block.len(), rows.size);
-    let mut at = rows.at;
     let mut row = rows.row;
-    while at < size {
+    for at in rows.at..size {
         let b = block[at];
-        at += 1;
         if b == b'\n' {
             return Rows {
-                at,
+                at: at + 1,
                 size,
                 row,
                 whole: true,
@@ -59,7 +57,7 @@ fn scan(rows: Rows, block: &[u8], held: &mut [u8]) -> Rows
         row = push(held, row, b);
     }
     Rows {
-        at,
+        at: size,
         size,
         row,
         whole: false,
@@ -114,8 +112,7 @@ pub fn next_of(
         failed: false,
     };
     // A proved loop has to end, and nothing says that a row does: so many turns no run uses up.
-    let mut turns = u64::MAX;
-    while turns > 0 {
+    for _ in 0..u64::MAX {
         so_far = scan(so_far, block, held);
         if so_far.whole {
             return so_far;
@@ -124,7 +121,6 @@ pub fn next_of(
         if so_far.size == 0 {
             return so_far;
         }
-        turns -= 1;
     }
     begin()
 }

@@ -12,8 +12,7 @@ use Rattle.carlson.specs.Answer.{way_of, closed_at, taylor_at, infinite_at, sett
 use Rattle.carlson_arguments.specs.Rescaling.{rescaling2, rescaling3}
 use Rattle.carlson.specs.declared.answer.Road.{Road}
 use Rattle.carlson.specs.declared.answer.Road.TheVariants.{Closed, Infinite, Taylor}
-use Rattle.carlson.specs.declared.answer.Answer.{Answer}
-use Rattle.carlson.specs.declared.answer.Answer.TheVariants.{Value, Refused}
+use Rattle.carlson.specs.Answer.{Answer}
 use Rattle.elliprc.specs.Rc.{rc, rc_unchecked, rc_found}
 use Rattle.rc_cases.specs.Cases.{rc_steps, rc_cases, rc_at_equal}
 use Rattle.elliprf.specs.Rf.{rf, rf_unchecked, rf_steps, rf_equal, rf_zero}

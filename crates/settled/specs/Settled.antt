@@ -1,7 +1,8 @@
 -- Document 01's sixteen settled examples, in its order, the last as document 02, 2026-07, has it, as one table under one
 -- statement: antt computes each from the definitions. Assumes nothing.
-use Rattle.std.specs.Prelude.{◌≡◌, refl, List, [], ◌∷◌, Float}
+use Rattle.std.specs.Prelude.{◌≡◌, refl, List, [], ◌∷◌, Float, Ok, Err}
 use Rattle.std.specs.Float.Ieee.{of_bits, add, sub, mul, div, neg, lt, le, eq, is_nan}
+use Rattle.refusals.specs.declared.Refusal.TheVariants.{NanGiven, BelowZero, Zeros, ZeroGiven, RgNoResult}
 use Rattle.rounding.specs.Cut.{value, rounded}
 use Rattle.binary64.specs.Leaves.{absolute, maximum, minimum}
 use Rattle.binary64.specs.Operators.{bits}
@@ -12,8 +13,7 @@ use Rattle.carlson.specs.Answer.{way_of, closed_at, taylor_at, infinite_at, sett
 use Rattle.carlson_arguments.specs.Rescaling.{rescaling2, rescaling3}
 use Rattle.carlson.specs.declared.answer.Road.{Road}
 use Rattle.carlson.specs.declared.answer.Road.TheVariants.{Closed, Infinite, Taylor}
-use Rattle.carlson.specs.declared.answer.Answer.{Answer}
-use Rattle.carlson.specs.declared.answer.Answer.TheVariants.{Value, Refused}
+use Rattle.carlson.specs.Answer.{Answer}
 use Rattle.elliprc.specs.Rc.{rc, rc_unchecked, rc_found}
 use Rattle.rc_cases.specs.Cases.{rc_steps, rc_cases, rc_at_equal}
 use Rattle.elliprf.specs.Rf.{rf, rf_unchecked, rf_steps, rf_equal, rf_zero}
@@ -45,7 +45,7 @@ All (row ∷ rest) = Holds row × All rest
 -- ---- the table's numbers; the others are the constants of the entries
 -- a value found on a road, with no round and no rescaling
 abbrev pub is : Road → Float → Answer
-is r v = Value (record { value = v; road = r; way = way_of 0 })
+is r v = Ok (record { value = v; road = r; way = way_of 0 })
 
 -- all NaNs are one `Float`
 abbrev pub not_a_number : Float
@@ -68,17 +68,17 @@ abbrev pub table : List Row
 table =
     RF four four four (is Closed half)
     ∷ RF four zero four (is Closed (bits 0x3FE9_21FB_5444_2D18))
-    ∷ RF infinity zero zero (Refused 3)
+    ∷ RF infinity zero zero (Err Zeros)
     ∷ RF infinity zero one (is Infinite zero)
-    ∷ RF not_a_number minus_one one (Refused 1)
+    ∷ RF not_a_number minus_one one (Err NanGiven)
     ∷ RC zero minus_four (is Closed zero)
-    ∷ RC not_a_number zero (Refused 4)
-    ∷ RC minus_one zero (Refused 2)
+    ∷ RC not_a_number zero (Err ZeroGiven)
+    ∷ RC minus_one zero (Err BelowZero)
     ∷ RD four four four (is Closed eighth)
-    ∷ RD not_a_number minus_one one (Refused 2)
-    ∷ RD zero zero minus_one (Refused 3)
+    ∷ RD not_a_number minus_one one (Err BelowZero)
+    ∷ RD zero zero minus_one (Err Zeros)
     ∷ RG zero zero four (is Closed one)
-    ∷ RG infinity zero zero (Refused 8)
+    ∷ RG infinity zero zero (Err RgNoResult)
     ∷ RJ four four four four (is Closed eighth)
     ∷ RJ three two two minus_one (is Taylor zero)
     ∷ RJ one one one minus_infinity (is Infinite zero)

@@ -22,15 +22,12 @@ fn reply_to_all(rt: HostRuntime, form: Form, out: &mut [u8; OUT]) {
     let mut held = [0u8; ROW];
     let mut rows = begin();
     // A proved loop has to end, and nothing says that the input does: so many turns no run uses up.
-    let mut turns = u64::MAX;
-    while turns > 0 {
+    for _ in 0..u64::MAX {
         rows = next(rt, rows, &mut block, &mut held);
         if rows.whole {
             let n = rows.row;
             let used = put_answer(form, &held[..n], out);
-            if written(rt, out, used) {
-                turns -= 1;
-            } else {
+            if !written(rt, out, used) {
                 return;
             }
         } else {

@@ -61,6 +61,7 @@ fn number(n: u64) -> Part
 }
 
 // A tab in a row, words for people.
+#[tactic(auto, unfolding(crate::specs::Parts::told_part))]
 fn told(table: bool, from: usize, to: usize) -> Part
     ensures { result ≡ told_part table from to }
 {
@@ -71,6 +72,7 @@ fn told(table: bool, from: usize, to: usize) -> Part
 }
 
 // The columns up to the refusal.
+#[tactic(auto, unfolding(crate::specs::Parts::cells_part))]
 fn empty_cells(table: bool, from: usize, to: usize) -> Part
     ensures { result ≡ cells_part table from to }
 {
@@ -80,6 +82,7 @@ fn empty_cells(table: bool, from: usize, to: usize) -> Part
     Part::Words(from, to)
 }
 
+#[tactic(auto, unfolding(crate::specs::Parts::hex_part))]
 fn if_hex(hex: bool) -> Part
     ensures { result ≡ hex_part hex }
 {
@@ -89,6 +92,7 @@ fn if_hex(hex: bool) -> Part
     nothing()
 }
 
+#[tactic(auto, unfolding(crate::specs::Parts::road_part))]
 fn road_words(road: Road) -> Part
     ensures { result ≡ road_part road }
 {
@@ -126,6 +130,7 @@ fn reason(number: u32) -> Part
     }
 }
 
+#[tactic(auto, unfolding(crate::specs::Parts::rescaled_part))]
 fn rescaled_words(table: bool, count: u32) -> Part
     ensures { result ≡ rescaled_part table count }
 {
@@ -138,6 +143,7 @@ fn rescaled_words(table: bool, count: u32) -> Part
     Part::Words(468, 479) // , rescaled
 }
 
+#[tactic(auto, unfolding(crate::specs::Parts::rescaled_count))]
 fn rescaled_count(table: bool, count: u32) -> Part
     ensures { result ≡ rescaled_count table count }
 {
@@ -151,6 +157,7 @@ fn rescaled_count(table: bool, count: u32) -> Part
 }
 
 // The last column.
+#[tactic(auto, unfolding(crate::specs::Parts::bits_part))]
 fn bits(hex: bool, value: f64) -> Part
     ensures { result ≡ bits_part hex value }
 {
@@ -178,6 +185,7 @@ fn found_part(found: Found, form: Form, i: u64) -> Part
     }
 }
 
+#[tactic(auto, unfolding(crate::specs::Parts::leaf_part))]
 fn leaf_part(value: f64, form: Form, i: u64) -> Part
     ensures { result ≡ leaf_part value form i }
 {
@@ -190,6 +198,7 @@ fn leaf_part(value: f64, form: Form, i: u64) -> Part
     }
 }
 
+#[tactic(auto, unfolding(crate::specs::Parts::refused_part))]
 fn refused_part(refusal: u32, form: Form, i: u64) -> Part
     ensures { result ≡ refused_part refusal form i }
 {
@@ -203,6 +212,7 @@ fn refused_part(refusal: u32, form: Form, i: u64) -> Part
 }
 
 // What stands before the number of a bad line, the number, and what stands after it.
+#[tactic(auto, unfolding(crate::specs::Parts::bad_words))]
 fn bad_words(bad: Bad) -> Part
     ensures { result ≡ bad_words bad }
 {
@@ -215,18 +225,17 @@ fn bad_words(bad: Bad) -> Part
     }
 }
 
+#[tactic(auto, unfolding(crate::specs::Parts::bad_number))]
 fn bad_number(bad: Bad) -> Part
     ensures { result ≡ bad_number bad }
 {
     match bad {
-        Bad::NoFunction => nothing(),
-        Bad::Wanted(count) => number(count),
-        Bad::NoNumber(place) => number(place),
-        Bad::TooLarge(place) => number(place),
-        Bad::TooLong => nothing(),
+        Bad::Wanted(n) | Bad::NoNumber(n) | Bad::TooLarge(n) => number(n),
+        Bad::NoFunction | Bad::TooLong => nothing(),
     }
 }
 
+#[tactic(auto, unfolding(crate::specs::Parts::wanted_part))]
 fn wanted(count: u64) -> Part
     ensures { result ≡ wanted_part count }
 {
@@ -236,18 +245,17 @@ fn wanted(count: u64) -> Part
     Part::Words(395, 412) // arguments wanted
 }
 
+#[tactic(auto, unfolding(crate::specs::Parts::bad_end))]
 fn bad_end(bad: Bad) -> Part
     ensures { result ≡ bad_end bad }
 {
     match bad {
-        Bad::NoFunction => nothing(),
         Bad::Wanted(count) => wanted(count),
-        Bad::NoNumber(_) => nothing(),
-        Bad::TooLarge(_) => nothing(),
-        Bad::TooLong => nothing(),
+        _ => nothing(),
     }
 }
 
+#[tactic(auto, unfolding(crate::specs::Parts::bad_part))]
 fn bad_part(bad: Bad, form: Form, i: u64) -> Part
     ensures { result ≡ bad_part bad form i }
 {
@@ -262,6 +270,7 @@ fn bad_part(bad: Bad, form: Form, i: u64) -> Part
     }
 }
 
+#[tactic(auto, unfolding(crate::specs::Parts::column_part))]
 fn column(hex: bool) -> Part
     ensures { result ≡ column_part hex }
 {
@@ -271,6 +280,7 @@ fn column(hex: bool) -> Part
     nothing()
 }
 
+#[tactic(auto, unfolding(crate::specs::Parts::heading_part))]
 fn heading_part(hex: bool, i: u64) -> Part
     ensures { result ≡ heading_part hex i }
 {

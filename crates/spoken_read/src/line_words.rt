@@ -2,16 +2,11 @@
 ghost use Rattle.std.specs.Prelude.{◌≡◌, ◌<◌, ◌≤◌, length};
 ghost use Rattle.spoken_read.specs.Words.{is_blank, begins_at, ends_at};
 
+#[tactic(auto, unfolding(crate::specs::Words::is_blank))]
 fn is_blank(b: u8) -> bool
     ensures { result ≡ is_blank b }
 {
-    if b == b' ' {
-        return true;
-    }
-    if b == b'\t' {
-        return true;
-    }
-    b == b'\r'
+    matches!(b, b' ' | b'\t' | b'\r')
 }
 
 // Where the next word begins from `at` on, or the line's end.
@@ -19,15 +14,12 @@ pub fn begins(line: &[u8], at: usize) -> usize
     requires { at ≤ length line.now }
     ensures { (result ≡ begins_at line.now at) × (at ≤ result) × (result ≤ length line.now) }
 {
-    let mut i = at;
-    while i < line.len() {
-        if is_blank(line[i]) {
-            i += 1;
-        } else {
+    for i in at..line.len() {
+        if !is_blank(line[i]) {
             return i;
         }
     }
-    i
+    line.len()
 }
 
 // Where the word ends that begins at `at`.
@@ -35,12 +27,10 @@ pub fn ends(line: &[u8], at: usize) -> usize
     requires { at < length line.now }
     ensures { (result ≡ ends_at line.now at) × (at < result) × (result ≤ length line.now) }
 {
-    let mut i = at + 1;
-    while i < line.len() {
+    for i in at + 1..line.len() {
         if is_blank(line[i]) {
             return i;
         }
-        i += 1;
     }
-    i
+    line.len()
 }

@@ -13,7 +13,7 @@ ghost use Rattle.spoken_read.specs.Lines.{
 };
 
 use crate::line_words::{begins, ends};
-use crate::numbers::{Numbers, Taken, read_all};
+use crate::numbers::{Numbers, read_all};
 use answers::answer_of;
 use binary64::join;
 use calls::Call;
@@ -34,7 +34,6 @@ enum Function {
     Ln,
     Ln1p,
     Atan,
-    Other,
 }
 
 // So many bytes are held of a line.
@@ -45,16 +44,14 @@ const LONGEST: usize = 5;
 
 const HELD: u64 = 0x100_0000_0000; // 2^40: the 1 and four letters are less
 
+#[tactic(auto, unfolding(crate::specs::Lines::lower_of))]
 fn lower(b: u8) -> u8
     ensures { result ≡ lower_of b }
 {
-    if b < b'A' {
-        return b;
+    match b {
+        b'A'..=b'Z' => b + 32,
+        _ => b,
     }
-    if b > b'Z' {
-        return b;
-    }
-    b + 32
 }
 
 // A word's bytes in lower case as one number, after a 1 that keeps those in front from being lost; of a longer word 0.
@@ -65,60 +62,55 @@ fn spelled(word: &[u8]) -> u64
         return 0;
     }
     let mut n: u64 = 1;
-    let mut i = 0;
-    while i < word.len() {
-        n = n % HELD * 256 + lower(word[i]) as u64;
-        i += 1;
+    for b in word {
+        n = n % HELD * 256 + lower(*b) as u64;
     }
     n
 }
 
 // In lower or upper case.
-fn called(word: &[u8]) -> Function
+#[tactic(auto, unfolding(crate::specs::Lines::called_of, crate::specs::Lines::called_by))]
+fn called(word: &[u8]) -> Option<Function>
     ensures { result ≡ called_of word.now }
 {
     match spelled(word) {
-        0x1_7263 => Function::Rc, // rc
-        0x1_7266 => Function::Rf, // rf
-        0x1_7264 => Function::Rd, // rd
-        0x1_7267 => Function::Rg, // rg
-        0x1_726a => Function::Rj, // rj
-        0x163_656c => Function::Cel, // cel
-        0x1_7371_7274 => Function::Sqrt, // sqrt
-        0x1_6c6e => Function::Ln, // ln
-        0x16c_6e5f_3170 => Function::Ln1p, // ln_1p
-        0x1_6174_616e => Function::Atan, // atan
-        _ => Function::Other,
+        0x1_7263 => Some(Function::Rc), // rc
+        0x1_7266 => Some(Function::Rf), // rf
+        0x1_7264 => Some(Function::Rd), // rd
+        0x1_7267 => Some(Function::Rg), // rg
+        0x1_726a => Some(Function::Rj), // rj
+        0x163_656c => Some(Function::Cel), // cel
+        0x1_7371_7274 => Some(Function::Sqrt), // sqrt
+        0x1_6c6e => Some(Function::Ln), // ln
+        0x16c_6e5f_3170 => Some(Function::Ln1p), // ln_1p
+        0x1_6174_616e => Some(Function::Atan), // atan
+        _ => None,
     }
 }
 
+#[tactic(auto, unfolding(crate::specs::Lines::wants_of))]
 fn wants(function: Function) -> u64
     ensures { result ≡ wants_of function }
 {
     match function {
         Function::Rc => 2,
-        Function::Rf => 3,
-        Function::Rd => 3,
-        Function::Rg => 3,
-        Function::Rj => 4,
-        Function::Cel => 4,
-        Function::Sqrt => 1,
-        Function::Ln => 1,
-        Function::Ln1p => 1,
-        Function::Atan => 1,
-        Function::Other => 0,
+        Function::Rf | Function::Rd | Function::Rg => 3,
+        Function::Rj | Function::Cel => 4,
+        Function::Sqrt | Function::Ln | Function::Ln1p | Function::Atan => 1,
     }
 }
 
+#[tactic(auto, unfolding(crate::specs::Lines::entry_of))]
 fn entry(call: Call) -> Said
     ensures { result ≡ entry_of call }
 {
     match answer_of(call) {
-        Answer::Value(found) => Said::Value(found),
-        Answer::Refused(number) => Said::Refused(number),
+        Ok(found) => Said::Value(found),
+        Err(refusal) => Said::Refused(refusal.number()),
     }
 }
 
+#[tactic(auto, unfolding(crate::specs::Lines::by_function))]
 fn by(function: Function, n: Numbers) -> Said
     ensures { result ≡ by_function function n }
 {
@@ -133,54 +125,47 @@ fn by(function: Function, n: Numbers) -> Said
         Function::Ln => Said::Leaf(ln(join(n.a))),
         Function::Ln1p => Said::Leaf(ln_1p(join(n.a))),
         Function::Atan => Said::Leaf(atan(join(n.a))),
-        Function::Other => Said::Bad(Bad::NoFunction),
     }
 }
 
 // As many numbers as the function wants, or how many these are.
-fn with_numbers(function: Function, n: Numbers) -> Said
+#[tactic(auto, unfolding(crate::specs::Lines::with_numbers))]
+fn with_numbers(function: Function, n: Numbers) -> Result<Said, Bad>
     ensures { result ≡ with_numbers function n }
 {
     let wanted = wants(function);
     if n.count == wanted {
-        return by(function, n);
+        return Ok(by(function, n));
     }
-    Said::Bad(Bad::Wanted(wanted))
-}
-
-fn is_other(function: Function) -> bool
-    ensures { result ≡ (wants_of function == 0) }
-{
-    wants(function) == 0
+    Err(Bad::Wanted(wanted))
 }
 
 // To a line whose first word begins at `at`.
-fn to_call(line: &[u8], at: usize) -> Said
+#[tactic(auto, unfolding(crate::specs::Lines::to_call, crate::specs::Words::word_at))]
+fn to_call(line: &[u8], at: usize) -> Result<Said, Bad>
     requires { at < length line.now }
     ensures { result ≡ to_call line.now at }
 {
     let end = ends(line, at);
-    let function = called(&line[at..end]);
-    if is_other(function) {
-        return Said::Bad(Bad::NoFunction);
-    }
-    match read_all(line, end) {
-        Taken::All(n) => with_numbers(function, n),
-        Taken::Bad(place) => Said::Bad(Bad::NoNumber(place)),
-        Taken::Large(place) => Said::Bad(Bad::TooLarge(place)),
-    }
+    let function = called(&line[at..end]).ok_or(Bad::NoFunction)?;
+    let numbers = read_all(line, end)?;
+    with_numbers(function, numbers)
 }
 
 // Of a row that fills what is held it is not known whether it ends there.
+#[tactic(auto, unfolding(crate::specs::Lines::said_to))]
 pub fn said_to(line: &[u8]) -> Said
     ensures { result ≡ said_to line.now }
 {
     let at = begins(line, 0);
-    if at < line.len() {
-        if line.len() < ROW {
-            return to_call(line, at);
-        }
+    if at >= line.len() {
+        return Said::Nothing;
+    }
+    if line.len() >= ROW {
         return Said::Bad(Bad::TooLong);
     }
-    Said::Nothing
+    match to_call(line, at) {
+        Ok(said) => said,
+        Err(bad) => Said::Bad(bad),
+    }
 }

@@ -67,10 +67,8 @@ fn put_parts(said: Said, form: Form, out: &mut [u8], at: usize) -> usize
     ensures { Put out.old at (line_text said form) out.new result }
 {
     let mut next = at;
-    let mut i: u64 = 0;
-    while i < PARTS {
+    for i in 0..PARTS {
         next = put_part(part_of(said, form, i), out, next);
-        i += 1;
     }
     next
 }
@@ -86,16 +84,14 @@ pub fn put_line(said: Said, form: Form, out: &mut [u8], at: usize) -> usize
 }
 
 // A tab would end the column, and a carriage return the row.
+#[tactic(auto, unfolding(spoken_parts::specs::Texts::shown_byte))]
 fn shown(b: u8) -> u8
     ensures { result ≡ shown_byte b }
 {
-    if b == b'\t' {
-        return b' ';
+    match b {
+        b'\t' | b'\r' => b' ',
+        _ => b,
     }
-    if b == b'\r' {
-        return b' ';
-    }
-    b
 }
 
 // The call as it was given, and a tab.
@@ -104,10 +100,8 @@ fn put_given(line: &[u8], out: &mut [u8], at: usize) -> usize
     ensures { Put out.old at (given_text line.now) out.new result }
 {
     let n = least(line.len(), SHOWN);
-    let mut i = 0;
-    while i < n {
+    for i in 0..n {
         out[at + i] = shown(line[i]);
-        i += 1;
     }
     out[at + n] = b'\t';
     at + n + 1

@@ -1,6 +1,8 @@
 -- The sum of the advances is the number of steps taken, and how a loop over the readings comes to it. Assumes nothing.
-use Rattle.std.specs.Prelude.{◌≡◌, ℕ, ◌+◌, ◌-◌, ◌%◌, ◌^◌, ◌<◌, ◌≤◌, true, List, [], ◌∷◌, length, drop, slice_index, refl}
-use Rattle.std.proofs.Common.{sym, ap, ◌∙◌, inl, inr, add-one, add_assoc, add-zero, arith, lt-ltb, le-ltb, drop_of_length-le, drop-cons}
+use Rattle.std.specs.Prelude.{◌≡◌, ℕ, ◌+◌, ◌-◌, ◌%◌, ◌^◌, ◌<◌, ◌≤◌, List, [], ◌∷◌, length, drop, slice_index, Some, Result, Ok}
+use Rattle.std.specs.Prelude.{Err, refl}
+use Rattle.std.proofs.Common.{sym, ap, ◌∙◌, inl, inr, add-one, add_assoc, add-zero, arith, lt-ltb, le-ltb, drop_of_length-le}
+use Rattle.std.proofs.Common.{drop-cons}
 use Rattle.algebra.specs.Order.{lt_or_le}
 use Rattle.steplog.specs.Steps.{
   advance_of,
@@ -10,6 +12,7 @@ use Rattle.steplog.specs.Steps.{
   added_to,
   log_from,
   log_after,
+  sum_after,
   log_all,
   steps_of,
   Rising,
@@ -20,8 +23,7 @@ use Rattle.steplog.specs.Steps.{
   StepsTaken,
 }
 use Rattle.steplog.specs.declared.Log.{Log}
-use Rattle.steplog.specs.declared.Steps.{Steps}
-use Rattle.steplog.specs.declared.Steps.TheVariants.{Total, Refused}
+use Rattle.refusals.specs.declared.Refusal.{Refusal}
 
 -- ---- the steps taken
 -- between two counts: fewer than 65,536, so that the counters tell them
@@ -43,7 +45,8 @@ pub advances_counted : (c : ℕ) (cs : List ℕ) → Rising c cs → advances (s
 unfolding advances shown
 advances_counted c cs r = from_counted c cs r
 
-pub steps_taken : (total : ℕ) (readings : List ℕ) (r : Steps) → r ≡ steps_of total readings → StepsTaken total readings r
+pub steps_taken : (total : ℕ) (readings : List ℕ) (r : Result ℕ Refusal) → r ≡ steps_of total readings
+    → StepsTaken total readings r
 unfolding steps_of
 steps_taken total readings r e = record { taken = λ c cs up s. e ∙ rw (s, advances_counted c cs up) }
 
@@ -55,31 +58,29 @@ added_twice t a b = elim (lt_or_le (t + a) (2 ^ 64)) [
   | inr l ↦ rw (le-ltb (t + a) (2 ^ 64) l, le-ltb (t + (a + b)) (2 ^ 64) (omega arith))
 ]
 
-more_twice : (s : Steps) (a b : ℕ) → added_to (added_to s a) b ≡ added_to s (a + b)
+more_twice : (s : Result ℕ Refusal) (a b : ℕ) → added_to (added_to s a) b ≡ added_to s (a + b)
 unfolding added_to
-more_twice (Total t) a b = added_twice t a b
-more_twice (Refused n) a b = refl
+more_twice (Ok t) a b = added_twice t a b
+more_twice (Err r) a b = refl
 
-log_more : (rs : List ℕ) (l : Log) → l.begun ≡ true → added_to l.sum 0 ≡ l.sum
-    → (log_all l rs).sum ≡ added_to l.sum (advances_from l.last rs)
-unfolding log_all advances_from log_after
-log_more [] l e h = sym h
-log_more (r ∷ rs) l e h =
-    let a = advance_of l.last r in
-    let n : Log = record { sum = added_to l.sum a; begun = true; last = r } in
-    let is : log_after l r ≡ n = rw e in
-    let kept : added_to (added_to l.sum a) 0 ≡ added_to l.sum a = more_twice l.sum a 0
-    ∙ ap (λ (k : ℕ). added_to l.sum k) (add-zero a) in
-    ap (λ (k : Log). (log_all k rs).sum) is ∙ log_more rs n refl kept ∙ more_twice l.sum a (advances_from r rs)
+log_more : (rs : List ℕ) (sum : Result ℕ Refusal) (last : ℕ) → added_to sum 0 ≡ sum
+    → (log_all (record { sum = sum; last = Some last }) rs).sum ≡ added_to sum (advances_from last rs)
+unfolding log_all advances_from log_after sum_after
+log_more [] sum last h = sym h
+log_more (r ∷ rs) sum last h =
+    let a = advance_of last r in
+    let kept : added_to (added_to sum a) 0 ≡ added_to sum a = more_twice sum a 0
+    ∙ ap (λ (k : ℕ). added_to sum k) (add-zero a) in
+    log_more rs (added_to sum a) r kept ∙ more_twice sum a (advances_from r rs)
 
-none : (total : ℕ) → total < 2 ^ 64 → added total 0 ≡ Total total
+none : (total : ℕ) → total < 2 ^ 64 → added total 0 ≡ Ok total
 unfolding added
 none total h = rw (add-zero, lt-ltb total (2 ^ 64) h)
 
 pub log_steps : (rs : List ℕ) (total : ℕ) → total < 2 ^ 64 → (log_all (log_from total) rs).sum ≡ steps_of total rs
-unfolding log_all log_from log_after steps_of advances added_to
+unfolding log_all log_from log_after sum_after steps_of advances added_to
 log_steps [] total h = sym (none total h)
-log_steps (r ∷ rs) total h = log_more rs (record { sum = Total total; begun = true; last = r }) refl (none total h)
+log_steps (r ∷ rs) total h = log_more rs (Ok total) r (none total h)
 
 -- what is left of a loop over the readings
 pub log_next : (l : List ℕ) (log : Log) (i : ℕ) → i < length l

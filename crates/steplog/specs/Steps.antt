@@ -1,12 +1,10 @@
 -- The step log (document 02, 2026-01). Definitions only.
-use Rattle.std.specs.Prelude.{◌≡◌, ℕ, ◌+◌, ◌-◌, ◌%◌, ◌^◌, ◌<◌, ◌≤◌, true, false, cond, List, [], ◌∷◌, nat_lt}
+use Rattle.std.specs.Prelude.{◌≡◌, ℕ, ◌+◌, ◌-◌, ◌%◌, ◌^◌, ◌<◌, ◌≤◌, cond, List, [], ◌∷◌, nat_lt}
+use Rattle.std.specs.Prelude.{Option, Some, None, Result, Ok, Err}
+use Rattle.refusals.specs.declared.Refusal.{Refusal}
+use Rattle.refusals.specs.declared.Refusal.TheVariants.{SumTooLarge}
+use Rattle.refusals.specs.Numbers.{code_of}
 use Rattle.steplog.specs.declared.Log.{Log}
-use Rattle.steplog.specs.declared.Steps.{Steps}
-use Rattle.steplog.specs.declared.Steps.TheVariants.{Total, Refused}
-
--- "13 sum too large"
-abbrev pub too_large : ℕ
-too_large = 13
 
 -- "each advance is the later counter less the earlier, modulo 65,536", of 16-bit counters
 unfoldable pub advance_of : ℕ → ℕ → ℕ
@@ -23,37 +21,46 @@ advances [] = 0
 advances (first ∷ rest) = advances_from first rest
 
 -- "A sum that would pass 2^64 - 1 is refused"
-unfoldable pub added : ℕ → ℕ → Steps
-added total more = cond (nat_lt (total + more) (2 ^ 64)) (Total (total + more)) (Refused too_large)
+unfoldable pub added : ℕ → ℕ → Result ℕ Refusal
+added total more = cond (nat_lt (total + more) (2 ^ 64)) (Ok (total + more)) (Err SumTooLarge)
 
-unfoldable pub steps_of : ℕ → List ℕ → Steps
+unfoldable pub steps_of : ℕ → List ℕ → Result ℕ Refusal
 steps_of total readings = added total (advances readings)
 
 -- ---- the log as its readings come: the sum so far, and the last reading once there is one
 -- a sum that was refused stays so
-unfoldable pub added_to : Steps → ℕ → Steps
-added_to (Total sum) more = added sum more
-added_to (Refused n) more = Refused n
+unfoldable pub added_to : Result ℕ Refusal → ℕ → Result ℕ Refusal
+added_to (Ok sum) more = added sum more
+added_to (Err refusal) more = Err refusal
 
 unfoldable pub log_from : ℕ → Log
-log_from total = record { sum = Total total; begun = false; last = 0 }
+log_from total = record { sum = Ok total; last = None }
+
+-- the first reading adds nothing
+unfoldable pub sum_after : Result ℕ Refusal → Option ℕ → ℕ → Result ℕ Refusal
+sum_after sum (Some last) reading = added_to sum (advance_of last reading)
+sum_after sum None reading = sum
 
 unfoldable pub log_after : Log → ℕ → Log
-log_after l reading = record
-    { sum = cond l.begun (added_to l.sum (advance_of l.last reading)) l.sum; begun = true; last = reading }
+log_after l reading = record { sum = sum_after l.sum l.last reading; last = Some reading }
 
 unfoldable pub log_all : Log → List ℕ → Log
 log_all l [] = l
 log_all l (reading ∷ rest) = log_all (log_after l reading) rest
 
 -- "and the total stays": what a stored total is afterwards, and what it was
-unfoldable pub kept_total : Steps → ℕ → ℕ
-kept_total (Total sum) before = sum
-kept_total (Refused n) before = before
+unfoldable pub kept_total : Result ℕ Refusal → ℕ → ℕ
+kept_total (Ok sum) before = sum
+kept_total (Err refusal) before = before
 
-unfoldable pub steps_number : Steps → ℕ
-steps_number (Total sum) = 0
-steps_number (Refused n) = n
+-- what is said beside the total: that it was added to, or why not
+unfoldable pub done_of : Result ℕ Refusal → Result (Unit {0}) Refusal
+done_of (Ok sum) = Ok tt
+done_of (Err refusal) = Err refusal
+
+-- what C is told of it
+abbrev pub steps_number : Result ℕ Refusal → ℕ
+steps_number steps = code_of (done_of steps)
 
 -- ---- "That is right when fewer than 65,536 steps lie between readings": the counts that a counter without end would show
 pub data Rising : ℕ → List ℕ → Type 0 where
@@ -70,5 +77,5 @@ last_of c [] = c
 last_of c (d ∷ ds) = last_of d ds
 
 -- under that premise the steps taken, from the first count to the last, are what is added
-pub record StepsTaken (total : ℕ) (readings : List ℕ) (r : Steps) : Type 0 where
+pub record StepsTaken (total : ℕ) (readings : List ℕ) (r : Result ℕ Refusal) : Type 0 where
   pub taken : (c : ℕ) (cs : List ℕ) → Rising c cs → readings ≡ shown (c ∷ cs) → r ≡ added total (last_of c cs - c)

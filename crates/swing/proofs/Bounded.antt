@@ -2,9 +2,10 @@
 -- from 2 ^ -11 to 2 ^ 19 seconds (the true bounds are nearer, and nothing asks for them). Assumes nothing.
 use Rattle.std.specs.Prelude.{ℕ, ◌-◌, ◌*◌, ◌^◌, ◌≤◌, ◌<◌, ◌≡◌, Bool, true, false, cond, [], Float}
 use Rattle.std.proofs.Math.Path.{refl}
-use Rattle.std.proofs.Common.{sym, ◌∙◌, subst, lt_irrefl, arith, lt-ltb, ne_eqb, lit<}
+use Rattle.std.proofs.Common.{sym, ◌∙◌, subst, lt_irrefl, arith, lt-ltb, ne_eqb, lit<, Ok, Err}
 use Rattle.std.proofs.Math.Nat.{lt_of_le_of_lt}
 use Rattle.std.specs.Float.Ieee.{of_bits, is_nan, lt, eq}
+use Rattle.refusals.specs.declared.Refusal.TheVariants.{Height, OutOfRange}
 use Rattle.rounding.specs.Cut.{value}
 use Rattle.binary64.specs.Leaves.{absolute, maximum, minimum}
 use Rattle.binary64.specs.Operators.{◌⊗◌, bits}
@@ -15,21 +16,10 @@ use Rattle.carlson.specs.Answer.{handed_at, settled}
 use Rattle.carlson.specs.Only.{Only, Finite, refused}
 use Rattle.carlson.specs.Only as only
 use Rattle.carlson.specs.declared.answer.Found.{Found}
-use Rattle.carlson.specs.declared.answer.Answer.{Answer}
-use Rattle.carlson.specs.declared.answer.Answer.TheVariants.{Value, Refused}
+use Rattle.carlson.specs.Answer.{Answer}
 use Rattle.elliprf.specs.Means.{rf_agm_of}
 use Rattle.elliprf.specs.Rf.{rf_general, rf_steps, rf_unchecked, rf}
-use Rattle.swing.specs.Period.{
-  within,
-  ratio,
-  four_roots,
-  times,
-  swung,
-  period_of,
-  swing_numbers,
-  length_or_gravity,
-  height_number,
-}
+use Rattle.swing.specs.Period.{within, ratio, four_roots, times, swung, period_of, swing_numbers}
 use Rattle.swing.specs.Ranges.{From1}
 use Rattle.swing.proofs.Ranges.{in_within}
 use Rattle.between.specs.Between.{Between}
@@ -107,7 +97,7 @@ module _ {y : Float} (Y : Between (power 998) below_one y) where
   unfolding rf_unchecked rescaling3
   unchecked_is = rw (scale_is, one_not_beyond, steps_are)
 
-  pub rf_is : rf +0 y one ≡ Value (rf_agm_of one y)
+  pub rf_is : rf +0 y one ≡ Ok (rf_agm_of one y)
   unfolding rf settled
   rf_is =
       rw (
@@ -152,7 +142,7 @@ module _ (l h g : ℕ) (R : InRange l h g) where
       most : (l : ℕ) → From1 l 10000000 → 2 * l ≤ 20000000
       most l L = omega arith
 
-  swung_is : swung l h g ≡ Value (swing_of l h g)
+  swung_is : swung l h g ≡ Ok (swing_of l h g)
   unfolding swung times swing_of
   swung_is = rw (rf_is argument_in)
 
@@ -167,8 +157,8 @@ unfolding period_of
 period_bounded l h g = go (within l 10000000) (within g 20000000) (within h (2 * l - 1)) refl refl refl
   where
     go : (s t u : Bool) → within l 10000000 ≡ s → within g 20000000 ≡ t → within h (2 * l - 1) ≡ u
-        → Bounded (cond s (cond t (cond u (swung l h g) (Refused height_number)) (Refused length_or_gravity))
-        (Refused length_or_gravity))
+        → Bounded (cond s (cond t (cond u (swung l h g) (Err Height)) (Err OutOfRange))
+        (Err OutOfRange))
     go false t u p q r = no_length
     go true false u p q r = no_length
     go true true false p q r = no_height
@@ -181,16 +171,16 @@ period_bounded l h g = go (within l 10000000) (within g 20000000) (within h (2 *
         subst Bounded (sym (swung_is l h g R)) (value_in (swing_between l h g R))
 
 bounded_only : (a : Answer) → Bounded a → Only Finite swing_numbers a
-bounded_only (Value f) (value_in v) = only.value (is_finite v)
-bounded_only (Refused n) no_length = refused tt
-bounded_only (Refused n) no_height = refused tt
+bounded_only (Ok f) (value_in v) = only.value (is_finite v)
+bounded_only (Err n) no_length = refused tt
+bounded_only (Err n) no_height = refused tt
 
 pub period_only : (l h g : ℕ) → Only Finite swing_numbers (period_of l h g)
 period_only l h g = bounded_only (period_of l h g) (period_bounded l h g)
 
-pub period_value : (l h g : ℕ) (f : Found) → period_of l h g ≡ Value f → Between (power 1012) (power 1042) f.value
+pub period_value : (l h g : ℕ) (f : Found) → period_of l h g ≡ Ok f → Between (power 1012) (power 1042) f.value
 period_value l h g f e = taken (period_of l h g) e (period_bounded l h g)
   where
-    taken : (a : Answer) → a ≡ Value f → Bounded a → Between (power 1012) (power 1042) f.value
-    taken (Value d) e (value_in v) = let s : d ≡ f = cc in subst (λ (c : Found). Between (power 1012) (power 1042) c.value) s v
-    taken (Refused n) e b = let z : ◌≡◌ {A = ℕ} 0 1 = cc in absurd (omega arith)
+    taken : (a : Answer) → a ≡ Ok f → Bounded a → Between (power 1012) (power 1042) f.value
+    taken (Ok d) e (value_in v) = let s : d ≡ f = cc in subst (λ (c : Found). Between (power 1012) (power 1042) c.value) s v
+    taken (Err n) e b = let z : ◌≡◌ {A = ℕ} 0 1 = cc in absurd (omega arith)

@@ -5,12 +5,8 @@ ghost use Rattle.carlson.specs.Only.{Only, Finite};
 
 use carlson::answer::{Answer, handed};
 use elliprf::elliprf;
+use refusals::Refusal;
 use root::sqrt;
-
-// Document 02's numbers for no: the length or the gravity, then the height, is out of range.
-const LENGTH_OR_GRAVITY: u32 = 11;
-
-const HEIGHT: u32 = 12;
 
 const MOST_LENGTH: u64 = 10_000_000;
 
@@ -47,10 +43,8 @@ fn four_roots(length: u64, gravity: u64) -> f64
 fn multiplied(factor: f64, answer: Answer) -> Answer
     ensures { result ≡ times factor answer }
 {
-    match answer {
-        Answer::Value(found) => Answer::Value(handed(found, factor * found.value)),
-        Answer::Refused(number) => Answer::Refused(number),
-    }
+    let found = answer?;
+    Ok(handed(found, factor * found.value))
 }
 
 fn swing_time(length: u64, height: u64, gravity: u64) -> Answer
@@ -73,9 +67,9 @@ pub fn period(length: u64, height: u64, gravity: u64) -> Answer
             if in_range(height, 2 * length - 1) {
                 return swing_time(length, height, gravity);
             }
-            return Answer::Refused(HEIGHT);
+            return Err(Refusal::Height);
         }
-        return Answer::Refused(LENGTH_OR_GRAVITY);
+        return Err(Refusal::OutOfRange);
     }
-    Answer::Refused(LENGTH_OR_GRAVITY)
+    Err(Refusal::OutOfRange)
 }

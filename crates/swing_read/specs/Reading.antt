@@ -1,55 +1,83 @@
--- A line of one or three decimal numbers, byte by byte (docs/DECISIONS.md, "The swing's lines"). Definitions only.
-use Rattle.std.specs.Prelude.{ℕ, ◌+◌, ◌-◌, ◌*◌, ◌^◌, Bool, true, false, not, ◌&&◌, cond, List, [], ◌∷◌, eqb, ltb}
+-- A line of one or three decimal numbers, byte by byte (docs/DECISIONS.md, "The swing's lines"). A line that is bad, whatever
+-- comes, is None. Definitions only.
+use Rattle.std.specs.Prelude.{ℕ, ◌+◌, ◌-◌, ◌*◌, ◌^◌, Bool, true, false, cond, List, [], ◌∷◌, eqb, ltb, Option, Some, None}
+use Rattle.std.specs.Option.{option_and_then}
+use Rattle.swing_read.specs.declared.Ended.{Ended}
+use Rattle.swing_read.specs.declared.Ended.TheVariants.{NoneYet, First, Second}
 use Rattle.swing_read.specs.declared.Reading.{Reading}
 use Rattle.swing_read.specs.declared.Line.{Line}
-use Rattle.swing_read.specs.declared.Line.TheVariants.{One, Three, Bad}
+use Rattle.swing_read.specs.declared.Line.TheVariants.{One, Three}
 
 -- nothing has come
 unfoldable pub start_of : Reading
-start_of = record { ended = 0; first = 0; second = 0; begun = false; value = 0 }
+start_of = record { ended = NoneYet; value = None }
 
--- the line is bad, whatever comes
-unfoldable pub spoilt_of : Reading
-spoilt_of = record { ended = 3; first = 0; second = 0; begun = false; value = 0 }
+-- a number has just ended, and the next has no figure
+abbrev pub ended_so : Ended → Option Reading
+ended_so numbers = Some (record { ended = numbers; value = None })
 
--- one blank ends a number that has a digit, and at most two numbers end so
-unfoldable pub blank_after : Reading → Reading
-blank_after r =
-    cond r.begun
-    (cond (eqb r.ended 0) (record { ended = 1; first = r.value; second = 0; begun = false; value = 0 })
-    (cond (eqb r.ended 1) (record { ended = 2; first = r.first; second = r.value; begun = false; value = 0 }) spoilt_of))
-    spoilt_of
+-- one blank ends a number that has a figure, and at most two numbers end so
+unfoldable pub ending : Option ℕ → Ended → Option Reading
+ending None numbers = None
+ending (Some n) NoneYet = ended_so (First n)
+ending (Some n) (First a) = ended_so (Second a n)
+ending (Some n) (Second a b) = None
 
--- no digit comes after a zero in front, and a number is a u64
-unfoldable pub room_for : Bool → ℕ → ℕ → Bool
-room_for begun value d = not (begun && eqb value 0) && ltb (value * 10 + d) (2 ^ 64)
+unfoldable pub blank_after : Reading → Option Reading
+blank_after r = ending r.value r.ended
 
-unfoldable pub digit_after : Reading → ℕ → Reading
-digit_after r d =
-    cond (room_for r.begun r.value d)
-    (record { ended = r.ended; first = r.first; second = r.second; begun = true; value = r.value * 10 + d }) spoilt_of
+-- a figure from `0` (48) to `9`
+unfoldable pub figure_of : ℕ → Option ℕ
+figure_of b = cond (ltb b 48) None (cond (ltb b 58) (Some (b - 48)) None)
 
--- a blank, a digit from `0` to `9`, or what no good line has
-unfoldable pub byte_after : Reading → ℕ → Reading
-byte_after r b =
-    cond (eqb r.ended 3) r
-    (cond (eqb b 32) (blank_after r) (cond (ltb b 48) spoilt_of (cond (ltb b 58) (digit_after r (b - 48)) spoilt_of)))
+-- a figure more, and a number is a u64
+unfoldable pub longer_value : Option ℕ → ℕ → Option ℕ
+longer_value None d = Some d
+longer_value (Some n) d = cond (ltb (n * 10 + d) (2 ^ 64)) (Some (n * 10 + d)) None
 
-unfoldable pub bytes_after : Reading → List ℕ → Reading
+unfoldable pub longer_after : Reading → ℕ → Option Reading
+longer_after r d = option_and_then (λ n. Some (record { ended = r.ended; value = Some n })) (longer_value r.value d)
+
+-- a zero in front
+unfoldable pub zero_alone : Option ℕ → Bool
+zero_alone None = false
+zero_alone (Some n) = eqb n 0
+
+-- no digit comes after it
+unfoldable pub digit_after : Reading → ℕ → Option Reading
+digit_after r d = cond (zero_alone r.value) None (longer_after r d)
+
+-- a blank (32), a digit, or what no good line has
+unfoldable pub byte_after : Option Reading → ℕ → Option Reading
+byte_after None b = None
+byte_after (Some r) b = cond (eqb b 32) (blank_after r) (option_and_then (digit_after r) (figure_of b))
+
+unfoldable pub bytes_after : Option Reading → List ℕ → Option Reading
 bytes_after r [] = r
 bytes_after r (b ∷ bs) = bytes_after (byte_after r b) bs
 
 -- one number, or three; all else is bad
-unfoldable pub line_of : Reading → Line
-line_of r =
-    cond r.begun
-    (cond (eqb r.ended 0) (One r.value) (cond (eqb r.ended 2) (Three r.first r.second r.value) Bad))
-    Bad
+unfoldable pub closing : Option ℕ → Ended → Option Line
+closing None numbers = None
+closing (Some n) NoneYet = Some (One n)
+closing (Some n) (First a) = None
+closing (Some n) (Second a b) = Some (Three a b n)
+
+unfoldable pub line_of : Option Reading → Option Line
+line_of None = None
+line_of (Some r) = closing r.value r.ended
 
 -- nothing has come of the line
-unfoldable pub at_start : Reading → Bool
-at_start r = not r.begun && eqb r.ended 0
+unfoldable pub unbegun : Option ℕ → Ended → Bool
+unbegun None NoneYet = true
+unbegun None (First a) = false
+unbegun None (Second a b) = false
+unbegun (Some n) numbers = false
+
+unfoldable pub at_start : Option Reading → Bool
+at_start None = false
+at_start (Some r) = unbegun r.value r.ended
 
 -- the line that these bytes are
-unfoldable pub read_line : List ℕ → Line
-read_line l = line_of (bytes_after start_of l)
+unfoldable pub read_line : List ℕ → Option Line
+read_line l = line_of (bytes_after (Some start_of) l)

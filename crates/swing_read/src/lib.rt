@@ -1,156 +1,140 @@
 // A line as it comes: one number, or three with one blank between. A number is decimal, a u64, with no zero in front and no sign.
+// A line that is bad, whatever comes, is None.
 #![tactic(auto)]
 
-ghost use Rattle.std.specs.Prelude.{◌≡◌, ◌<◌};
-ghost use Rattle.swing_read.specs.Reading.{start_of, spoilt_of, blank_after, room_for, digit_after, byte_after, line_of, at_start};
+ghost use Rattle.std.specs.Prelude.{◌≡◌};
+ghost use Rattle.swing_read.specs.Reading.{start_of, figure_of, ended_so, blank_after, longer_after, digit_after, byte_after};
+ghost use Rattle.swing_read.specs.Reading.{line_of, at_start};
 
-// What is known of a line that has not ended. Three numbers ended say that it is bad, whatever comes.
+// The numbers that have ended.
+#[derive(Clone, Copy)]
+pub enum Ended {
+    NoneYet,
+    First(u64),
+    Second(u64, u64),
+}
+
+// What is known of a line that has not ended: these numbers, and the one that has not, once it has a figure.
 #[derive(Clone, Copy)]
 pub struct Reading {
-    pub ended: u64,
-    pub first: u64,
-    pub second: u64,
-    pub begun: bool,
-    pub value: u64,
+    pub ended: Ended,
+    pub value: Option<u64>,
 }
 
 #[derive(Clone, Copy)]
 pub enum Line {
     One(u64),
     Three(u64, u64, u64),
-    Bad,
 }
 
 pub fn start() -> Reading
     ensures { result ≡ start_of }
 {
     Reading {
-        ended: 0,
-        first: 0,
-        second: 0,
-        begun: false,
-        value: 0,
+        ended: Ended::NoneYet,
+        value: None,
     }
 }
 
-pub fn spoilt() -> Reading
-    ensures { result ≡ spoilt_of }
+// These numbers have ended, and the next has no figure.
+fn behind(numbers: Ended) -> Option<Reading>
+    ensures { result ≡ ended_so numbers }
 {
-    Reading {
-        ended: 3,
-        first: 0,
-        second: 0,
-        begun: false,
-        value: 0,
-    }
+    Some(Reading {
+        ended: numbers,
+        value: None,
+    })
 }
 
-// A blank ends a number that has a digit, if there may be another after it.
-fn blank(r: Reading) -> Reading
+// A blank ends a number that has a figure, if there may be another after it.
+#[tactic(auto, unfolding(crate::specs::Reading::blank_after, crate::specs::Reading::ending))]
+fn blank(r: Reading) -> Option<Reading>
     ensures { result ≡ blank_after r }
 {
-    if r.begun {
-        if r.ended == 0 {
-            return Reading {
-                ended: 1,
-                first: r.value,
-                second: 0,
-                begun: false,
-                value: 0,
-            };
-        }
-        if r.ended == 1 {
-            return Reading {
-                ended: 2,
-                first: r.first,
-                second: r.value,
-                begun: false,
-                value: 0,
-            };
-        }
-        return spoilt();
+    let value = r.value?;
+    match r.ended {
+        Ended::NoneYet => behind(Ended::First(value)),
+        Ended::First(first) => behind(Ended::Second(first, value)),
+        Ended::Second(_, _) => None,
     }
-    spoilt()
 }
 
-// Whether a number may go on with the digit d: not after a zero in front, and not past 2^64 - 1.
-fn room(begun: bool, value: u64, d: u64) -> bool
-    requires { d < 10 }
-    ensures { result ≡ room_for begun value d }
+// What a byte says as a figure.
+#[tactic(auto, unfolding(crate::specs::Reading::figure_of))]
+pub fn figure(b: u8) -> Option<u64>
+    ensures { result ≡ figure_of b }
 {
-    if value == 0 {
-        if begun {
-            return false;
-        }
-        return true;
+    match b {
+        b'0'..=b'9' => Some((b - b'0') as u64),
+        _ => None,
     }
-    if value < 1844674407370955161 {
-        return true;
-    }
-    if value == 1844674407370955161 {
-        return d < 6;
-    }
-    false
 }
 
-fn digit(r: Reading, d: u64) -> Reading
-    requires { d < 10 }
-    ensures { result ≡ digit_after r d }
+// One figure more, where the number stays a u64.
+#[tactic(auto, unfolding(crate::specs::Reading::longer_after, crate::specs::Reading::longer_value))]
+pub fn longer(r: Reading, figure: u64) -> Option<Reading>
+    ensures { result ≡ longer_after r figure }
 {
-    let value = r.value;
-    if room(r.begun, value, d) {
-        return Reading {
-            ended: r.ended,
-            first: r.first,
-            second: r.second,
-            begun: true,
-            value: value * 10 + d,
-        };
+    let value = match r.value {
+        None => figure,
+        Some(value) => value.checked_mul(10)?.checked_add(figure)?,
+    };
+    Some(Reading {
+        ended: r.ended,
+        value: Some(value),
+    })
+}
+
+// Behind a zero in front no figure comes.
+#[tactic(auto, unfolding(crate::specs::Reading::digit_after, crate::specs::Reading::zero_alone))]
+fn digit(r: Reading, figure: u64) -> Option<Reading>
+    ensures { result ≡ digit_after r figure }
+{
+    match r.value {
+        Some(0) => None,
+        _ => longer(r, figure),
     }
-    spoilt()
 }
 
 // One byte more of the line.
-pub fn step(r: Reading, b: u8) -> Reading
+#[tactic(auto, unfolding(crate::specs::Reading::byte_after))]
+pub fn step(r: Option<Reading>, b: u8) -> Option<Reading>
     ensures { result ≡ byte_after r b }
 {
-    if r.ended == 3 {
-        return r;
-    }
+    let r = r?;
     if b == b' ' {
-        return blank(r);
+        blank(r)
+    } else {
+        digit(r, figure(b)?)
     }
-    if b < 48 {
-        return spoilt();
-    }
-    if b < 58 {
-        return digit(r, (b - 48) as u64);
-    }
-    spoilt()
 }
 
 // What the line is, where it ends here.
-pub fn close(r: Reading) -> Line
+#[tactic(auto, unfolding(crate::specs::Reading::line_of, crate::specs::Reading::closing))]
+pub fn close(r: Option<Reading>) -> Option<Line>
     ensures { result ≡ line_of r }
 {
-    if r.begun {
-        if r.ended == 0 {
-            return Line::One(r.value);
-        }
-        if r.ended == 2 {
-            return Line::Three(r.first, r.second, r.value);
-        }
-        return Line::Bad;
+    let r = r?;
+    let value = r.value?;
+    match r.ended {
+        Ended::NoneYet => Some(Line::One(value)),
+        Ended::First(_) => None,
+        Ended::Second(first, second) => Some(Line::Three(first, second, value)),
     }
-    Line::Bad
 }
 
 // Whether nothing has come of the line.
-pub fn nothing(r: Reading) -> bool
+#[tactic(auto, unfolding(crate::specs::Reading::at_start, crate::specs::Reading::unbegun))]
+pub fn nothing(r: Option<Reading>) -> bool
     ensures { result ≡ at_start r }
 {
-    if r.begun {
-        return false;
+    match r {
+        Some(
+            Reading {
+                ended: Ended::NoneYet,
+                value: None,
+            },
+        ) => true,
+        _ => false,
     }
-    r.ended == 0
 }

@@ -10,8 +10,7 @@ pub fn run(rt: HostRuntime, begin: State) {
     let mut block = [0u8; BLOCK];
     let mut state = begin;
     // A proved loop has to end, and nothing says that the input does: so many turns no run uses up.
-    let mut turns = u64::MAX;
-    while turns > 0 {
+    for _ in 0..u64::MAX {
         match read_block(rt, &mut block) {
             Got::Bytes(size) => {
                 let fed = feed(&block, size, state, &mut out);
@@ -26,10 +25,7 @@ pub fn run(rt: HostRuntime, begin: State) {
                 written(rt, &out, used);
                 return;
             }
-            Got::Failed => {
-                return;
-            }
+            Got::Failed => return,
         }
-        turns -= 1;
     }
 }

@@ -4,5 +4,5 @@
 mod lines;
 mod stream;
 
-pub use crate::lines::{State, steps_begin, swings_begin};
+pub use crate::lines::{Kind, State, steps_begin, swings_begin};
 pub use crate::stream::{BLOCK, Progress, feed, finish};

@@ -5,7 +5,7 @@ ghost use Rattle.writing.specs.Written.{Put};
 ghost use Rattle.swing_write.specs.Replies.{longest_swing, longest_total};
 ghost use Rattle.swing_stream.specs.Stream.{line_end, swing_byte, swing_from, said_at_end, said_last, longest_last, Swings};
 
-use crate::lines::{State, after_line, put_line};
+use crate::lines::{Kind, State, after_line, put_line};
 use millimetres::{at_end, measure, nothing_measured};
 use swing_read::close;
 use swing_write::put_total;
@@ -26,8 +26,7 @@ fn line_end(s: State, out: &mut [u8], used: usize) -> Progress
     requires { used + longest_swing ≤ length out.old }
     ensures { Swings (line_end s) out.old used out.new result }
 {
-    let reading = s.reading;
-    let line = close(at_end(reading));
+    let line = close(at_end(s.reading));
     Progress {
         state: after_line(s, line),
         used: put_line(s, line, out, used),
@@ -41,34 +40,26 @@ fn byte(b: u8, s: State, out: &mut [u8], used: usize) -> Progress
     if b == b'\n' {
         return line_end(s, out, used);
     }
-    let log = s.log;
-    let reading = s.reading;
     Progress {
         state: State {
-            counting: s.counting,
-            known: s.known,
-            log,
-            reading: measure(reading, b),
+            reading: measure(s.reading, b),
+            ..s
         },
         used,
     }
 }
 
-// Feeds the first `size` bytes.
-fn feed_all(block: &[u8], size: usize, s: State, out: &mut [u8]) -> Progress
-    requires size_in_bounds { size ≤ length block.now }
-    requires size_in_bounds_2 { longest_swing * size ≤ length out.old }
-    ensures swings { Swings (swing_from s (take size block.now)) out.old 0 out.new result }
-    ensures used_bound { result.used ≤ longest_swing * size }
+fn feed_all(part: &[u8], s: State, out: &mut [u8]) -> Progress
+    requires { longest_swing * length part.now ≤ length out.old }
+    ensures swings { Swings (swing_from s part.now) out.old 0 out.new result }
+    ensures used_bound { result.used ≤ longest_swing * length part.now }
 {
     let mut state = s;
     let mut used: usize = 0;
-    let mut i = 0;
-    while i < size {
-        let told = byte(block[i], state, out, used);
+    for b in part {
+        let told = byte(*b, state, out, used);
         state = told.state;
         used = told.used;
-        i += 1;
     }
     Progress { state, used }
 }
@@ -79,23 +70,20 @@ pub fn feed(block: &[u8; BLOCK], size: usize, s: State, out: &mut [u8; OUT]) -> 
     ensures swings { Swings (swing_from s (take size block.now)) out.old 0 out.new result }
     ensures prefix_len { IsPrefixLen result.used out.new }
 {
-    feed_all(block, least(BLOCK, size), s, out)
+    feed_all(&block[..least(BLOCK, size)], s, out)
 }
 
 // What is said once the last line has ended: the step log's total.
+#[tactic(auto, unfolding(crate::specs::Stream::said_at_end, crate::specs::Stream::said_ending))]
 fn closing(s: State, out: &mut [u8], used: usize) -> usize
     requires { used + longest_total ≤ length out.old }
     ensures { Put out.old used (said_at_end s) out.new result }
 {
-    let log = s.log;
-    let sum = log.sum;
-    if s.counting {
-        if s.known {
-            return put_total(sum, out, used);
-        }
-        return put_text(b"bad line\n", out, used);
+    match s.kind {
+        Kind::Periods => used,
+        Kind::Steps(None) => put_text(b"bad line\n", out, used),
+        Kind::Steps(Some(log)) => put_total(log.sum, out, used),
     }
-    used
 }
 
 fn last(s: State, out: &mut [u8]) -> usize
@@ -103,13 +91,11 @@ fn last(s: State, out: &mut [u8]) -> usize
     ensures put { Put out.old 0 (said_last s) out.new result }
     ensures upper_bound { result ≤ longest_last }
 {
-    let reading = s.reading;
-    if nothing_measured(reading) {
+    if nothing_measured(s.reading) {
         return closing(s, out, 0);
     }
     let told = line_end(s, out, 0);
-    let after = told.state;
-    closing(after, out, told.used)
+    closing(told.state, out, told.used)
 }
 
 // The reply to what is left at the input's end, at the start of `out`.

@@ -1,14 +1,14 @@
 -- How long the texts are. Assumes nothing.
-use Rattle.std.specs.Prelude.{ℕ, ◌/◌, ◌≤◌, length}
+use Rattle.std.specs.Prelude.{ℕ, ◌/◌, ◌≤◌, length, Result, Ok, Err}
 use Rattle.std.proofs.Common.{length-append, arith}
+use Rattle.refusals.specs.Numbers.{refusal_number}
 use Rattle.digits.proofs.DigitLaws.{digits_length}
 use Rattle.writing.specs.Decimal.{decimal}
 use Rattle.writing.specs.Places.{places_most}
 use Rattle.carlson.specs.declared.answer.Found.{Found}
-use Rattle.carlson.specs.declared.answer.Answer.{Answer}
-use Rattle.carlson.specs.declared.answer.Answer.TheVariants.{Value, Refused}
-use Rattle.steplog.specs.declared.Steps.{Steps}
-use Rattle.steplog.specs.declared.Steps.TheVariants.{Total, Refused as NoTotal}
+use Rattle.carlson.specs.Answer.{Answer}
+use Rattle.refusals.specs.declared.Refusal.{Refusal}
+use Rattle.refusals.specs.Numbers.{refusal_number}
 use Rattle.swing_write.specs.Replies.{ticks_of, number_text, seconds_text, period_text, refused_text, swing_text, total_text}
 use Rattle.swing_write.specs.Replies.{
   longest_number,
@@ -38,10 +38,10 @@ refused_length n = omega (arith, number_length n 10)
 
 pub swing_length : (a : Answer) → length (swing_text a) ≤ longest_swing
 unfolding swing_text
-swing_length (Value f) = period_length f
-swing_length (Refused n) = omega (arith, refused_length n)
+swing_length (Ok f) = period_length f
+swing_length (Err r) = omega (arith, refused_length (refusal_number r))
 
-pub total_length : (s : Steps) → length (total_text s) ≤ longest_total
+pub total_length : (s : Result ℕ Refusal) → length (total_text s) ≤ longest_total
 unfolding total_text
-total_length (Total t) = omega (arith, number_length t 10)
-total_length (NoTotal n) = refused_length n
+total_length (Ok t) = omega (arith, number_length t 10)
+total_length (Err r) = refused_length (refusal_number r)

@@ -1,17 +1,17 @@
 -- What is answered to a line of the swing and of the step log (document 02, 2026-01; the form is docs/DECISIONS.md's).
 -- Definitions only.
-use Rattle.std.specs.Prelude.{ℕ, ◌+◌, ◌*◌, ◌/◌, List, [], ◌∷◌, ◌++◌, Float}
+use Rattle.std.specs.Prelude.{ℕ, ◌+◌, ◌*◌, ◌/◌, List, [], ◌∷◌, ◌++◌, Float, Result, Ok, Err}
 use Rattle.std.specs.Float.{binary64}
 use Rattle.std.specs.Float.Ieee.{to_bits}
 use Rattle.std.specs.Float.Ieee.Nearest.{closest}
 use Rattle.std.specs.Float.Ieee.Positive.{num, den}
+use Rattle.refusals.specs.Numbers.{refusal_number}
 use Rattle.digits.specs.Digits.{digits}
 use Rattle.writing.specs.Decimal.{decimal}
 use Rattle.carlson.specs.declared.answer.Found.{Found}
-use Rattle.carlson.specs.declared.answer.Answer.{Answer}
-use Rattle.carlson.specs.declared.answer.Answer.TheVariants.{Value, Refused}
-use Rattle.steplog.specs.declared.Steps.{Steps}
-use Rattle.steplog.specs.declared.Steps.TheVariants.{Total, Refused as NoTotal}
+use Rattle.carlson.specs.Answer.{Answer}
+use Rattle.refusals.specs.declared.Refusal.{Refusal}
+use Rattle.refusals.specs.Numbers.{refusal_number}
 
 -- "exactly rounded to 12 places": the nearest whole number of 10^-12 s, half to even
 unfoldable pub ticks_of : Float → ℕ
@@ -34,12 +34,12 @@ unfoldable pub refused_text : ℕ → List ℕ
 refused_text n = (114 ∷ 101 ∷ 102 ∷ 117 ∷ 115 ∷ 101 ∷ 100 ∷ 32 ∷ []) ++ number_text n 10
 
 unfoldable pub swing_text : Answer → List ℕ
-swing_text (Value f) = period_text f
-swing_text (Refused n) = refused_text n
+swing_text (Ok f) = period_text f
+swing_text (Err r) = refused_text (refusal_number r)
 
-unfoldable pub total_text : Steps → List ℕ
-total_text (Total t) = number_text t 10
-total_text (NoTotal n) = refused_text n
+unfoldable pub total_text : Result ℕ Refusal → List ℕ
+total_text (Ok t) = number_text t 10
+total_text (Err r) = refused_text (refusal_number r)
 
 -- ---- how long each is at most
 -- twenty digits, and the byte after them

@@ -18,7 +18,7 @@ ghost use Rattle.swing_write.specs.Replies.{
 use crate::seconds::{TRILLION, ticks};
 use binary64::split;
 use carlson::answer::{Answer, Found};
-use steplog::Steps;
+use refusals::Refusal;
 use swing::period::period;
 use writing::{has_room, put_decimal, put_places, put_text, put_word};
 
@@ -72,18 +72,18 @@ fn write_swing(answer: Answer, out: &mut [u8], at: usize) -> usize
     ensures { Put out.old at (swing_text answer) out.new result }
 {
     match answer {
-        Answer::Value(found) => put_period(found, out, at),
-        Answer::Refused(number) => put_refused(number, out, at),
+        Ok(found) => put_period(found, out, at),
+        Err(refusal) => put_refused(refusal.number(), out, at),
     }
 }
 
-fn write_total(steps: Steps, out: &mut [u8], at: usize) -> usize
+fn write_total(steps: Result<u64, Refusal>, out: &mut [u8], at: usize) -> usize
     requires { at + longest_total ≤ length out.old }
     ensures { Put out.old at (total_text steps) out.new result }
 {
     match steps {
-        Steps::Total(total) => put_number(total, b'\n', out, at),
-        Steps::Refused(number) => put_refused(number, out, at),
+        Ok(total) => put_number(total, b'\n', out, at),
+        Err(refusal) => put_refused(refusal.number(), out, at),
     }
 }
 
@@ -99,7 +99,7 @@ pub fn put_swing(length: u64, height: u64, gravity: u64, out: &mut [u8], at: usi
 }
 
 // The step log's total, likewise.
-pub fn put_total(steps: Steps, out: &mut [u8], at: usize) -> usize
+pub fn put_total(steps: Result<u64, Refusal>, out: &mut [u8], at: usize) -> usize
     ensures { Tried longest_total out.old at (total_text steps) out.new result }
 {
     if has_room(out.len(), at, LONGEST_TOTAL) {

@@ -1,4 +1,7 @@
 -- What is left of a table, from a job and a place in the words on, gives what all of it gives. Assumes nothing.
+use Rattle.refusals.specs.declared.Refusal.{Refusal}
+use Rattle.refusals.specs.declared.Refusal.TheVariants.{NumbersDiffer}
+use Rattle.std.specs.Prelude.{Some, Ok, Err}
 use Prim.Native.Nat.{ℕ, suc, ◌+◌, ◌-◌, ◌*◌, ◌≤◌, ◌<◌}
 use mathlib.Core.Path.{◌≡◌, refl, sym, ap, ◌∙◌}
 use mathlib.Core.Bool.{Bool, true, false, cond}
@@ -17,8 +20,7 @@ use Rattle.packed.specs.RestLaws.{found_later}
 use Rattle.packed.specs.Reading.{Jobs, jobs, stopped, with_job, read_on, read_at, read_from, read_all}
 use Rattle.packed.specs.declared.jobs.Job.{Job}
 use Rattle.packed.specs.declared.read.Got.{Got}
-use Rattle.packed.specs.declared.read.Read.TheVariants.{Found, Refused as NotRead}
-use Rattle.claim.specs.Rows.{numbers_differ, row_after, missing_at, ended_at}
+use Rattle.claim.specs.Rows.{row_after, missing_at, ended_at}
 use Rattle.claim.specs.declared.rows.Checked.{Checked}
 use Rattle.claim.specs.declared.rows.Checked.TheVariants.{Accepted, BadRow, Refused}
 use Rattle.table.specs.Table.{row_meets, claims_of, rows_from, table_of, check_of}
@@ -28,9 +30,9 @@ use Rattle.table.specs.Words.{row_more, words_after}
 abbrev pub rest_of : ℕ → Checked → ℕ → Jobs → List ℕ → Checked
 rest_of tolerance so row (stopped js place n) ws = Refused n
 rest_of tolerance (Refused n) row (jobs js) ws = Refused n
-rest_of tolerance (BadRow first) row (jobs js) ws = cond (eqb (length ws) (2 * length js)) (BadRow first) (Refused numbers_differ)
+rest_of tolerance (BadRow first) row (jobs js) ws = cond (eqb (length ws) (2 * length js)) (BadRow first) (Refused NumbersDiffer)
 rest_of tolerance Accepted row (jobs js) ws =
-    cond (eqb (length ws) (2 * length js)) (rows_from tolerance row js (claims_of ws)) (Refused numbers_differ)
+    cond (eqb (length ws) (2 * length js)) (rows_from tolerance row js (claims_of ws)) (Refused NumbersDiffer)
 
 -- ---- a job more
 double_suc : (n : ℕ) → 2 * suc n ≡ suc (suc (2 * n))
@@ -53,7 +55,7 @@ module _ (t row : ℕ) (j : Job) where
     where
       go : (m : Bool)
           → cond (eqb (length ws) (2 * length js)) (cond m (rows_from t (row + 1) js (claims_of ws)) (BadRow row))
-          (Refused numbers_differ)
+          (Refused NumbersDiffer)
           ≡ rest_of t (cond m Accepted (BadRow row)) (row + 1) (jobs js) ws
       go true = refl
       go false = refl
@@ -138,7 +140,7 @@ module _ {t : ℕ} {list words : List ℕ} where
       go (stopped js place n) = refl
 
   module _ {so : Checked} {row place at : ℕ} (s : Standing t list words so row place at) where
-    pub standing_more : {got : Got} → Bytes list → read_at list place ≡ Found got
+    pub standing_more : {got : Got} → Bytes list → read_at list place ≡ Ok (Some got)
         → Standing t list words (row_more t so row got.job (drop at words)) (row + 1) got.next
         (words_after (length words) at)
     unfolding read_from read_on
@@ -159,7 +161,7 @@ module _ {t : ℕ} {list words : List ℕ} where
     turn_left : suc (length list) - row ≡ suc (length list - row)
     turn_left = omega (arith, s.inside, s.few)
 
-    pub standing_refused : {n : ℕ} → read_at list place ≡ NotRead n → Refused n ≡ check_of t list words
+    pub standing_refused : {n : Refusal} → read_at list place ≡ Err n → Refused n ≡ check_of t list words
     unfolding read_from read_on
     standing_refused {n} e = rw (turn_left, e) at s.rest
 

@@ -1,4 +1,6 @@
 -- What the check of a table says (document 02, 2026-11). Assumes nothing.
+use Rattle.refusals.specs.declared.Refusal.{Refusal}
+use Rattle.refusals.specs.declared.Refusal.TheVariants.{NumbersDiffer}
 use Rattle.std.specs.Prelude.{ℕ, zero, suc, ◌+◌, ◌*◌, ◌≤◌, ◌≡◌, Bool}
 use Rattle.std.proofs.Math.Path.{refl, ap}
 use Rattle.std.proofs.Common.{sym, subst, ◌∙◌, add-zero, zero-add, arith}
@@ -11,10 +13,8 @@ use Rattle.packed.specs.Reading.{Jobs, jobs, stopped, read_all}
 use Rattle.packed.specs.declared.jobs.Job.{Job}
 use Rattle.answers.specs.Answers.{answer_of}
 use Rattle.job_answers.specs.JobAnswers.{call_of_job}
-use Rattle.claim.specs.Claims.{own_claim}
 use Rattle.claim.specs.ClaimLaws.{Finite}
 use Rattle.claim.proofs.ClaimLaws.{meets_wider, own_meets}
-use Rattle.claim.specs.Rows.{numbers_differ}
 use Rattle.claim.specs.declared.meeting.Claim.{Claim}
 use Rattle.claim.specs.declared.rows.Checked.{Checked}
 use Rattle.claim.specs.declared.rows.Checked.TheVariants.{Accepted, BadRow, Refused}
@@ -66,7 +66,7 @@ rows_bad t row n (j ∷ js) (c ∷ cs) e = go (row_meets t j c) refl e (rows_bad
     go true m e rest = let r = rest e in (suc r.0, omega (arith, r.1), (m, r.2))
     go false m e rest = let z : row ≡ n = cc in (0, omega arith, m)
 
-rows_never : (t row n : ℕ) (js : List Job) (cs : List Claim) → rows_from t row js cs ≡ Refused n → ⊥
+rows_never : (t row : ℕ) (n : Refusal) (js : List Job) (cs : List Claim) → rows_from t row js cs ≡ Refused n → ⊥
 unfolding rows_from
 rows_never t row n [] cs e = let z : ◌≡◌ {A = ℕ} 0 1 = cc in omega arith
 rows_never t row n (j ∷ js) [] e = let z : ◌≡◌ {A = ℕ} 0 1 = cc in omega arith
@@ -88,13 +88,14 @@ claims_length (suc n) (k ∷ w ∷ words) h = ap suc (claims_length n words (ome
 -- ---- THE LAWS
 module _ (t : ℕ) (list words : List ℕ) where
   -- "the work list's own" refusals come first
-  pub list_first : {js : List Job} {place n : ℕ} → read_all list ≡ stopped js place n → check_of t list words ≡ Refused n
+  pub list_first : {js : List Job} {place : ℕ} {n : Refusal} → read_all list ≡ stopped js place n
+      → check_of t list words ≡ Refused n
   unfolding check_of table_of
   list_first e = rw e
 
   -- "then 22", where "the list is sound and claims and jobs differ in number"
   pub then_differ : {js : List Job} → read_all list ≡ jobs js → (length words ≡ 2 * length js → ⊥)
-      → check_of t list words ≡ Refused numbers_differ
+      → check_of t list words ≡ Refused NumbersDiffer
   unfolding check_of table_of
   then_differ {js} e h = rw (e, ne_eqb (length words) (2 * length js) h)
 
@@ -112,7 +113,7 @@ module _ (t : ℕ) (list words : List ℕ) where
 
   -- ---- and back: what an answer says
   -- whatever is no refusal was said of a sound list with as many claims
-  sounds : (r : Checked) → ((n : ℕ) → r ≡ Refused n → ⊥) → check_of t list words ≡ r
+  sounds : (r : Checked) → ((n : Refusal) → r ≡ Refused n → ⊥) → check_of t list words ≡ r
       → (s : Sound list words) × (rows_from t 0 s.js (claims_of words) ≡ r)
   unfolding check_of table_of
   sounds r never e = go (read_all list) refl e
@@ -123,10 +124,10 @@ module _ (t : ℕ) (list words : List ℕ) where
       go (jobs js) is e = pick (eqb (length words) (2 * length js)) refl e
         where
           pick : (q : Bool) → eqb (length words) (2 * length js) ≡ q
-              → cond q (rows_from t 0 js (claims_of words)) (Refused numbers_differ) ≡ r
+              → cond q (rows_from t 0 js (claims_of words)) (Refused NumbersDiffer) ≡ r
               → (s : Sound list words) × (rows_from t 0 s.js (claims_of words) ≡ r)
           pick true q e = (record { js = js; read = is; same = eqb-true (length words) (2 * length js) q }, e)
-          pick false q e = absurd (never numbers_differ (sym e))
+          pick false q e = absurd (never NumbersDiffer (sym e))
 
   pub accepted : check_of t list words ≡ Accepted → (s : Sound list words) × Met t s.js (claims_of words)
   accepted e =
@@ -141,11 +142,11 @@ module _ (t : ℕ) (list words : List ℕ) where
       (r.0, subst (λ (m : ℕ). FirstBad t m r.0.js (claims_of words)) k b.2)
 
   -- a refusal is the list's own, or 22 of a sound list with another number of claims
-  pub data Why (n : ℕ) : Type 0 where
+  pub data Why (n : Refusal) : Type 0 where
     the_list : (js : List Job) (place : ℕ) → read_all list ≡ stopped js place n → Why n
-    the_number : (js : List Job) → read_all list ≡ jobs js → (length words ≡ 2 * length js → ⊥) → n ≡ numbers_differ → Why n
+    the_number : (js : List Job) → read_all list ≡ jobs js → (length words ≡ 2 * length js → ⊥) → n ≡ NumbersDiffer → Why n
 
-  pub refused : {n : ℕ} → check_of t list words ≡ Refused n → Why n
+  pub refused : {n : Refusal} → check_of t list words ≡ Refused n → Why n
   unfolding check_of table_of
   refused {n} e = go (read_all list) refl e
     where
@@ -155,17 +156,17 @@ module _ (t : ℕ) (list words : List ℕ) where
       go (jobs js) is e = pick (eqb (length words) (2 * length js)) refl e
         where
           pick : (q : Bool) → eqb (length words) (2 * length js) ≡ q
-              → cond q (rows_from t 0 js (claims_of words)) (Refused numbers_differ) ≡ Refused n → Why n
+              → cond q (rows_from t 0 js (claims_of words)) (Refused NumbersDiffer) ≡ Refused n → Why n
           pick true q e = absurd (rows_never t 0 n js (claims_of words) e)
           pick false q e =
-              let z : numbers_differ ≡ n = cc in the_number js is (eqb-false (length words) (2 * length js) q) (sym z)
+              let z : NumbersDiffer ≡ n = cc in the_number js is (eqb-false (length words) (2 * length js) q) (sym z)
 
   -- "22, exactly where the list is sound and claims and jobs differ in number"
-  pub exactly_differ : check_of t list words ≡ Refused numbers_differ
+  pub exactly_differ : check_of t list words ≡ Refused NumbersDiffer
       → (js : List Job) × (read_all list ≡ jobs js) × (length words ≡ 2 * length js → ⊥)
   exactly_differ e = go (refused e)
     where
-      go : Why numbers_differ → (js : List Job) × (read_all list ≡ jobs js) × (length words ≡ 2 * length js → ⊥)
+      go : Why NumbersDiffer → (js : List Job) × (read_all list ≡ jobs js) × (length words ≡ 2 * length js → ⊥)
       go (the_list js place is) = absurd (omega (arith, list_numbers list is))
       go (the_number js is differ same) = (js, is, differ)
 

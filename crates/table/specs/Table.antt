@@ -1,11 +1,11 @@
 -- What is right of a table (document 02, 2026-11). Definitions only.
+use Rattle.refusals.specs.declared.Refusal.TheVariants.{NumbersDiffer}
 use Rattle.std.specs.Prelude.{ℕ, ◌+◌, ◌*◌, Bool, cond, List, [], ◌∷◌, eqb, length}
 use Rattle.packed.specs.Reading.{Jobs, jobs, stopped, read_all}
 use Rattle.packed.specs.declared.jobs.Job.{Job}
 use Rattle.answers.specs.Answers.{answer_of}
 use Rattle.job_answers.specs.JobAnswers.{call_of_job}
 use Rattle.claim.specs.Claims.{meets_of}
-use Rattle.claim.specs.Rows.{numbers_differ}
 use Rattle.claim.specs.declared.meeting.Claim.{Claim}
 use Rattle.claim.specs.declared.rows.Checked.{Checked}
 use Rattle.claim.specs.declared.rows.Checked.TheVariants.{Accepted, BadRow, Refused}
@@ -31,7 +31,7 @@ rows_from tolerance row (j ∷ js) (c ∷ cs) = cond (row_meets tolerance j c) (
 -- "Refusals: the work list's own, then 22"; `same` is whether there are claims for so many jobs
 unfoldable pub table_of : ℕ → Jobs → (ℕ → Bool) → List Claim → Checked
 table_of tolerance (stopped js place n) same cs = Refused n
-table_of tolerance (jobs js) same cs = cond (same (length js)) (rows_from tolerance 0 js cs) (Refused numbers_differ)
+table_of tolerance (jobs js) same cs = cond (same (length js)) (rows_from tolerance 0 js cs) (Refused NumbersDiffer)
 
 -- a list's bytes, and two words for each of its jobs
 unfoldable pub check_of : ℕ → List ℕ → List ℕ → Checked

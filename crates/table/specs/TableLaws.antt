@@ -1,25 +1,15 @@
 -- What the check of a table says (document 02, 2026-11). Assumes nothing.
-use Rattle.std.specs.Prelude.{ℕ, zero, suc, ◌+◌, ◌*◌, ◌≤◌, ◌≡◌, Bool}
-use Rattle.std.proofs.Math.Path.{refl, ap}
-use Rattle.std.proofs.Common.{sym, subst, ◌∙◌, add-zero, zero-add, arith}
-use Rattle.std.proofs.Math.Bool.{true, false, cond}
+use Rattle.std.specs.Prelude.{ℕ, zero, suc, ◌*◌, ◌≡◌}
+use Rattle.std.proofs.Math.Bool.{true, false}
 use mathlib.Core.List.{List, [], ◌∷◌}
-use borrow.Author.Tests.{eq-eqb, ne_eqb, eqb-true, eqb-false}
-use Rattle.std.proofs.Math.Dec.{eqb}
 use Rattle.std.proofs.Math.ListN.{length}
-use Rattle.packed.specs.Reading.{Jobs, jobs, stopped, read_all}
+use Rattle.packed.specs.Reading.{jobs, read_all}
 use Rattle.packed.specs.declared.jobs.Job.{Job}
 use Rattle.answers.specs.Answers.{answer_of}
 use Rattle.job_answers.specs.JobAnswers.{call_of_job}
 use Rattle.claim.specs.Claims.{own_claim}
-use Rattle.claim.specs.ClaimLaws.{Finite}
-use Rattle.claim.proofs.ClaimLaws.{meets_wider, own_meets}
-use Rattle.claim.specs.Rows.{numbers_differ}
 use Rattle.claim.specs.declared.meeting.Claim.{Claim}
-use Rattle.claim.specs.declared.rows.Checked.{Checked}
-use Rattle.claim.specs.declared.rows.Checked.TheVariants.{Accepted, BadRow, Refused}
-use Rattle.table.specs.Table.{row_meets, claims_of, rows_from, table_of, check_of}
-use Rattle.table.specs.RefusalLaws.{list_numbers}
+use Rattle.table.specs.Table.{row_meets}
 
 -- ---- the statements
 -- each claim meets our answer, and there are as many as jobs

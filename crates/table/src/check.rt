@@ -5,7 +5,7 @@ ghost use Rattle.table.specs.Words.{row_more, words_after};
 
 use crate::judge::judged;
 use claim::{Checked, Claim, ended, missing};
-use packed::{Job, Read, read_job};
+use packed::{Job, read_job};
 use writing::has_room;
 
 // The claim at a place of the words.
@@ -39,7 +39,7 @@ fn words_after(length: usize, at: usize) -> usize
     at
 }
 
-// Two words for each job: its claim's kind and word.
+// Two words for each job: its claim's kind and word. Each read says itself where the next job begins, so the place is no index.
 pub fn check_table(list: &[u8], claims: &[u64], tolerance: u64) -> Checked
     ensures { result ≡ check_of tolerance list.now claims.now }
 {
@@ -49,17 +49,17 @@ pub fn check_table(list: &[u8], claims: &[u64], tolerance: u64) -> Checked
     let mut at: usize = 0;
     while place < list.len() {
         match read_job(list, place) {
-            Read::Found(got) => {
+            Ok(Some(got)) => {
                 let job = got.job;
                 so = row_more(so, row, job, claims, at, tolerance);
                 at = words_after(claims.len(), at);
                 place = got.next;
             }
-            Read::Nothing => {
+            Ok(None) => {
                 return so;
             }
-            Read::Refused(number) => {
-                return Checked::Refused(number);
+            Err(refusal) => {
+                return Checked::Refused(refusal);
             }
         }
         row += 1;

@@ -18,7 +18,7 @@ pub fn judged(so: Checked, row: u64, job: Job, claim: Claim, tolerance: u64) -> 
     ensures { result ≡ row_after so row (row_meets tolerance job claim) }
 {
     match so {
-        Checked::Refused(number) => Checked::Refused(number),
+        Checked::Refused(refusal) => Checked::Refused(refusal),
         Checked::BadRow(first) => Checked::BadRow(first),
         Checked::Accepted => row_after(Checked::Accepted, row, job_meets(tolerance, job, claim)),
     }

@@ -1,11 +1,12 @@
 -- Row by row, the lines of a listing give what the definition says of all. Assumes nothing.
+use Rattle.refusals.specs.declared.Refusal.TheVariants.{NumbersDiffer}
 use Rattle.std.specs.Prelude.{ℕ, suc, ◌+◌, ◌≤◌, ◌<◌, ◌≡◌, refl, Bool, true, false, cond, List, [], ◌∷◌, eqb, length, take}
 use Rattle.std.proofs.Common.{ap, ◌∙◌, arith, lt-ltb}
 use Rattle.std.proofs.Math.Dec.{eqb-suc-suc, eqb-suc-zero, eqb-zero-suc}
 use Rattle.packed.specs.Reading.{jobs}
 use Rattle.packed.specs.declared.jobs.Job.{Job}
 use Rattle.unpack_stream.specs.Text.{letter_of, name_text}
-use Rattle.claim.specs.Rows.{numbers_differ, row_after, missing_at, ended_at}
+use Rattle.claim.specs.Rows.{row_after, missing_at, ended_at}
 use Rattle.claim.specs.declared.rows.Checked.{Checked}
 use Rattle.claim.specs.declared.rows.Checked.TheVariants.{Accepted, BadRow, Refused}
 use Rattle.claim_read.specs.HeldLaws.{name_held, claim_held}
@@ -15,8 +16,8 @@ use Rattle.table_lines.specs.Lines.{is_header, line_meets, line_claims, check_li
 -- from what is known so far, the jobs and lines that are left
 abbrev rest_of : ℕ → Checked → ℕ → List Job → List (List ℕ) → Checked
 rest_of t (Refused n) row js ls = Refused n
-rest_of t (BadRow first) row js ls = cond (eqb (length ls) (length js)) (BadRow first) (Refused numbers_differ)
-rest_of t Accepted row js ls = cond (eqb (length ls) (length js)) (rows_from t row js (line_claims js ls)) (Refused numbers_differ)
+rest_of t (BadRow first) row js ls = cond (eqb (length ls) (length js)) (BadRow first) (Refused NumbersDiffer)
+rest_of t Accepted row js ls = cond (eqb (length ls) (length js)) (rows_from t row js (line_claims js ls)) (Refused NumbersDiffer)
 
 rest_ended : (t : ℕ) (so : Checked) (row : ℕ) (ls : List (List ℕ)) → after_rows t so row [] ls ≡ rest_of t so row [] ls
 unfolding after_rows ended_at missing_at rows_from line_claims
@@ -44,7 +45,7 @@ row_more_lem t Accepted row j js l ls = rw (eqb-suc-suc (length ls) (length js))
     go : (m : Bool)
         → rest_of t (cond m Accepted (BadRow row)) (row + 1) js ls
         ≡ cond (eqb (length ls) (length js)) (cond m (rows_from t (row + 1) js (line_claims js ls)) (BadRow row))
-        (Refused numbers_differ)
+        (Refused NumbersDiffer)
     go true = refl
     go false = refl
 

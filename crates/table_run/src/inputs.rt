@@ -1,5 +1,4 @@
 // The list's jobs and the listing's lines, side by side.
-use crate::say::Ended;
 use claim::{Checked, ended, missing};
 use console::Source;
 use jobs_in::{Pulled, place, pull};
@@ -11,14 +10,8 @@ use table_lines::{is_header, judged_line};
 use writing::least;
 
 // A number in decimal.
-pub fn tolerance_of(text: &[u8]) -> Line {
-    let mut read = start();
-    let mut i = 0;
-    while i < text.len() {
-        read = step(read, text[i]);
-        i += 1;
-    }
-    close(read)
+pub fn tolerance_of(text: &[u8]) -> Option<Line> {
+    close(text.iter().fold(Some(start()), |read, b| step(read, *b)))
 }
 
 fn headed(rows: Rows, held: &[u8]) -> bool {
@@ -67,20 +60,18 @@ pub fn check(
     list: Source<'_>,
     claims: Source<'_>,
     wanted: bool,
-) -> Ended {
+) -> Option<Checked> {
     let mut window = [0u8; 4096];
     let mut block = [0u8; BLOCK];
     let mut held = [0u8; ROW];
     let mut so = Checked::Accepted;
-    let mut row: u64 = 0;
     let mut stands = jobs_in::begin();
     let mut meter = progress::begin(rt, wanted, list);
     let mut rows = first_line(rt, claims, &mut block, &mut held);
     // A proved loop has to end, and nothing says that the list does: so many turns no run uses up.
-    let mut turns = u64::MAX;
-    while turns > 0 {
+    for row in 0..u64::MAX {
         if rows.failed {
-            return Ended::Failed;
+            return None;
         }
         match pull(rt, list, &mut window, stands) {
             Pulled::Job(job, next) => {
@@ -89,13 +80,10 @@ pub fn check(
                 stands = next;
                 meter = jobs(rt, meter, row, place(stands));
             }
-            Pulled::More => return Ended::Failed,
-            Pulled::End => return Ended::With(ended(so, rows.whole)),
-            Pulled::Refused(number) => return Ended::With(Checked::Refused(number)),
-            Pulled::Failed => return Ended::Failed,
+            Pulled::End => return Some(ended(so, rows.whole)),
+            Pulled::Refused(refusal) => return Some(Checked::Refused(refusal)),
+            Pulled::Failed => return None,
         }
-        row = std::num::wrapping_add_u64(row, 1);
-        turns -= 1;
     }
-    Ended::Failed
+    None
 }

@@ -63,17 +63,19 @@ fn opened(rt: HostRuntime, path: &[u8]) -> Option<File> {
 fn with_claims(rt: HostRuntime, tolerance: u64, list: &File) {
     let mut path = [0u8; PATH];
     let length = argument(rt, 3, &mut path);
-    if let Some(claims) = opened(rt, &path[..length]) {
-        say_checked(
-            rt,
-            check(
-                rt,
-                tolerance,
-                Source::Opened(list),
-                Source::Opened(&claims),
-                progress::asked(rt, 4),
-            ),
-        );
+    let Some(claims) = opened(rt, &path[..length]) else {
+        return;
+    };
+    let wanted = progress::asked(rt, 4);
+    let checked = check(
+        rt,
+        tolerance,
+        Source::Opened(list),
+        Source::Opened(&claims),
+        wanted,
+    );
+    if let Some(verdict) = checked {
+        say_checked(rt, verdict);
     }
 }
 
@@ -89,8 +91,7 @@ fn main(rt: HostRuntime) {
     let mut text = [0u8; PATH];
     let length = argument(rt, 1, &mut text);
     match tolerance_of(&text[..length]) {
-        Line::One(tolerance) => with_list(rt, tolerance),
-        Line::Three(_, _, _) => complain(rt),
-        Line::Bad => complain(rt),
+        Some(Line::One(tolerance)) => with_list(rt, tolerance),
+        Some(Line::Three(_, _, _)) | None => complain(rt),
     }
 }

@@ -3,14 +3,6 @@ use claim::Checked;
 use console::write_out;
 use writing::{least, put_decimal, put_text};
 
-// What the inputs led to.
-#[derive(Clone, Copy)]
-pub enum Ended {
-    With(Checked),
-    // A read failed, and that was said.
-    Failed,
-}
-
 fn say(rt: HostRuntime, text: &[u8], used: usize) {
     if write_out(rt, &text[..least(text.len(), used)]) {
         return;
@@ -28,23 +20,18 @@ fn put_checked(checked: Checked, text: &mut [u8]) -> usize {
             let end = put_decimal(std::num::wrapping_add_u64(row, 1), 19, text, word);
             put_text(b"\n", text, end)
         }
-        Checked::Refused(number) => {
+        Checked::Refused(refusal) => {
             let word = put_text(b"refused ", text, 0);
-            let end = put_decimal(number as u64, 9, text, word);
+            let end = put_decimal(refusal.number() as u64, 9, text, word);
             put_text(b"\n", text, end)
         }
     }
 }
 
-pub fn say_checked(rt: HostRuntime, ended: Ended) {
-    match ended {
-        Ended::With(checked) => {
-            let mut text = [0u8; 64];
-            let used = put_checked(checked, &mut text);
-            say(rt, &text, used);
-        }
-        Ended::Failed => {}
-    }
+pub fn say_checked(rt: HostRuntime, checked: Checked) {
+    let mut text = [0u8; 64];
+    let used = put_checked(checked, &mut text);
+    say(rt, &text, used);
 }
 
 pub fn complain(rt: HostRuntime) {

@@ -1,5 +1,6 @@
 -- From what each function leaves to its definition. Assumes nothing.
-use Rattle.std.proofs.Common.{◌≡◌, ℕ, zero, suc, ◌+◌, ◌-◌, ◌%◌, ◌^◌, ◌<◌, ◌≤◌, List, [], ◌++◌, length, get_or, take, drop, set, refl, ap, ◌∙◌, append-nil, add-one, arith, length-drop, length-set, drop_of_length-le, take_all, le-ltb, lt-ltb, eq-eqb, ne_eqb, le-leb}
+use Rattle.std.proofs.Common.{inl, inr, max, ◌≡◌, ℕ, zero, suc, ◌+◌, ◌-◌, ◌%◌, ◌^◌, ◌<◌, ◌≤◌, List, ◌++◌, length, get_or, take, drop, set, refl, ap, ◌∙◌, append-nil, add-one, arith, length-drop, length-set, drop_of_length-le, take_all, le-ltb, lt-ltb, eq-eqb, ne_eqb, le-leb}
+use Rattle.std.proofs.lemmas.Bool.{cases_lt}
 use borrow.Rule.Slice.PartMut.{mid_of, put_mid}
 use borrow.Author.Tests.{lt-leb}
 use lib.Seq.{set-get_or}
@@ -89,13 +90,19 @@ slots_length (suc left) i ws os = slots_length left (suc i) (set ws i (word_join
     ∙ simp length-set
 
 -- ---- the word of both
-pub most_second : (i v w : ℕ) → i ≡ 29 → v < w → w ≡ word_joined i v w
+most_second : (i v w : ℕ) → i ≡ 29 → v < w → w ≡ word_joined i v w
 unfolding word_joined
 most_second i v w h k = rw (eq-eqb i 29 h, lt-ltb v w k)
 
-pub most_first : (i v w : ℕ) → i ≡ 29 → w ≤ v → v ≡ word_joined i v w
+most_first : (i v w : ℕ) → i ≡ 29 → w ≤ v → v ≡ word_joined i v w
 unfolding word_joined
 most_first i v w h k = rw (eq-eqb i 29 h, le-ltb v w k)
+
+pub most_joined : (i v w : ℕ) → i ≡ 29 → max v w ≡ word_joined i v w
+most_joined i v w h = elim (cases_lt v w) [
+  | inl k ↦ let e : max v w ≡ w = omega arith in e ∙ most_second i v w h k
+  | inr k ↦ let e : max v w ≡ v = omega arith in e ∙ most_first i v w h k
+]
 
 pub both_words : (i v w : ℕ) → (i ≡ 29 → ⊥) → (v + w) % 2 ^ 64 ≡ word_joined i v w
 unfolding word_joined

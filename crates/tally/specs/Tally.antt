@@ -1,16 +1,39 @@
 -- What a report keeps of one function, as words (document 02, 2026-05). Definitions only.
-use Rattle.std.specs.Prelude.{ℕ, zero, suc, ◌+◌, ◌%◌, ◌^◌, cond, ◌&&◌, List, [], ◌++◌, length, take, drop, ◌==◌, nat_le, nat_lt, slice_index, slice_set, to_bits}
+use Rattle.std.specs.Prelude.{
+  ℕ,
+  zero,
+  suc,
+  ◌+◌,
+  ◌%◌,
+  ◌^◌,
+  cond,
+  ◌&&◌,
+  List,
+  [],
+  ◌++◌,
+  length,
+  take,
+  drop,
+  ◌==◌,
+  nat_le,
+  nat_lt,
+  slice_index,
+  slice_set,
+  to_bits,
+  Ok,
+  Err,
+}
 use Rattle.std.specs.Float.{binary64}
+use Rattle.refusals.specs.Numbers.{refusal_number}
 use Rattle.rounding.specs.Cut.{infinity}
-use Rattle.carlson.specs.declared.answer.Answer.{Answer}
-use Rattle.carlson.specs.declared.answer.Answer.TheVariants.{Value, Refused}
+use Rattle.carlson.specs.Answer.{Answer}
 use Rattle.exact.specs.Exact.{value_added, sums_joined}
 use Rattle.tally.specs.declared.counted.Counted.{Counted}
 
 -- ---- what one answer counts: a refusal its number, a value its rounds and its bits; of an infinity's bits a sum takes nothing
 unfoldable pub counted_of : Answer → Counted
-counted_of (Value f) = record { refused = 0; rounds = f.way.rounds; bits = to_bits binary64 f.value }
-counted_of (Refused n) = record { refused = n; rounds = 0; bits = infinity }
+counted_of (Ok f) = record { refused = 0; rounds = f.way.rounds; bits = to_bits binary64 f.value }
+counted_of (Err r) = record { refused = refusal_number r; rounds = 0; bits = infinity }
 
 -- ---- the words: the calls, "each refusal number's tally" at the place of its number, from 1 to 27, "rounds in all", "the most
 -- rounds in one call", and 34 of "the exact sum of the values"

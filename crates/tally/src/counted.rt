@@ -19,7 +19,7 @@ pub fn counted_of(answer: Answer) -> Counted
     ensures { result ≡ counted_of answer }
 {
     match answer {
-        Answer::Value(found) => {
+        Ok(found) => {
             let way = found.way;
             Counted {
                 refused: 0,
@@ -27,8 +27,8 @@ pub fn counted_of(answer: Answer) -> Counted
                 bits: split(found.value),
             }
         }
-        Answer::Refused(number) => Counted {
-            refused: number as u64,
+        Err(refusal) => Counted {
+            refused: refusal.number() as u64,
             rounds: 0,
             bits: INFINITY,
         },

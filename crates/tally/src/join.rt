@@ -13,12 +13,9 @@ fn joined_word(i: usize, v: u64, w: u64) -> u64
     ensures { result ≡ word_joined i v w }
 {
     if i == MOST {
-        if v < w {
-            return w;
-        }
-        return v;
+        return v.max(w);
     }
-    std::num::wrapping_add_u64(v, w)
+    v.wrapping_add(w)
 }
 
 fn join_slots(block: &mut [u64], other: &[u64])
@@ -26,10 +23,8 @@ fn join_slots(block: &mut [u64], other: &[u64])
     requires other_len { length other.now ≡ block_words }
     ensures { block.new ≡ slots_joined 0 sum_place block.old other.now }
 {
-    let mut i: usize = 0;
-    while i < SUM {
+    for i in 0..SUM {
         block[i] = joined_word(i, block[i], other[i]);
-        i += 1;
     }
 }
 

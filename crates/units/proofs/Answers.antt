@@ -1,9 +1,10 @@
 -- From the rules back to the claim: what an entry settles of two runs is alike. And both signs of k: the second way round, the
 -- runs change places.
 use Rattle.std.specs.Prelude.{◌≡◌, refl, ℕ, ◌+◌, ◌-◌, ◌*◌, ◌^◌, Bool, true, false, cond, [], ◌∷◌, Float}
-use Rattle.std.proofs.Common.{sym, ap, ◌∙◌, subst, subst₂, inl, inr, arith, pow-add}
+use Rattle.std.proofs.Common.{sym, ap, ◌∙◌, subst, subst₂, inl, inr, arith, pow-add, Ok, Err}
 use Rattle.std.specs.Float.{nan, inf, fin, binary64}
 use Rattle.std.specs.Float.Ieee.Scale.{finite}
+use Rattle.refusals.specs.declared.Refusal.{Refusal}
 use Rattle.algebra.specs.Ring.{◌:*◌, ◌≈◌, ◌⊩◌, ◌times◌≼◌}
 use Rattle.algebra.proofs.Ring.{ring}
 use Rattle.algebra.specs.Order.{lt_or_le}
@@ -15,8 +16,7 @@ use Rattle.carlson.specs.Answer.{settled, settled_late}
 use Rattle.carlson.specs.declared.answer.Road.{Road}
 use Rattle.carlson.specs.declared.answer.Way.{Way}
 use Rattle.carlson.specs.declared.answer.Found.{Found}
-use Rattle.carlson.specs.declared.answer.Answer.{Answer}
-use Rattle.carlson.specs.declared.answer.Answer.TheVariants.{Value, Refused}
+use Rattle.carlson.specs.Answer.{Answer}
 use Rattle.units.specs.Statement.{Times, TimesFour, Alike, refused, values}
 use Rattle.units.specs.Runs.{Same, both, lost}
 use Rattle.units.specs.Answers.{Pair, no, yes}
@@ -26,26 +26,26 @@ finite_is {x = nan} a = absurd a.val
 finite_is {x = inf t} a = absurd a.val
 finite_is {x = fin t m e} a = refl
 
-pub settled_same : {k : ℕ} {K : Kind} {f g : Found} (n : ℕ) → Same k K f g → Pair k K (settled f n) (settled g n)
+pub settled_same : {k : ℕ} {K : Kind} {f g : Found} (r : Refusal) → Same k K f g → Pair k K (settled f r) (settled g r)
 unfolding settled
-settled_same {k} {K} n (both {v = v} {w = w} {r = r} {c = c} a) =
-    let f : Found = record { value = v; road = r; way = c } in
-    let g : Found = record { value = w; road = r; way = c } in
-    subst₂ (λ p q. Pair k K (cond p (Value f) (Refused n)) (cond q (Value g) (Refused n))) (sym (finite_is a.first))
+settled_same {k} {K} r (both {v = v} {w = w} {r = o} {c = c} a) =
+    let f : Found = record { value = v; road = o; way = c } in
+    let g : Found = record { value = w; road = o; way = c } in
+    subst₂ (λ p q. Pair k K (cond p (Ok f) (Err r)) (cond q (Ok g) (Err r))) (sym (finite_is a.first))
     (sym (finite_is a.second))
     (yes a)
-settled_same n lost = no
+settled_same r lost = no
 
-pub late_same : {k : ℕ} {K : Kind} {f g : Found} (n : ℕ) → Same k K f g
-    → Pair k K (settled_late f false false n) (settled_late g false false n)
+pub late_same : {k : ℕ} {K : Kind} {f g : Found} (r : Refusal) → Same k K f g
+    → Pair k K (settled_late f false false r) (settled_late g false false r)
 unfolding settled_late
-late_same {k} {K} n (both {v = v} {w = w} {r = r} {c = c} a) =
-    let f : Found = record { value = v; road = r; way = c } in
-    let g : Found = record { value = w; road = r; way = c } in
-    subst₂ (λ p q. Pair k K (cond p (Value f) (Refused n)) (cond q (Value g) (Refused n))) (sym (finite_is a.first))
+late_same {k} {K} r (both {v = v} {w = w} {r = o} {c = c} a) =
+    let f : Found = record { value = v; road = o; way = c } in
+    let g : Found = record { value = w; road = o; way = c } in
+    subst₂ (λ p q. Pair k K (cond p (Ok f) (Err r)) (cond q (Ok g) (Err r))) (sym (finite_is a.first))
     (sym (finite_is a.second))
     (yes a)
-late_same n lost = no
+late_same r lost = no
 
 -- ---- to the claim: of a weight in k, with a common power beside both
 beside : (m n p q e : ℕ) → n * 2 ^ p ≡ m * 2 ^ q → n * 2 ^ (p + e) ≡ m * 2 ^ (q + e)

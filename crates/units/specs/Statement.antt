@@ -1,19 +1,19 @@
 -- Demand 3, units drop out exactly, stated of demand 2's definitions as document 01 has it ("How tight the contracts are").
 -- Definitions only: what is claimed of two calls of an entry, the second with every argument multiplied by 4 ^ u / 4 ^ d. As u
 -- and d are any natural numbers, their difference is a whole number k of either sign.
-use Rattle.std.specs.Prelude.{ℕ, ◌*◌, ◌^◌, ◌≡◌, ◌⊎◌, T, Float}
+use Rattle.std.specs.Prelude.{ℕ, ◌*◌, ◌^◌, ◌≡◌, ◌⊎◌, T, Float, Ok, Err}
 use Rattle.std.specs.Float.{binary64}
 use Rattle.std.specs.Float.Ieee.{fits, eq, le}
 use Rattle.std.specs.Float.Ieee.Scale.{finite}
 use Rattle.std.specs.Float.Ieee.Positive.{num, den}
+use Rattle.refusals.specs.declared.Refusal.{Refusal}
 use Rattle.binary64.specs.Leaves.{absolute}
 use Rattle.binary64.specs.Operators.{bits}
 use Rattle.scaling.specs.One.{sign}
 use Rattle.carlson.specs.Constants.{zero}
 use Rattle.carlson.specs.declared.answer.Road.{Road}
 use Rattle.carlson.specs.declared.answer.Way.{Way}
-use Rattle.carlson.specs.declared.answer.Answer.{Answer}
-use Rattle.carlson.specs.declared.answer.Answer.TheVariants.{Value, Refused}
+use Rattle.carlson.specs.Answer.{Answer}
 
 -- 2 ^ -64 and 2 ^ 64, by their bits
 abbrev pub least : Float
@@ -42,6 +42,6 @@ TimesFour u d x y = Times (2 * u) (2 * d) x y
 -- Two answers are alike: both refused with one number, or both values found on one road, with one round count and as many
 -- rescalings (document 02, 2026-04), the second value being the first times 2 ^ u / 2 ^ d.
 pub data Alike (u d : ℕ) : Answer → Answer → Type 0 where
-  refused : {n : ℕ} → Alike u d (Refused n) (Refused n)
-  values : {v w : Float} {r : Road} {c : Way} → Times u d v w → Alike u d (Value (record { value = v; road = r; way = c }))
-      (Value (record { value = w; road = r; way = c }))
+  refused : {r : Refusal} → Alike u d (Err r) (Err r)
+  values : {v w : Float} {r : Road} {c : Way} → Times u d v w → Alike u d (Ok (record { value = v; road = r; way = c }))
+      (Ok (record { value = w; road = r; way = c }))

@@ -7,10 +7,11 @@ use Rattle.std.proofs.Math.Bool.{true, false, ◌&&◌, ◌||◌}
 use Rattle.std.proofs.Math.Dec.{T}
 use Rattle.std.specs.Float.{binary64}
 use Rattle.std.specs.Float.Ieee.{eq, le, lt}
+use Rattle.refusals.specs.declared.Refusal.TheVariants.{NoResult}
 use Rattle.binary64.specs.Leaves.{absolute, minimum}
-use Rattle.carlson.specs.Constants.{zero, no_result}
+use Rattle.carlson.specs.Constants.{zero}
 use Rattle.carlson_arguments.specs.Checks.{any_nan3, any_infinite3}
-use Rattle.carlson.specs.declared.answer.Answer.{Answer}
+use Rattle.carlson.specs.Answer.{Answer}
 use Rattle.elliprd.specs.Rd.{rd_steps, over_scale, rd_unchecked, rd_settled, rd}
 use Rattle.scaling.specs.Kind.{Kind}
 use Rattle.scaling.specs.Units.{Is}
@@ -32,7 +33,7 @@ use Rattle.units_rd.proofs.Steps.{steps_two}
 settle : {k : ℕ} {K : Kind} {a b : Answer} → Ran k K a b → Pair k K (rd_settled a false false) (rd_settled b false false)
 unfolding rd_settled
 settle refusal = no
-settle (result s) = late_same no_result s
+settle (result s) = late_same NoResult s
 
 -- ---- of one run: nothing is rescaled, and no argument is NaN or infinite
 unscaled : (x y z : Float) → Size (absolute x) → Size (absolute y) → Size (absolute z) → rd_unchecked x y z ≡ rd_steps x y z

@@ -1,6 +1,6 @@
 -- RD's steps in two runs: the special cases, and which road is taken. Assumes nothing.
 use Rattle.std.specs.Prelude.{◌≡◌, refl, ℕ, Bool, true, false, not, ◌&&◌, ◌||◌, T, eqb, Float}
-use Rattle.std.proofs.Common.{sym, ap₂, ◌∙◌, subst, eqb→eq}
+use Rattle.std.proofs.Common.{sym, ap₂, ◌∙◌, subst, eqb→eq, Ok}
 use Rattle.std.specs.Bool.{beq}
 use Rattle.std.proofs.Math.Dec.{T_not, not_T}
 use Rattle.std.specs.Float.{binary64}
@@ -8,7 +8,6 @@ use Rattle.std.specs.Float.Ieee.{eq, le, lt, level, of_bits}
 use Rattle.std.specs.Float.Ieee.Fits.{and_l}
 use Rattle.binary64.specs.Operators.{◌⊗◌, bits}
 use Rattle.carlson.specs.Constants.{zero, one, three, four, pi}
-use Rattle.carlson.specs.declared.answer.Answer.TheVariants.{Value}
 use Rattle.rd_duplicate.specs.Duplicate.{rd_duplication}
 use Rattle.elliprd.specs.Rd.{rd_equal, rd_zero, rd_general, rd_ordered, rd_steps}
 use Rattle.scaling.specs.Kind.{mul_k, mul_ok, div_k, div_ok, within}
@@ -115,7 +114,7 @@ module _ {k : ℕ} {z z' : Float} (Z : Two binary64 k arg_k z z') where
   module _ {x x' y y' : Float} (X : Two binary64 k argument_k x x') (Y : Two binary64 k argument_k y y') (hx : T (not (lt x zero)))
       (hy : T (not (lt y zero)))
       (some : T (not (eq x zero && eq y zero))) where
-    duplicate_two : Ran k agm_k (Value (rd_duplication x y z)) (Value (rd_duplication x' y' z'))
+    duplicate_two : Ran k agm_k (Ok (rd_duplication x y z)) (Ok (rd_duplication x' y' z'))
     unfolding within
     duplicate_two = result (wider_same (duplication_two (arg_of X hx) (arg_of Y hy) Z (some_of X hx Y hy some)) tt)
 

@@ -8,6 +8,7 @@ use Rattle.std.proofs.Math.Bool.{false}
 use Rattle.std.specs.Bool.{beq}
 use Rattle.std.specs.Float.Ieee.{binary64, low, add, sub, eq, lt, neg}
 use Rattle.std.specs.Float.Ieee.Scale.{overflow}
+use Rattle.refusals.specs.declared.Refusal.TheVariants.{RcNoResult}
 use Rattle.binary64.specs.Leaves.{absolute}
 use Rattle.binary64.specs.Operators.{◌⊖◌, ◌⊘◌}
 use Rattle.root.specs.Root.{root}
@@ -31,7 +32,7 @@ use Rattle.scaling.proofs.Pick.{choose}
 use Rattle.carlson.specs.Constants as constant
 use Rattle.carlson.specs.Answer.{settled_late}
 use Rattle.carlson_arguments.specs.Checks.{any_nan2, any_infinite2}
-use Rattle.carlson.specs.declared.answer.Answer.{Answer}
+use Rattle.carlson.specs.Answer.{Answer}
 use Rattle.elliprc.specs.Rc.{rc_found, over_root, rc_unchecked, rc}
 use Rattle.rc_cases.specs.Cases.{rc_cases, rc_steps}
 use Rattle.units.specs.Statement.{InRange, TimesFour, Alike}
@@ -106,7 +107,7 @@ from_zero {x} {y} {s} {n} X Y h =
 
 -- ---- past the checks, and not rescaled
 abbrev late : Float → Float → Bool → Bool → Answer
-late x y a b = settled_late (rc_unchecked x y) a b 7
+late x y a b = settled_late (rc_unchecked x y) a b RcNoResult
 
 pub unscaled : (x y : Float) → Size (absolute x) → Size (absolute y) → rc_unchecked x y ≡ rc_found x y
 unfolding rc_unchecked
@@ -213,7 +214,7 @@ module _ {k : ℕ} where
       (sym (finite2 X.first Y.first))
       (subst₂ (λ a b. Pair k rc_k (late x y false false) (late x' y' a b)) (sym (numbers2 X.second Y.second))
       (sym (finite2 X.second Y.second))
-      (late_same 7 (subst₂ (Same k rc_k) (sym (unscaled x y (first_size X) (first_size Y)))
+      (late_same RcNoResult (subst₂ (Same k rc_k) (sym (unscaled x y (first_size X) (first_size Y)))
       (sym (unscaled x' y' (second_size X) (second_size Y))) (fair (steps_fair X t Y z)))))))
 
 upward : (k d : ℕ) (x y x' y' : Float) → InRange x → InRange y → InRange x' → InRange y' → TimesFour (k + d) d x x'

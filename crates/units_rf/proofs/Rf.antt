@@ -1,10 +1,11 @@
 -- Units drop out of RF: every argument in range before and after all are multiplied by 4 ^ k, both calls refuse alike, or they
 -- have one round count and the second value is the first times 2 ^ -k.
 use Rattle.std.specs.Prelude.{◌≡◌, ℕ, ◌+◌, ◌*◌, not, ◌&&◌, cond, T, Float}
-use Rattle.std.proofs.Common.{sym, subst, arith}
+use Rattle.std.proofs.Common.{sym, subst, arith, Err}
 use Rattle.std.proofs.Math.Path.{subst₂}
 use Rattle.std.specs.Float.{binary64}
 use Rattle.std.specs.Float.Ieee.{eq}
+use Rattle.refusals.specs.declared.Refusal.TheVariants.{BelowZero, NanGiven, NoResult, Zeros}
 use Rattle.binary64.specs.Leaves.{absolute}
 use Rattle.scaling.specs.Kind.{mul_k, mul_ok, div_k, div_ok, within}
 use Rattle.scaling.specs.Two.{Two}
@@ -18,8 +19,7 @@ use Rattle.scaling.proofs.Pick.{choose}
 use Rattle.carlson.specs.Constants.{zero, one, two, pi}
 use Rattle.carlson.specs.Answer.{infinite_at, settled}
 use Rattle.carlson_arguments.specs.Checks.{any_infinite3, below3, zeros_of3}
-use Rattle.carlson.specs.declared.answer.Answer.{Answer}
-use Rattle.carlson.specs.declared.answer.Answer.TheVariants.{Refused}
+use Rattle.carlson.specs.Answer.{Answer}
 use Rattle.elliprc.specs.Rc.{over_root}
 use Rattle.elliprf.specs.Rf.{rf_equal, rf_zero, rf_two, rf_general, rf_steps, rf_unchecked, rf}
 use Rattle.units.specs.Statement.{InRange, TimesFour, Alike}
@@ -44,9 +44,9 @@ unscaled x y z a b c = unscaled3 over_root rf_steps x y z a b c
 -- what follows the check for NaN
 abbrev numbered : Float → Float → Float → Answer
 numbered x y z =
-    cond (below3 x y z) (Refused 2)
-    (cond (zeros_of3 x y z) (Refused 3)
-    (cond (any_infinite3 x y z) infinite_at (settled (rf_unchecked x y z) 6)))
+    cond (below3 x y z) (Err BelowZero)
+    (cond (zeros_of3 x y z) (Err Zeros)
+    (cond (any_infinite3 x y z) infinite_at (settled (rf_unchecked x y z) NoResult)))
 
 module _ {k : ℕ} where
   all_equal : {x x' : Float} → Two binary64 k mean_k x x' → Same k result_k (rf_equal x) (rf_equal x')
@@ -113,17 +113,17 @@ module _ {k : ℕ} where
       → Pair k result_k (rf x y z) (rf x' y' z')
   unfolding rf
   rf_pair {x} {y} {z} {x'} {y'} {z'} X Y Z =
-      subst₂ (λ a b. Pair k result_k (cond a (Refused 1) (numbered x y z)) (cond b (Refused 1) (numbered x' y' z')))
+      subst₂ (λ a b. Pair k result_k (cond a (Err NanGiven) (numbered x y z)) (cond b (Err NanGiven) (numbered x' y' z')))
       (sym (numbers3 X.first Y.first Z.first)) (sym (numbers3 X.second Y.second Z.second))
       (choose (Pair k result_k) (below3 x y z) (below3 x' y' z') (below3_two X Y Z) (λ t. no)
       (λ t.
       let a = above3 X Y Z t in
       choose (Pair k result_k) (zeros_of3 x y z) (zeros_of3 x' y' z') (zeros3_two X Y Z) (λ n. no)
       (λ n.
-      subst₂ (λ a b. Pair k result_k (cond a infinite_at (settled (rf_unchecked x y z) 6))
-      (cond b infinite_at (settled (rf_unchecked x' y' z') 6)))
+      subst₂ (λ a b. Pair k result_k (cond a infinite_at (settled (rf_unchecked x y z) NoResult))
+      (cond b infinite_at (settled (rf_unchecked x' y' z') NoResult)))
       (sym (finite3 X.first Y.first Z.first)) (sym (finite3 X.second Y.second Z.second))
-      (settled_same 6 (unchecked_same a.0 a.1 a.2 n)))))
+      (settled_same NoResult (unchecked_same a.0 a.1 a.2 n)))))
 
 upward : (k d : ℕ) (x y z x' y' z' : Float) → InRange x → InRange y → InRange z → InRange x' → InRange y' → InRange z'
     → TimesFour (k + d) d x x' → TimesFour (k + d) d y y' → TimesFour (k + d) d z z' → Alike d (k + d) (rf x y z) (rf x' y' z')

@@ -31,7 +31,7 @@ use Rattle.scaling.proofs.Pick.{choose}
 use Rattle.carlson.specs.Constants as constant
 use Rattle.carlson.specs.Answer.{settled_late}
 use Rattle.carlson_arguments.specs.Checks.{any_nan2, any_infinite2}
-use Rattle.carlson.specs.declared.answer.Answer.{Answer}
+use Rattle.carlson.specs.Answer.{Answer}
 use Rattle.elliprc.specs.Rc.{rc_found, over_root, rc_unchecked, rc}
 use Rattle.rc_cases.specs.Cases.{rc_cases, rc_steps}
 use Rattle.units.specs.Statement.{InRange, TimesFour, Alike}

@@ -4,10 +4,10 @@
 use Rattle.std.specs.Prelude.{◌≡◌, ℕ, ◌+◌, ◌*◌, false, Float}
 use Rattle.std.proofs.Common.{sym, subst, subst₂, arith}
 use Rattle.std.specs.Float.{binary64}
+use Rattle.refusals.specs.declared.Refusal.TheVariants.{RgNoResult}
 use Rattle.binary64.specs.Leaves.{absolute}
-use Rattle.carlson.specs.Constants.{rg_no_result}
 use Rattle.carlson_arguments.specs.Checks.{below3}
-use Rattle.carlson.specs.declared.answer.Answer.{Answer}
+use Rattle.carlson.specs.Answer.{Answer}
 use Rattle.elliprg.specs.Rg.{rg_steps, times_root, rg_unchecked, rg_settled, rg}
 use Rattle.scaling.specs.Kind.{Kind}
 use Rattle.scaling.specs.Two.{Two}
@@ -31,7 +31,7 @@ unscaled x y z a b c = unscaled3 times_root rg_steps x y z a b c
 settle : {k : ℕ} {K : Kind} {a b : Answer} → Ran k K a b → Pair k K (rg_settled a false) (rg_settled b false)
 unfolding rg_settled
 settle refusal = no
-settle (result s) = late_same rg_no_result s
+settle (result s) = late_same RgNoResult s
 
 -- ---- the entry
 pub rg_pair : {k : ℕ} {x y z x' y' z' : Float} → Two binary64 k argument_k x x' → Two binary64 k argument_k y y'

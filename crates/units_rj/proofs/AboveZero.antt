@@ -6,12 +6,11 @@ use Rattle.std.proofs.Math.Bool.{false, ◌||◌}
 use Rattle.std.proofs.Math.Dec.{not_T}
 use Rattle.std.specs.Float.{binary64}
 use Rattle.std.specs.Float.Ieee.{eq, le, lt, below}
-use Rattle.carlson.specs.Constants.{zero, no_result}
+use Rattle.carlson.specs.Constants.{zero}
 use Rattle.carlson_arguments.specs.Checks.{any_nan4, any_infinite4, below3, zeros_of3}
 use Rattle.carlson_arguments.specs.Rescaling.{beyond_limits, scale_of4}
 use Rattle.carlson.specs.Answer.{infinite_at}
-use Rattle.carlson.specs.declared.answer.Answer.{Answer}
-use Rattle.carlson.specs.declared.answer.Answer.TheVariants.{Refused}
+use Rattle.carlson.specs.Answer.{Answer}
 use Rattle.rj_positive.specs.Positive.{rj_positive}
 use Rattle.elliprj.specs.Rj.{rj_settled, rj_rest, rj_signed, rj, rj_of_positive}
 use Rattle.rj_calls.specs.Run.{plan_unscaled, plan_scaled, plan_of, rj_run, rj_unchecked}

@@ -2,18 +2,19 @@
 -- multiplied by 4 ^ k, and p above zero, both calls are refused alike, or have one round count and the second value is the
 -- first times exactly 2 ^ -3k. Assumes nothing.
 use Rattle.std.specs.Prelude.{◌≡◌, refl, ℕ, ◌+◌, ◌*◌, ◌<◌, Bool, true, not, cond, T, Float}
-use Rattle.std.proofs.Common.{sym, subst, arith, ltb→lt, lt→ltb}
+use Rattle.std.proofs.Common.{sym, subst, arith, ltb→lt, lt→ltb, Err}
 use Rattle.std.proofs.Math.Path.{ap₂, subst₂}
 use Rattle.std.proofs.Math.Bool.{false, ◌||◌}
 use Rattle.std.proofs.Math.Dec.{not_T}
 use Rattle.std.specs.Float.{binary64}
 use Rattle.std.specs.Float.Ieee.{eq, le, lt, below}
-use Rattle.carlson.specs.Constants.{zero, no_result}
+use Rattle.refusals.specs.declared.Refusal.{Refusal}
+use Rattle.refusals.specs.declared.Refusal.TheVariants.{BelowZero, NanGiven, NoResult, ZeroGiven, Zeros}
+use Rattle.carlson.specs.Constants.{zero}
 use Rattle.carlson_arguments.specs.Checks.{any_nan4, any_infinite4, below3, zeros_of3}
 use Rattle.carlson_arguments.specs.Rescaling.{beyond_limits, scale_of4}
 use Rattle.carlson.specs.Answer.{infinite_at}
-use Rattle.carlson.specs.declared.answer.Answer.{Answer}
-use Rattle.carlson.specs.declared.answer.Answer.TheVariants.{Refused}
+use Rattle.carlson.specs.Answer.{Answer}
 use Rattle.rj_positive.specs.Positive.{rj_positive}
 use Rattle.elliprj.specs.Rj.{rj_settled, rj_rest, rj_signed, rj, rj_of_positive}
 use Rattle.rj_calls.specs.Run.{plan_unscaled, plan_scaled, plan_of, rj_run, rj_unchecked}
@@ -40,7 +41,7 @@ use Rattle.units_rj.specs.Positive.{rj_k, positive_two}
 settle : {k : ℕ} {K : Kind} {a b : Answer} → Ran k K a b → Pair k K (rj_settled a) (rj_settled b)
 unfolding rj_settled
 settle refusal = answers.no
-settle (result s) = settled_same no_result s
+settle (result s) = settled_same NoResult s
 
 -- ---- of one run, where p is above zero: it is done without a call of itself
 at_once : (x y z p : Float) → le p zero ≡ false → beyond_limits (scale_of4 x y z p) ≡ false
@@ -117,10 +118,10 @@ module _ {k : ℕ} {x x' y y' z z' p p' : Float} (X : Two binary64 k argument_k 
   last x y z p i = cond i infinite_at (rj_settled (rj_unchecked x y z p))
 
   abbrev rest : Float → Float → Float → Float → Bool → Answer
-  rest x y z p i = cond (below3 x y z) (Refused 2) (cond (zeros_of3 x y z) (Refused 3) (last x y z p i))
+  rest x y z p i = cond (below3 x y z) (Err BelowZero) (cond (zeros_of3 x y z) (Err Zeros) (last x y z p i))
 
   abbrev whole : Float → Float → Float → Float → Bool → Bool → Bool → Answer
-  whole x y z p n e i = cond n (Refused 1) (cond e (Refused 4) (rest x y z p i))
+  whole x y z p n e i = cond n (Err NanGiven) (cond e (Err ZeroGiven) (rest x y z p i))
 
   pub rj_pair_lem : Pair k rj_k (rj x y z p) (rj x' y' z' p')
   unfolding rj rj_signed rj_rest
@@ -134,7 +135,7 @@ module _ {k : ℕ} {x x' y y' z z' p p' : Float} (X : Two binary64 k argument_k 
       (choose (Pair k rj_k) (below3 x y z) (below3 x' y' z') (below3_two X Y Z) (λ t. refuse)
       (λ t. choose (Pair k rj_k) (zeros_of3 x y z) (zeros_of3 x' y' z') (zeros3_two X Y Z) (λ n. refuse) (λ n. steps_pair t n)))))
     where
-      refuse : {n : ℕ} → Pair k rj_k (Refused n) (Refused n)
+      refuse : {r : Refusal} → Pair k rj_k (Err r) (Err r)
       refuse = answers.no
 
 upward : (k d : ℕ) (x y z p x' y' z' p' : Float) → InRange x → InRange y → InRange z → InRange p → InRange x' → InRange y'

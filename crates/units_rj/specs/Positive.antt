@@ -1,5 +1,5 @@
 -- RJ for p above zero in two runs: the special cases, and which road is taken. Assumes nothing.
-use Rattle.std.specs.Prelude.{◌≡◌, ℕ, ◌^◌, true, false, not, ◌&&◌, eqb, Float}
+use Rattle.std.specs.Prelude.{◌≡◌, ℕ, ◌^◌, true, false, not, ◌&&◌, eqb, Float, Ok}
 use Rattle.std.proofs.Common.{sym, ap₂, ◌∙◌, subst, T_not, eqb→eq}
 use Rattle.std.proofs.Math.Path.{ap}
 use Rattle.std.proofs.Math.Logic.{inl, inr}
@@ -12,8 +12,7 @@ use Rattle.binary64.specs.Operators.{◌⊖◌, ◌⊗◌, ◌⊘◌, bits}
 use Rattle.root.specs.Root.{root}
 use Rattle.carlson.specs.Constants.{zero, one, three}
 use Rattle.carlson.specs.Answer.{both_ways}
-use Rattle.carlson.specs.declared.answer.Answer.{Answer}
-use Rattle.carlson.specs.declared.answer.Answer.TheVariants.{Value}
+use Rattle.carlson.specs.Answer.{Answer}
 use Rattle.elliprc.specs.Rc.{rc_unchecked}
 use Rattle.rj_positive.specs.Duplicate.{rj_duplication}
 use Rattle.rj_positive.specs.Positive.{well_apart, rj_all, rj_three, rj_two, rj_last, rj_pair, rj_cases, rj_positive}
@@ -145,7 +144,7 @@ module _ {k : ℕ} {p p' : Float} (P : Argument k p p') (P⁺ : T (not (eq p zer
   module _ {x x' y y' z z' : Float} (X : Argument k x x') (Y : Argument k y y') (Z : Argument k z z')
       (xy : T (not (eq x zero && eq y zero)))
       (xz : T (not (eq x zero && eq z zero))) (yz : T (not (eq y zero && eq z zero))) where
-    duplicated : Ran k rj_k (Value (rj_duplication x y z p)) (Value (rj_duplication x' y' z' p'))
+    duplicated : Ran k rj_k (Ok (rj_duplication x y z p)) (Ok (rj_duplication x' y' z' p'))
     unfolding within
     duplicated =
         let a = arg_of X.two X.plus in

@@ -9,7 +9,7 @@ ghost use Rattle.std.specs.Prelude.{◌<◌};
 use crate::pair::{Verdict, asked, judge, place};
 use calls::Call;
 use console::write_out;
-use listing_read::{Line, call_of};
+use listing_read::call_of;
 use rows::{BLOCK, ROW, begin, next};
 use writing::{least, put_decimal};
 
@@ -89,10 +89,8 @@ fn take_call(call: Call, tally: Tally) -> Tally {
     let entry = place(call);
     let mut t = count_call(tally, entry);
     let first = answers::answer_of(call);
-    let mut j: u64 = 0;
-    while j <= 128 {
+    for j in 0..129 {
         t = count(t, entry, judge(call, first, j));
-        j += 1;
     }
     t
 }
@@ -116,13 +114,13 @@ fn take_asked(rt: HostRuntime, row: &[u8], call: Call, tally: Tally) -> Tally {
 
 fn take_row(rt: HostRuntime, row: &[u8], tally: Tally) -> Tally {
     match call_of(row) {
-        Line::Good(call) => {
+        Some(call) => {
             if asked(call) {
                 return take_asked(rt, row, call, tally);
             }
             count_odd(tally)
         }
-        Line::Bad => count_odd(tally),
+        None => count_odd(tally),
     }
 }
 
@@ -133,8 +131,7 @@ fn take_rows(rt: HostRuntime, tally: Tally) -> Tally {
     let mut t = tally;
     let mut rows = begin();
     // A proved loop has to end, and nothing says that the input does: so many turns no run uses up.
-    let mut turns = u64::MAX;
-    while turns > 0 {
+    for _ in 0..u64::MAX {
         rows = next(rt, rows, &mut block, &mut held);
         if rows.whole {
             let n = rows.row;
@@ -142,7 +139,6 @@ fn take_rows(rt: HostRuntime, tally: Tally) -> Tally {
         } else {
             return t;
         }
-        turns -= 1;
     }
     t
 }

@@ -4,7 +4,7 @@ ghost use Rattle.std.specs.Prelude.{◌+◌, ◌≤◌, ◌<◌};
 
 use binary64::split;
 use calls::Call;
-use carlson::answer::{Answer, Found, road_number};
+use carlson::answer::{Answer, Found};
 
 const TOP: u64 = 0x8000_0000_0000_0000; // the sign's weight in a pattern
 
@@ -157,15 +157,10 @@ fn times(up: u64, down: u64, x: u64, y: u64) -> bool
 fn values_alike(call: Call, j: u64, first: Found, second: Found) -> bool
     requires { j ≤ 128 }
 {
-    if first.way.rounds != second.way.rounds {
+    if first.way != second.way {
         return false;
     }
-    if first.way.rescalings != second.way.rescalings {
-        return false;
-    }
-    let road = first.road;
-    let other = second.road;
-    if road_number(road) != road_number(other) {
+    if first.road != second.road {
         return false;
     }
     let x = split(first.value);
@@ -186,19 +181,19 @@ fn compare(call: Call, j: u64, first: Answer, second: Answer) -> Verdict
     requires { j ≤ 128 }
 {
     match first {
-        Answer::Value(v) => match second {
-            Answer::Value(w) => {
+        Ok(v) => match second {
+            Ok(w) => {
                 if values_alike(call, j, v, w) {
                     return Verdict::Values;
                 }
                 Verdict::Differ
             }
-            Answer::Refused(_) => Verdict::Differ,
+            Err(_) => Verdict::Differ,
         },
-        Answer::Refused(n) => match second {
-            Answer::Value(_) => Verdict::Differ,
-            Answer::Refused(m) => {
-                if n == m {
+        Err(first) => match second {
+            Ok(_) => Verdict::Differ,
+            Err(second) => {
+                if first == second {
                     return Verdict::Refusals;
                 }
                 Verdict::Differ

@@ -14,8 +14,7 @@ fn unpack_all(rt: HostRuntime, out: &mut [u8; OUT]) {
     let mut n: usize = 0;
     let mut place: u64 = 0;
     // A proved loop has to end, and nothing says that the input does: so many turns no run uses up.
-    let mut turns = u64::MAX;
-    while turns > 0 {
+    for _ in 0..u64::MAX {
         match read_block(rt, &mut block) {
             Got::Bytes(size) => {
                 let fed = feed(&block, size, &mut held, n, out);
@@ -25,15 +24,14 @@ fn unpack_all(rt: HostRuntime, out: &mut [u8; OUT]) {
                 } else {
                     return;
                 }
-                if fed.ended {
-                    say_refused(rt, place, fed.stop);
+                if let Some(refusal) = fed.stop {
+                    say_refused(rt, place, refusal.number());
                     return;
                 }
             }
             Got::End => {
-                let cut = left_over(n);
-                if cut != 0 {
-                    say_refused(rt, place, cut);
+                if let Some(refusal) = left_over(n) {
+                    say_refused(rt, place, refusal.number());
                 }
                 return;
             }
@@ -41,7 +39,6 @@ fn unpack_all(rt: HostRuntime, out: &mut [u8; OUT]) {
                 return;
             }
         }
-        turns -= 1;
     }
 }
 

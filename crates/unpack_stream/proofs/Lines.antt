@@ -1,4 +1,5 @@
 -- How long lines are, and what one byte leads to. Assumes nothing.
+use Rattle.std.specs.Prelude.{Some, None, Ok, Err}
 use Prim.Native.Nat.{ℕ, ◌≤◌}
 use mathlib.Core.Bool.{Bool, true, false, cond}
 use mathlib.Core.List.{List, [], ◌∷◌, ◌++◌}
@@ -10,16 +11,13 @@ use lib.Seq.{take_all, length-take-le}
 use Rattle.algebra.specs.Order.{lt_or_le}
 use Rattle.digits.specs.Digits.{word_text}
 use Rattle.digits.proofs.DigitLaws.{word_length}
-use Rattle.packed_number.specs.Numbers.{list_cut}
 use Rattle.packed.specs.Jobs.{arity_of, argument_of}
-use Rattle.packed.specs.Reading.{read_at}
+use Rattle.packed.specs.Reading.{Read, read_at}
 use Rattle.packed.specs.declared.jobs.Job.{Job}
-use Rattle.packed.specs.declared.read.Read.{Read}
-use Rattle.packed.specs.declared.read.Read.TheVariants.{Found, Nothing, Refused}
 use Rattle.writing.specs.Fed.{quiet}
 use Rattle.writing.specs.FedLaws.{Short}
 use Rattle.unpack_stream.specs.Text.{letter_of, name_text, argument_text, job_text, argument_room, line_room}
-use Rattle.unpack_stream.specs.Unpack.{Held, holding, refused, tried_as, unpack_byte, held_length}
+use Rattle.unpack_stream.specs.Unpack.{Held, holding, refused, is_cut, tried_as, unpack_byte, held_length}
 
 pub argument_most : (j : Job) (k : ℕ) → length (argument_text j k) ≤ argument_room
 unfolding argument_text
@@ -46,9 +44,9 @@ line_most j =
 -- what one byte leads to is one line at most, and takes what is held at most
 try_short : (held : List ℕ) (r : Read) → Short line_room (length held) (tried_as held r)
 unfolding tried_as
-try_short held (Found got) = (line_most got.job, omega arith)
-try_short held Nothing = (omega arith, omega arith)
-try_short held (Refused n) = go (eqb n list_cut)
+try_short held (Ok (Some got)) = (line_most got.job, omega arith)
+try_short held (Ok None) = (omega arith, omega arith)
+try_short held (Err n) = go (is_cut n)
   where
     go : (t : Bool) → Short line_room (length held) (cond t (quiet (holding held)) (quiet (refused n)))
     go true = (omega arith, omega arith)

@@ -1,19 +1,19 @@
 -- Fed whole, wherever it is cut, a packed work list gives the lines of its jobs, up to a refusal with the place of its job.
 -- Assumes nothing.
+use Rattle.refusals.specs.declared.Refusal.{Refusal}
+use Rattle.refusals.specs.declared.Refusal.TheVariants.{ListCut}
+use Rattle.std.specs.Prelude.{Some, None, Ok, Err}
 use Rattle.std.specs.Prelude.{ℕ, zero, suc, ◌+◌, ◌≤◌, ◌<◌, Bool, ◌⊎◌, take}
 use Rattle.std.proofs.Math.Path.{◌≡◌, refl, ap}
 use Rattle.std.proofs.Common.{sym, ◌∙◌, inl, inr, ⊎_elim, add-zero, arith, take-append-drop, take_all, take_at}
 use Rattle.std.proofs.Math.Bool.{true, false, cond}
 use mathlib.Core.List.{List, [], ◌∷◌, ◌++◌, append_assoc, append-nil}
-use borrow.Author.Tests.{eqb-true, eqb-false}
-use Rattle.std.proofs.Math.Dec.{eqb}
 use Rattle.std.proofs.Math.ListN.{length, drop, length-append}
 use Rattle.std.proofs.lemmas.List.{take-append-le}
 use Rattle.std.proofs.Math.Seq.{drop_at}
 use Rattle.algebra.specs.Order.{lt_or_le}
-use Rattle.packed_number.specs.Numbers.{list_cut}
 use Rattle.packed.specs.Jobs.{job_bytes, job_length, list_bytes}
-use Rattle.packed.specs.Reading.{read_at, Jobs, jobs, stopped, with_job, read_on, read_from, read_all}
+use Rattle.packed.specs.Reading.{Read, read_at, Jobs, jobs, stopped, with_job, read_on, read_from, read_all}
 use Rattle.packed.specs.LengthLaws.{job_some}
 use Rattle.packed_number.specs.NumberLaws.{Bytes}
 use Rattle.packed.specs.JobLaws.{Proper, Is, read_back, read_is}
@@ -22,8 +22,6 @@ use Rattle.packed.specs.MoreLaws.{Good, read_more, cut_short}
 use Rattle.packed.specs.PlaceLaws.{jobs_later, list_later}
 use Rattle.packed.specs.declared.jobs.Job.{Job}
 use Rattle.packed.specs.declared.read.Got.{Got}
-use Rattle.packed.specs.declared.read.Read.{Read}
-use Rattle.packed.specs.declared.read.Read.TheVariants.{Found, Nothing, Refused}
 use Rattle.writing.specs.Fed.{Ran, quiet, and_ran, run}
 use Rattle.writing.specs.FedLaws.{quiet_and, and_assoc, run_over}
 use Rattle.unpack_stream.specs.Text.{job_text}
@@ -34,6 +32,8 @@ use Rattle.unpack_stream.specs.Unpack.{
   lines_of,
   unpack_of,
   held_length,
+  ended,
+  is_cut,
   tried_as,
   try_of,
   unpack_byte,
@@ -42,9 +42,19 @@ use Rattle.unpack_stream.specs.Unpack.{
   unpack_last,
 }
 
+-- what the test on a refusal says
+cut_is : (r : Refusal) → is_cut r ≡ true → r ≡ ListCut
+unfolding is_cut
+cut_is ListCut e = refl
+cut_is r e = let z : ◌≡◌ {A = Bool} false true = e in cc
+
+cut_not : (r : Refusal) → is_cut r ≡ false → r ≡ ListCut → ⊥
+unfolding is_cut
+cut_not r e f = let z : ◌≡◌ {A = Bool} true false = rw f at e in let y : ◌≡◌ {A = ℕ} 0 1 = cc in omega arith
+
 -- what is held is nothing, or is only cut so far
 abbrev Waits : List ℕ → Type 0
-Waits h = (h ≡ []) ⊎ (read_at h 0 ≡ Refused list_cut)
+Waits h = (h ≡ []) ⊎ (read_at h 0 ≡ Err ListCut)
 
 waits_short : (h : List ℕ) → Waits h → length h ≤ 50
 waits_short h w = ⊎_elim (λ e. rw e (omega arith)) (λ e. cut_short h e) w
@@ -58,7 +68,7 @@ bytes_back [] m h = h
 bytes_back (b ∷ l) m h = bytes_back l m h.1
 
 -- a job that is found when a byte more came ends with that byte
-ends_there : (h : List ℕ) (b : ℕ) (got : Got) → Bytes (h ++ b ∷ []) → Waits h → read_at (h ++ b ∷ []) 0 ≡ Found got
+ends_there : (h : List ℕ) (b : ℕ) (got : Got) → Bytes (h ++ b ∷ []) → Waits h → read_at (h ++ b ∷ []) 0 ≡ Ok (Some got)
     → got.next ≡ length (h ++ b ∷ [])
 unfolding job_length
 ends_there h b got bytes w e = ⊎_elim inside (λ k. omega (arith, all, size)) (lt_or_le got.next (length (h ++ b ∷ [])))
@@ -88,7 +98,8 @@ ends_there h b got bytes w e = ⊎_elim inside (λ k. omega (arith, all, size)) 
         (λ z. let y : ◌≡◌ {A = ℕ} 0 1 = cc in absurd (omega arith)) w
 
 -- the first job is refused
-refused_first : (l : List ℕ) (most n : ℕ) → read_at l 0 ≡ Refused n → quiet (refused n) ≡ unpack_of (read_from (suc most) l 0)
+refused_first : (l : List ℕ) (most : ℕ) (n : Refusal) → read_at l 0 ≡ Err n
+    → quiet (refused n) ≡ unpack_of (read_from (suc most) l 0)
 unfolding read_from read_on unpack_of lines_of
 refused_first l most n e = rw e
 
@@ -98,22 +109,22 @@ unfolding unpack_last last_of unpack_of lines_of list_bytes read_from read_on re
 at_end_lem [] most w = refl
 at_end_lem (b ∷ h) most w =
     ⊎_elim (λ e. let z : ◌≡◌ {A = ℕ} (length (b ∷ h)) 0 = ap length e in absurd (omega arith))
-    (λ e. refused_first (b ∷ h) most list_cut e) w
+    (λ e. refused_first (b ∷ h) most ListCut e) w
 
 -- what comes of bytes and of the input's end
 abbrev pub unpack_all : Held → List ℕ → Ran Held
 unpack_all h bs = and_ran (unpack_from h bs) (unpack_last (unpack_from h bs).left)
 
 -- a refusal ends it
-over_all : (n : ℕ) (bs : List ℕ) → unpack_all (refused n) bs ≡ quiet (refused n)
+over_all : (n : Refusal) (bs : List ℕ) → unpack_all (refused n) bs ≡ quiet (refused n)
 unfolding unpack_last
-over_all n bs = rw (run_over unpack_byte (λ h. h.ended) bs (refused n) refl) (quiet_and (refused n) (quiet (refused n)))
+over_all n bs = rw (run_over unpack_byte ended bs (refused n) refl) (quiet_and (refused n) (quiet (refused n)))
 
 -- ---- the whole input
 -- a job, and what comes of the jobs after it, which were read from its end on
 with_job_lem :
     (got : Got) (held : List ℕ) (js : Jobs) → got.next ≡ length held → length (job_bytes got.job) ≡ length held
-    → and_ran (tried_as held (Found got)) (unpack_of js) ≡ unpack_of (with_job got.job (jobs_later got.next js))
+    → and_ran (tried_as held (Ok (Some got))) (unpack_of js) ≡ unpack_of (with_job got.job (jobs_later got.next js))
 unfolding and_ran tried_as unpack_of lines_of list_bytes with_job jobs_later
 with_job_lem got held (jobs js) e f = rw (length-append, f)
 with_job_lem got held (stopped js place n) e f = rw e
@@ -136,12 +147,12 @@ module _ (b : ℕ) (bs h : List ℕ) (most : ℕ) (bytes : Bytes (h ++ b ∷ bs)
     stays : (r : Read) → read_at one 0 ≡ r → Good r → read_at (h ++ b ∷ bs) 0 ≡ r
     stays r e g = ap (λ (l : List ℕ). read_at l 0) (sym joined) ∙ read_more one bs 0 some (λ f. g (sym e ∙ f)) ∙ e
 
-    found : (got : Got) → read_at one 0 ≡ Found got
-        → and_ran (tried_as one (Found got)) (unpack_all (holding []) bs) ≡ unpack_of (read_from (suc most) (h ++ b ∷ bs) 0)
+    found : (got : Got) → read_at one 0 ≡ Ok (Some got)
+        → and_ran (tried_as one (Ok (Some got))) (unpack_all (holding []) bs) ≡ unpack_of (read_from (suc most) (h ++ b ∷ bs) 0)
     unfolding read_from read_on one
     found got e =
-        let whole : read_at (h ++ b ∷ bs) 0 ≡ Found got =
-        stays (Found got) e (λ f. let z : ◌≡◌ {A = ℕ} 0 1 = cc in omega arith) in
+        let whole : read_at (h ++ b ∷ bs) 0 ≡ Ok (Some got) =
+        stays (Ok (Some got)) e (λ f. let z : ◌≡◌ {A = ℕ} 0 1 = cc in omega arith) in
         let front : Bytes (h ++ b ∷ []) = bytes_front (h ++ b ∷ []) bs (rw joined bytes) in
         let n : got.next ≡ length (h ++ b ∷ []) = ends_there h b got front w e in
         let size : length (job_bytes got.job) ≡ length (h ++ b ∷ []) =
@@ -152,27 +163,27 @@ module _ (b : ℕ) (bs h : List ℕ) (most : ℕ) (bytes : Bytes (h ++ b ∷ bs)
         rw (left, add-zero) at (list_later most (h ++ b ∷ bs) got.next 0) in
         let rest : unpack_all (holding []) bs ≡ unpack_of (read_from most bs 0) =
         more [] most (bytes_back (h ++ b ∷ []) bs (rw joined bytes)) (inl refl) (omega (arith, len, length-append h (b ∷ bs))) in
-        ap (and_ran (tried_as (h ++ b ∷ []) (Found got))) rest
+        ap (and_ran (tried_as (h ++ b ∷ []) (Ok (Some got)))) rest
         ∙ with_job_lem got (h ++ b ∷ []) (read_from most bs 0) n size
         ∙ rw (whole, later)
 
     tried : (r : Read) → read_at one 0 ≡ r
         → and_ran (tried_as one r) (unpack_all (tried_as one r).left bs) ≡ unpack_of (read_from (suc most) (h ++ b ∷ bs) 0)
     unfolding tried_as
-    tried (Found got) e = found got e
-    tried Nothing e = absurd (omega (arith, some, nothing_left one 0 e))
-    tried (Refused n) e = go (eqb n list_cut) refl
+    tried (Ok (Some got)) e = found got e
+    tried (Ok None) e = absurd (omega (arith, some, nothing_left one 0 e))
+    tried (Err n) e = go (is_cut n) refl
       where
-        go : (t : Bool) → eqb n list_cut ≡ t
+        go : (t : Bool) → is_cut n ≡ t
             → (let p : Ran Held = cond t (quiet (holding one)) (quiet (refused n)) in
             and_ran p (unpack_all p.left bs) ≡ unpack_of (read_from (suc most) (h ++ b ∷ bs) 0))
         go true t =
-            let cut : read_at one 0 ≡ Refused list_cut = e ∙ ap Refused (eqb-true n list_cut t) in
+            let cut : read_at one 0 ≡ Err ListCut = e ∙ ap Err (cut_is n t) in
             quiet_and (holding one) (unpack_all (holding one) bs) ∙ more one (suc most) (rw joined bytes) (inr cut) (rw joined len)
             ∙ ap (λ (l : List ℕ). unpack_of (read_from (suc most) l 0)) joined
         go false t =
-            let whole : read_at (h ++ b ∷ bs) 0 ≡ Refused n =
-            stays (Refused n) e (λ f. let z : n ≡ list_cut = cc in eqb-false n list_cut t z) in
+            let whole : read_at (h ++ b ∷ bs) 0 ≡ Err n =
+            stays (Err n) e (λ f. let z : n ≡ ListCut = cc in cut_not n t z) in
             ap (and_ran (quiet (refused n))) (over_all n bs) ∙ quiet_and (refused n) (quiet (refused n))
             ∙ refused_first (h ++ b ∷ bs) most n whole
 
@@ -222,13 +233,13 @@ whole input bytes = from_held input [] (suc (length input)) bytes (inl refl) (om
 -- ---- a job that lies whole in the bytes: its bytes one after the other, from nothing held, give its line
 nothing_held : (h : Held) → (unpack_last h).left ≡ holding [] → h ≡ holding []
 unfolding unpack_last last_of
-nothing_held h = go h.ended h.rest
+nothing_held h = go (ended h) h.rest
   where
     go : (t : Bool) (l : List ℕ) → cond t h (last_of h l) ≡ holding [] → h ≡ holding []
     go true l e = e
     go false [] e = e
     go false (b ∷ l) e =
-        let f : true ≡ false = ap (λ (k : Held). k.ended) e in let z : ◌≡◌ {A = ℕ} 0 1 = cc in absurd (omega arith)
+        let f : true ≡ false = ap ended e in let z : ◌≡◌ {A = ℕ} 0 1 = cc in absurd (omega arith)
 
 ran_is : (r : Ran Held) {l : List ℕ} {n : ℕ} {h : Held} → r.said ≡ l → r.count ≡ n → r.left ≡ h
     → r ≡ record { said = l; count = n; left = h }

@@ -1,13 +1,13 @@
 // The bytes as they come: what is held of a job that is not whole, and the lines of those that are. A refusal ends it.
-ghost use Rattle.std.specs.Prelude.{◌≡◌, false, ◌+◌, ◌*◌, ◌≤◌, ◌<◌, length, take};
+ghost use Rattle.std.specs.Prelude.{◌≡◌, None, ◌+◌, ◌*◌, ◌≤◌, ◌<◌, length, take};
 ghost use Rattle.io.specs.Counts.{IsPrefixLen};
 ghost use Rattle.unpack_stream.specs.Text.{line_room};
 ghost use Rattle.unpack_stream.specs.Unpack.{holding, try_of, unpack_byte, unpack_from, ahead_at, left_over, held_length};
 ghost use Rattle.unpack_stream.specs.Unpack.{Unpacks, Turns};
 
 use crate::text::put_job_text;
-use packed::{Read, read_job};
-use packed_number::LIST_CUT;
+use packed::{Got, read_job};
+use refusals::Refusal;
 use writing::{OUT, least, push};
 
 // So many bytes are held of a job: no job is longer.
@@ -16,15 +16,13 @@ pub const HELD: usize = 64;
 // So many bytes are read at once: there is room for a line after each.
 pub const BLOCK: usize = 512;
 
-// How many bytes are held now, how many were written, how many bytes the whole jobs took, and whether a refusal ended it,
-// with its number.
+// How many bytes are held now, how many were written, how many bytes the whole jobs took, and the refusal that ended it.
 #[derive(Clone, Copy)]
 pub struct Progress {
     pub held: usize,
     pub used: usize,
     pub taken: usize,
-    pub ended: bool,
-    pub stop: u32,
+    pub stop: Option<Refusal>,
 }
 
 // What some bytes led to, and the place after them.
@@ -36,14 +34,13 @@ struct Turned {
 
 // More is waited for.
 fn waiting(n: usize, used: usize) -> Progress
-    ensures { result ≡ record { held = n; used = used; taken = 0; ended = false; stop = 0 } }
+    ensures { result ≡ record { held = n; used = used; taken = 0; stop = None } }
 {
     Progress {
         held: n,
         used,
         taken: 0,
-        ended: false,
-        stop: 0,
+        stop: None,
     }
 }
 
@@ -54,27 +51,25 @@ fn tried(held: &[u8], out: &mut [u8], used: usize) -> Progress
     ensures held_in_bounds { result.held ≤ length held.now }
 {
     match read_job(held, 0) {
-        Read::Found(got) => {
+        Ok(Some(got)) => {
             let job = got.job;
             Progress {
                 held: 0,
                 used: put_job_text(job, out, used),
                 taken: held.len(),
-                ended: false,
-                stop: 0,
+                stop: None,
             }
         }
-        Read::Nothing => waiting(held.len(), used),
-        Read::Refused(n) => {
-            if n == LIST_CUT {
+        Ok(None) => waiting(held.len(), used),
+        Err(refusal) => {
+            if refusal == Refusal::ListCut {
                 return waiting(held.len(), used);
             }
             Progress {
                 held: 0,
                 used,
                 taken: 0,
-                ended: true,
-                stop: n,
+                stop: Some(refusal),
             }
         }
     }
@@ -93,13 +88,13 @@ fn step(b: u8, held: &mut [u8], n: usize, out: &mut [u8], used: usize) -> Progre
 }
 
 // The job at a place, where none is held.
-fn ahead(bytes: &[u8], i: usize, n: usize) -> Read
+fn ahead(bytes: &[u8], i: usize, n: usize) -> Result<Option<Got>, Refusal>
     ensures { result ≡ ahead_at bytes.now i n }
 {
     if n == 0 {
         return read_job(bytes, i);
     }
-    Read::Nothing
+    Ok(None)
 }
 
 // A job that lies whole in the bytes is read there; of any other a byte is taken.
@@ -111,7 +106,7 @@ fn turn(bytes: &[u8], i: usize, held: &mut [u8], n: usize, out: &mut [u8], used:
     ensures { Turns bytes.now i (take n held.old)
         held.new out.old used out.new result }
 {
-    let Read::Found(got) = ahead(bytes, i, n) else {
+    let Ok(Some(got)) = ahead(bytes, i, n) else {
         return Turned {
             fed: step(bytes[i], held, n, out, used),
             next: i + 1,
@@ -124,14 +119,13 @@ fn turn(bytes: &[u8], i: usize, held: &mut [u8], n: usize, out: &mut [u8], used:
             held: 0,
             used: put_job_text(job, out, used),
             taken: next - i,
-            ended: false,
-            stop: 0,
+            stop: None,
         },
         next,
     }
 }
 
-// Feeds all bytes, up to a refusal.
+// Feeds all bytes, up to a refusal. A turn says itself where the next one begins, so the place is no index to count.
 fn feed_all(bytes: &[u8], held: &mut [u8], n: usize, out: &mut [u8]) -> Progress
     requires held_len { length held.old ≡ held_length }
     requires n_le_held_length { n ≤ held_length }
@@ -147,13 +141,10 @@ fn feed_all(bytes: &[u8], held: &mut [u8], n: usize, out: &mut [u8]) -> Progress
         let turned = turn(bytes, i, held, all.held, out, all.used);
         let fed = turned.fed;
         all = Progress {
-            held: fed.held,
-            used: fed.used,
             taken: all.taken + fed.taken,
-            ended: fed.ended,
-            stop: fed.stop,
+            ..fed
         };
-        if all.ended {
+        if all.stop.is_some() {
             return all;
         }
         i = turned.next;
@@ -191,12 +182,12 @@ pub fn feed(
     feed_part(block, least(BLOCK, size), held, least(HELD, n), out)
 }
 
-// What the input's end means, with so many bytes held: 0, or the number of a job that was cut.
-pub fn left_over(n: usize) -> u32
+// What the input's end means, with so many bytes held: a job that was cut, where there are any.
+pub fn left_over(n: usize) -> Option<Refusal>
     ensures { result ≡ left_over n }
 {
     if n == 0 {
-        return 0;
+        return None;
     }
-    LIST_CUT
+    Some(Refusal::ListCut)
 }

@@ -7,22 +7,17 @@ use packed::{Job, argument_of, arity};
 use writing::{put_text, put_word};
 
 // The second letter of the function's name; all but cel's begin with R.
+#[tactic(auto, unfolding(crate::specs::Text::letter_of))]
 pub fn letter(function: u64) -> u8
     ensures { result ≡ letter_of function }
 {
-    if function == 1 {
-        return b'F';
+    match function {
+        1 => b'F',
+        2 => b'C',
+        3 => b'D',
+        4 => b'G',
+        _ => b'J',
     }
-    if function == 2 {
-        return b'C';
-    }
-    if function == 3 {
-        return b'D';
-    }
-    if function == 4 {
-        return b'G';
-    }
-    b'J'
 }
 
 // The argument at k, where the function has one: a blank and sixteen digits.
@@ -37,7 +32,8 @@ fn put_argument(job: Job, k: usize, out: &mut [u8], at: usize) -> usize
     at
 }
 
-fn put_name(function: u64, out: &mut [u8], at: usize) -> usize
+// The function's name.
+pub fn put_name(function: u64, out: &mut [u8], at: usize) -> usize
     requires { at + 3 ≤ length out.old }
     ensures { Put out.old at (name_text function) out.new result }
 {

@@ -1,11 +1,10 @@
 -- A job as five words in a row, and a place that moves only past a job: what C sees of a work list. Definitions only.
-use Rattle.std.specs.Prelude.{ℕ, List, [], ◌∷◌, ◌≡◌, length, get_or}
+use Rattle.std.specs.Prelude.{ℕ, List, Some, None, Result, Ok, Err, [], ◌∷◌, ◌≡◌, length, get_or}
 use Rattle.packed.specs.Writing.{write_at, bytes_after}
 use Rattle.packed.specs.declared.jobs.Job.{Job}
-use Rattle.packed.specs.declared.read.Read.{Read}
-use Rattle.packed.specs.declared.read.Read.TheVariants.{Found, Nothing, Refused}
-use Rattle.packed.specs.declared.write.Written.{Written}
-use Rattle.packed.specs.declared.write.Written.TheVariants.{Next, Refused as NotWritten}
+use Rattle.packed.specs.Reading.{Read}
+use Rattle.refusals.specs.Numbers.{refusal_number}
+use Rattle.refusals.specs.declared.Refusal.{Refusal}
 
 -- the function's number, then the arguments
 unfoldable pub job_of : List ℕ → Job
@@ -15,13 +14,13 @@ unfoldable pub words_of : Job → List ℕ
 words_of j = j.function ∷ j.a ∷ j.b ∷ j.c ∷ j.d ∷ []
 
 -- ---- after a write: its number, and the place with what it was before
-unfoldable pub written_number : Written → ℕ
-written_number (Next next) = 0
-written_number (NotWritten n) = n
+unfoldable pub written_number : Result ℕ Refusal → ℕ
+written_number (Ok next) = 0
+written_number (Err r) = refusal_number r
 
-unfoldable pub written_place : Written → ℕ → ℕ
-written_place (Next next) before = next
-written_place (NotWritten n) before = before
+unfoldable pub written_place : Result ℕ Refusal → ℕ → ℕ
+written_place (Ok next) before = next
+written_place (Err r) before = before
 
 -- ---- after a read: its number, the place and the words with what they were before
 -- GATEWREN_NOTHING_LEFT
@@ -29,22 +28,23 @@ abbrev pub nothing_left : ℕ
 nothing_left = 4294967295
 
 unfoldable pub read_number : Read → ℕ
-read_number (Found got) = 0
-read_number Nothing = nothing_left
-read_number (Refused n) = n
+read_number (Ok (Some got)) = 0
+read_number (Ok None) = nothing_left
+read_number (Err r) = refusal_number r
 
 unfoldable pub read_place : Read → ℕ → ℕ
-read_place (Found got) before = got.next
-read_place Nothing before = before
-read_place (Refused n) before = before
+read_place (Ok (Some got)) before = got.next
+read_place (Ok None) before = before
+read_place (Err r) before = before
 
 unfoldable pub read_words : Read → List ℕ → List ℕ
-read_words (Found got) before = words_of got.job
-read_words Nothing before = before
-read_words (Refused n) before = before
+read_words (Ok (Some got)) before = words_of got.job
+read_words (Ok None) before = before
+read_words (Err r) before = before
 
 -- ---- both at once
-pub record WroteAs (w : Written) (before : List ℕ) (place : ℕ) (j : Job) (bytes : List ℕ) (next number : ℕ) : Type 0 where
+pub record WroteAs (w : Result ℕ Refusal) (before : List ℕ) (place : ℕ) (j : Job) (bytes : List ℕ) (next number : ℕ)
+    : Type 0 where
   pub number_is : number ≡ written_number w
   pub place_is : next ≡ written_place w place
   pub bytes_are : bytes ≡ bytes_after w before place j

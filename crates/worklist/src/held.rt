@@ -3,7 +3,8 @@
 ghost use Rattle.std.specs.Prelude.{◌≡◌};
 ghost use Rattle.packed.specs.Reading.{read_at};
 
-use packed::{Read, read_job};
+use packed::{Got, read_job};
+use refusals::Refusal;
 
 #[derive(Clone, Copy)]
 pub struct Reader<'a> {
@@ -11,7 +12,7 @@ pub struct Reader<'a> {
     pub place: usize,
 }
 
-fn read_at(bytes: &[u8], place: usize) -> Read
+fn read_at(bytes: &[u8], place: usize) -> Result<Option<Got>, Refusal>
     ensures { result ≡ read_at bytes.now place }
 {
     read_job(bytes, place)
@@ -25,7 +26,7 @@ pub fn begin<'a>(bytes: &'a [u8]) -> Reader<'a>
 }
 
 // The job at the reader's place, and the place after it.
-pub fn next<'a>(r: Reader<'a>) -> Read
+pub fn next<'a>(r: Reader<'a>) -> Result<Option<Got>, Refusal>
     ensures { result ≡ read_at r.entry.bytes.now r.entry.place }
 {
     read_at(r.bytes, r.place)

@@ -7,6 +7,6 @@ mod count;
 mod held;
 mod words;
 
-pub use crate::count::{Count, count_jobs};
+pub use crate::count::count_jobs;
 pub use crate::held::{Reader, begin, moved, next, place};
 pub use crate::words::{read_words, write_words};

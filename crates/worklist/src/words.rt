@@ -1,8 +1,9 @@
-// A job as five words in a row: its function's number, then four arguments.
+// A job as five words in a row: its function's number, then four arguments. The two functions are what C sees, so they give
+// numbers.
 ghost use Rattle.packed.specs.Reading.{read_at};
 ghost use Rattle.worklist.specs.Words.{WriteWords, ReadWords};
 
-use packed::{Job, Read, Written};
+use packed::Job;
 
 // What a read says where nothing is left: no number for no.
 const NOTHING_LEFT: u32 = 4294967295;
@@ -20,11 +21,11 @@ pub fn write_words(bytes: &mut [u8], place: &mut usize, job: &[u64; 5]) -> u32
         d: job[4],
     };
     match packed::write_job(bytes, *place, given) {
-        Written::Next(next) => {
+        Ok(next) => {
             *place = next;
             0
         }
-        Written::Refused(number) => number,
+        Err(refusal) => refusal.number(),
     }
 }
 
@@ -34,14 +35,14 @@ pub fn read_words(bytes: &[u8], place: &mut usize, job: &mut [u64; 5]) -> u32
         place.new job.new result }
 {
     match packed::read_job(bytes, *place) {
-        Read::Found(got) => {
+        Ok(Some(got)) => {
             let next = got.next;
             let found = got.job;
             *job = [found.function, found.a, found.b, found.c, found.d];
             *place = next;
             0
         }
-        Read::Nothing => NOTHING_LEFT,
-        Read::Refused(number) => number,
+        Ok(None) => NOTHING_LEFT,
+        Err(refusal) => refusal.number(),
     }
 }

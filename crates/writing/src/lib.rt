@@ -1,5 +1,7 @@
 // Bytes written into a slice that the caller lends, one run after the other: numbers as digits, and texts as they stand. A run
 // that does not fit is left out whole, and the place stays.
+#![tactic(auto)]
+
 mod numbers;
 mod room;
 mod text;

@@ -7,14 +7,16 @@ ghost use Rattle.writing.specs.Written.{Put, Tried};
 use crate::room::has_room;
 
 // The byte of a digit.
+#[tactic(auto, unfolding(digits::specs::Digits::glyph_of))]
 fn glyph(d: u64) -> u8
     requires { d < 16 }
     ensures { result ≡ glyph_of d }
 {
     if d < 10 {
-        return 48 + d as u8;
+        b'0' + d as u8
+    } else {
+        b'A' + (d - 10) as u8
     }
-    55 + d as u8
 }
 
 // In how many decimal digits a number is written, up to `more` more than one.
@@ -22,14 +24,12 @@ fn places(n: u64, more: usize) -> usize
     requires { suc more < 2 ^ 64 }
     ensures { result ≡ places_of more n }
 {
-    let mut k: usize = 0;
     let mut rest = n;
-    while k < more {
+    for k in 0..more {
         if rest < 10 {
             return k + 1;
         }
-        rest = rest / 10;
-        k += 1;
+        rest /= 10;
     }
     more + 1
 }
@@ -48,12 +48,10 @@ fn spell(n: u64, base: u64, k: usize, out: &mut [u8], at: usize) -> usize
     requires k_in_bounds { at + k ≤ length out.old }
     ensures { Put out.old at (digits base k n) out.new result }
 {
-    let mut i = k;
     let mut rest = n;
-    while i > 0 {
-        i -= 1;
+    for i in (0..k).rev() {
         out[at + i] = glyph(rest % base);
-        rest = rest / base;
+        rest /= base;
     }
     at + k
 }

@@ -18,5 +18,5 @@ pub fn has_room(length: usize, at: usize, room: usize) -> bool
 pub fn least(a: usize, b: usize) -> usize
     ensures { (result ≤ a) × (result ≤ b) × (result ≡ min a b) }
 {
-    if a < b { a } else { b }
+    a.min(b)
 }

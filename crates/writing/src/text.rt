@@ -8,12 +8,8 @@ fn write_text(text: &[u8], out: &mut [u8], at: usize) -> usize
     requires { at + length text.now ≤ length out.old }
     ensures { Put out.old at text.now out.new result }
 {
-    let mut i = 0;
-    while i < text.len() {
-        out[at + i] = text[i];
-        i += 1;
-    }
-    at + i
+    out[at..at + text.len()].copy_from_slice(text);
+    at + text.len()
 }
 
 // Writes the text from `at` on, if there is room for all of it; the place after it.

@@ -8,7 +8,7 @@ unfolding within
 returns-then-n-ge1 c =
     rw (le-leb _ _ c.if-n-ge1.true)
 
-pub returns : goal.returns
+pub returns-else-n-ge1 : goal.returns-else-n-ge1
 unfolding within
-returns c =
+returns-else-n-ge1 c =
     rw (lt-leb _ _ c.if-n-ge1.false)

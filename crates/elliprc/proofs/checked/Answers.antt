@@ -1,7 +1,7 @@
 -- `checked` meets its contract: within the door no test of the definition says yes; else its tests are those of the definition,
 -- in its order. Assumes nothing.
+use Rattle.refusals.specs.declared.Refusal.TheVariants.{RcNoResult}
 use mathlib.Core.Path.{sym, ap, ◌∙◌}
-use Rattle.carlson.specs.Constants.{rc_no_result}
 use Rattle.carlson.specs.Answer.{settled}
 use Rattle.carlson.specs.declared.answer.Found.{Found}
 use Rattle.elliprc.specs.Rc.{rc}
@@ -12,7 +12,7 @@ pub returns-then-moderate2 : goal.returns-then-moderate2
 unfolding rc
 returns-then-moderate2 c =
     let a = c.args in
-    c.settle.ensures ∙ ap (λ (f : Found). settled f rc_no_result) c.found.ensures
+    c.settle.ensures ∙ ap (λ (f : Found). settled f RcNoResult) c.found.ensures
     ∙ within a.x a.y (sym c.moderate2.ensures ∙ c.if-moderate2.true)
 
 pub returns-then-x : goal.returns-then-x

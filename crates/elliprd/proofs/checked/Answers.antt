@@ -2,7 +2,7 @@
 -- in its order. Assumes nothing.
 use mathlib.Core.Path.{sym, ap, ◌∙◌}
 use mathlib.Core.Bool.{false}
-use Rattle.carlson.specs.declared.answer.Answer.{Answer}
+use Rattle.carlson.specs.Answer.{Answer}
 use Rattle.elliprd.specs.Rd.{rd_settled, rd}
 use Rattle.elliprd.proofs.Within.{within}
 use Rattle.elliprd.proofs.checked.Goals as goal
@@ -13,42 +13,3 @@ returns-then-moderate3 c =
     let a = c.args in
     c.settled-a.ensures ∙ ap (λ (f : Answer). rd_settled f false false) c.steps.ensures
     ∙ within a.x a.y a.z (sym c.moderate3.ensures ∙ c.if-moderate3.true)
-
-pub returns-then-min : goal.returns-then-min
-unfolding rd
-returns-then-min c =
-    rw (sym c.min.ensures, c.if-min.true)
-
-pub returns-then-both : goal.returns-then-both
-unfolding rd
-returns-then-both c =
-    rw (
-      sym c.min.ensures,
-      c.if-min.false,
-      sym c.both.ensures
-          ∙ c.if-both.true,
-    )
-
-pub returns-then-z : goal.returns-then-z
-unfolding rd
-returns-then-z c =
-    rw (
-      sym c.min.ensures,
-      c.if-min.false,
-      sym c.both.ensures ∙ c.if-both.false,
-      c.if-z.true,
-    )
-
-pub returns : goal.returns
-unfolding rd
-returns c =
-    rw (
-      sym c.min.ensures,
-      c.if-min.false,
-      sym c.both.ensures
-          ∙ c.if-both.false,
-      c.if-z.false,
-      sym c.elliprd_unchecked.ensures,
-      sym c.any_nan3.ensures,
-      sym c.any_infinite3.ensures,
-    ) c.settled.ensures

@@ -1,6 +1,6 @@
 -- `general` meets its contract: its tests are those of the definition, in its order. Assumes nothing.
+use Rattle.std.proofs.Common.{Ok}
 use mathlib.Core.Path.{ap}
-use Rattle.carlson.specs.declared.answer.Answer.TheVariants.{Value}
 use Rattle.elliprd.specs.Rd.{rd_general}
 use Rattle.elliprd.proofs.general.Goals as goal
 
@@ -12,9 +12,9 @@ returns-then-y-z c =
 pub returns-then-x : goal.returns-then-x
 unfolding rd_general
 returns-then-x c =
-    rw (c.if-x.true, c.if-y-z.false) (ap Value c.duplicated-found.ensures)
+    rw (c.if-x.true, c.if-y-z.false) (ap Ok c.duplicated-found.ensures)
 
 pub returns : goal.returns
 unfolding rd_general
 returns c =
-    rw c.if-x.false (ap Value c.duplicated-found-2.ensures)
+    rw c.if-x.false (ap Ok c.duplicated-found-2.ensures)

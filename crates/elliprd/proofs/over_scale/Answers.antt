@@ -1,15 +1,16 @@
 -- `over_scale` meets its contract, case by case. Assumes nothing.
 use borrow.Author.Rules.{rules}
 use mathlib.Core.Path.{sym}
+use Rattle.std.proofs.lemmas.Result.{err_from_is_err_and}
 use Rattle.elliprd.specs.Rd.{over_scale}
 use Rattle.elliprd.proofs.over_scale.Goals as goal
 
-pub returns-in-Value : goal.returns-in-Value
+pub returns : goal.returns
 unfolding over_scale
-returns-in-Value c =
-    rw (c.in-Value.is, sym c.sqrt.ensures, sym c.rescaled.ensures)
+returns c =
+    rw (c.in_ok-found.was, sym c.sqrt.ensures, sym c.rescaled.ensures)
 
-pub returns-in-Refused : goal.returns-in-Refused
+pub returns-in_err-found : goal.returns-in_err-found
 unfolding over_scale
-returns-in-Refused c =
-    rw c.in-Refused.is
+returns-in_err-found c =
+    let p = err_from_is_err_and c.from_residual.result c.from_residual.ensures.1 in rw (c.in_err-found.was, p.1, p.2)

@@ -1,9 +1,9 @@
 -- `elliprf` meets its contract: within the door no test of the definition says yes; else its tests are those of the definition,
 -- in its order. Assumes nothing.
+use Rattle.refusals.specs.declared.Refusal.TheVariants.{NoResult}
 use mathlib.Core.Path.{◌≡◌, refl, sym, ap, ◌∙◌}
 use mathlib.Core.Bool.{true}
 use lib.Ieee.{Float}
-use Rattle.carlson.specs.Constants.{no_result}
 use Rattle.carlson.specs.Answer.{settled}
 use Rattle.carlson.proofs.AnswerLaws.{handed_itself}
 use Rattle.carlson.specs.declared.answer.Found.{Found}
@@ -13,7 +13,7 @@ use Rattle.elliprc.specs.Rc.{over_root}
 use Rattle.elliprf.specs.Rf.{rf_steps, rf_unchecked, rf}
 use Rattle.elliprf.proofs.elliprf.Goals as goal
 
-within : (x y z : Float) → moderate3 x y z ≡ true → settled (rf_steps x y z) no_result ≡ rf x y z
+within : (x y z : Float) → moderate3 x y z ≡ true → settled (rf_steps x y z) NoResult ≡ rf x y z
 unfolding rf rf_unchecked
 within x y z h =
     let i = inside3 x y z h in
@@ -24,7 +24,7 @@ unfolding rf
 returns-then-moderate3 c =
     let a = c.args in
     c.settle.ensures
-    ∙ ap (λ (f : Found). settled f no_result) (c.handed.ensures ∙ handed_itself _ ∙ c.steps-found.ensures)
+    ∙ ap (λ (f : Found). settled f NoResult) (c.handed.ensures ∙ handed_itself _ ∙ c.steps-found.ensures)
     ∙ within a.x a.y a.z (sym c.moderate3.ensures ∙ c.if-moderate3.true)
 
 pub returns-then-any_nan3 : goal.returns-then-any_nan3

@@ -3,7 +3,7 @@
 use mathlib.Core.Path.{◌≡◌, sym, ap, ◌∙◌}
 use mathlib.Core.Bool.{true, false}
 use lib.Ieee.{Float}
-use Rattle.carlson.specs.declared.answer.Answer.{Answer}
+use Rattle.carlson.specs.Answer.{Answer}
 use Rattle.carlson_arguments.specs.Door.{moderate3}
 use Rattle.carlson_arguments.proofs.DoorLaws.{inside3, none_below3, no_nan3, unscaled3}
 use Rattle.elliprg.specs.Rg.{rg_steps, times_root, rg_unchecked, rg_settled, rg}

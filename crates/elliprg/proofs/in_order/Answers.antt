@@ -1,6 +1,6 @@
 -- `in_order` meets its contract: its tests are those of the definition, in its order. Assumes nothing.
+use Rattle.std.proofs.Common.{Ok}
 use mathlib.Core.Path.{ap}
-use Rattle.carlson.specs.declared.answer.Answer.TheVariants.{Value}
 use Rattle.elliprg.specs.Rg.{rg_sorted}
 use Rattle.elliprg.proofs.in_order.Goals as goal
 
@@ -23,4 +23,4 @@ pub returns : goal.returns
 unfolding rg_sorted
 returns c =
     rw (c.if-x-z.false, c.if-y-z.false, c.if-y.false)
-    (ap Value c.joined.ensures)
+    (ap Ok c.joined.ensures)

@@ -1,16 +1,17 @@
 -- `settled` meets its contract, case by case: what was found, put together of its fields, is the same. Assumes nothing.
 use mathlib.Core.Path.{sym, ◌∙◌}
+use Rattle.std.proofs.lemmas.Result.{err_from_is_err_and}
 use borrow.Author.Rules.{rules}
 use Rattle.carlson.proofs.AnswerLaws.{handed_itself}
 use Rattle.elliprg.specs.Rg.{rg_settled}
 use Rattle.elliprg.proofs.settled.Goals as goal
 
-pub returns-in-Value : goal.returns-in-Value
+pub returns : goal.returns
 unfolding rg_settled
-returns-in-Value c =
-    rw (c.in-Value.is, sym (c.handed.ensures ∙ handed_itself _)) c.settle_late.ensures
+returns c =
+    rw (c.in_ok-found.was, sym (c.handed.ensures ∙ handed_itself _)) c.settle_late.ensures
 
-pub returns-in-Refused : goal.returns-in-Refused
+pub returns-in_err-found : goal.returns-in_err-found
 unfolding rg_settled
-returns-in-Refused c =
-    rw c.in-Refused.is
+returns-in_err-found c =
+    let p = err_from_is_err_and c.from_residual.result c.from_residual.ensures.1 in rw (c.in_err-found.was, p.1, p.2)

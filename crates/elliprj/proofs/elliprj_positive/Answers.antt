@@ -3,7 +3,7 @@
 use mathlib.Core.Path.{◌≡◌, sym, ap, ◌∙◌}
 use mathlib.Core.Bool.{true}
 use lib.Ieee.{Float}
-use Rattle.carlson.specs.declared.answer.Answer.{Answer}
+use Rattle.carlson.specs.Answer.{Answer}
 use Rattle.carlson_arguments.specs.Door.{moderate4}
 use Rattle.carlson_arguments.proofs.DoorLaws.{no_nan4, none_infinite4, not_rescaled4}
 use Rattle.carlson_arguments.proofs.DoorLaws.{Inside3, Moderate, Inside4, inside4, not_le_zero, none_below3, no_zeros3}

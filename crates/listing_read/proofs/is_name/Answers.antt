@@ -1,20 +1,15 @@
--- `is_name` meets its contract: the test says what the definition computes. Assumes nothing.
-use Prim.Native.Nat.{ℕ}
-use mathlib.Core.Path.{◌≡◌, refl, sym}
-use mathlib.Core.Bool.{Bool, true, false}
-use mathlib.Core.List.{List}
+-- `is_name` meets its contract: the library's test of two texts goes over them byte by byte, as `same` does. Assumes nothing.
+use Rattle.std.proofs.Common.{ℕ, ◌≡◌, refl, List, [], ◌∷◌, nat_eq, ◌∙◌, ◌&&◌, ap}
+use Rattle.std.specs.Cmp.Lexicographic.{pointwise}
 use Rattle.listing_read.specs.Lines.{same}
-use Rattle.listing_read.specs.LineLaws.{same_true, same_own}
 use Rattle.listing_read.proofs.is_name.Goals as goal
 
-told : (r : Bool) (l m : List ℕ) → ((r ≡ true → l ≡ m) × (l ≡ m → r ≡ true)) → r ≡ same l m
-told true l m h = sym (rw (h.0 refl) (same_own m))
-told false l m h = go (same l m) refl
-  where
-    go : (t : Bool) → same l m ≡ t → false ≡ t
-    go true e = h.1 (same_true l m e)
-    go false e = refl
+told : (l m : List ℕ) → pointwise nat_eq l m ≡ same l m
+unfolding same
+told [] [] = refl
+told [] (b ∷ m) = refl
+told (a ∷ l) [] = refl
+told (a ∷ l) (b ∷ m) = ap (λ t. nat_eq a b && t) (told l m)
 
 pub returns : goal.returns
-returns c =
-    told _ _ _ c.same.ensures
+returns c = c.eq.ensures ∙ told _ _

@@ -1,11 +1,11 @@
 -- `write_answer` meets its contract: the name, then what its answer says. Assumes nothing.
 use Prim.Native.Nat.{ℕ, ◌+◌, ◌≤◌}
-use mathlib.Core.Path.{◌≡◌}
+use mathlib.Core.Path.{◌≡◌, sym}
 use mathlib.Core.List.{List}
 use native.Mathlib.Omega.{arith}
 use borrow.Author.Rules.{rules}
 use lib.ListN.{length}
-use Rattle.carlson.specs.declared.answer.Answer.{Answer}
+use Rattle.carlson.specs.Answer.{Answer}
 use Rattle.calls.specs.Calls.{name_of, longest_name}
 use Rattle.calls.specs.CallLaws.{name_length}
 use Rattle.calls.specs.declared.Call.{Call}
@@ -33,12 +33,12 @@ pub put_refusal-requires : goal.put_refusal-requires
 put_refusal-requires c =
     room _ longest_refusal (omega arith) c.put_name-end.ensures
 
-pub returns-in-Value : goal.returns-in-Value
+pub returns-in-Ok : goal.returns-in-Ok
 unfolding after_name
-returns-in-Value c =
-    answered _ _ (rw c.in-Value.is) c.put_name-end.ensures c.put_value.ensures
+returns-in-Ok c =
+    answered _ _ (rw c.in-Ok.is) c.put_name-end.ensures c.put_value.ensures
 
-pub returns-in-Refused : goal.returns-in-Refused
+pub returns-in-Err : goal.returns-in-Err
 unfolding after_name
-returns-in-Refused c =
-    answered _ _ (rw c.in-Refused.is) c.put_name-end.ensures c.put_refusal.ensures
+returns-in-Err c =
+    answered _ _ (rw (c.in-Err.is, sym c.number.ensures)) c.put_name-end.ensures c.put_refusal.ensures

@@ -1,5 +1,4 @@
 -- `last_group` meets its contract, test by test as its definition. Assumes nothing.
-use native.Mathlib.Omega.{arith}
 use borrow.Author.Tests.{eq-eqb, ne_eqb, lt-ltb, le-ltb}
 use Rattle.packed_number.specs.Numbers.{last_group}
 use Rattle.packed_number.proofs.last_group.Goals as goal

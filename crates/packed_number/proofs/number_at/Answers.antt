@@ -1,12 +1,12 @@
 -- `number_at` meets its contract. The invariant: what is left of the number, read where the loop stands, gives what all of it
 -- gives. Assumes nothing.
-use Prim.Native.Nat.{◌+◌, ◌-◌, ◌*◌, ◌^◌, ◌≤◌, ◌<◌}
-use mathlib.Core.Path.{◌≡◌, refl, ◌∙◌}
+use Prim.Native.Nat.{◌+◌, ◌-◌, ◌*◌, ◌≤◌, ◌<◌}
+use mathlib.Core.Path.{refl, ◌∙◌}
 use native.Mathlib.Omega.{arith}
-use lib.ListN.{length, get_or, drop}
-use Rattle.packed_number.specs.Numbers.{number_from, number_at}
+use lib.ListN.{get_or}
+use Rattle.packed_number.specs.Numbers.{number_at}
 use Rattle.packed_number.specs.Groups.{tenth}
-use Rattle.packed_number.proofs.Groups.{weight_more, last_fits, next_fits, value_more, read_cut, read_last, read_more, read_tenth, read_beyond}
+use Rattle.packed_number.proofs.Groups.{weight_more, next_fits, value_more, read_cut, read_last, read_more, read_tenth, read_beyond}
 use Rattle.packed_number.proofs.number_at.Goals as goal
 use Rattle.packed_number.proofs.number_at.Goals.{Else-b-lt128}
 

@@ -1,10 +1,10 @@
 -- `number_length` meets its contract. The invariant: the groups passed and those of what is left are the groups of all. Assumes
 -- nothing.
-use Prim.Native.Nat.{◌+◌, ◌-◌, ◌≤◌}
-use mathlib.Core.Path.{◌≡◌, ap}
+use Prim.Native.Nat.{◌-◌}
+use mathlib.Core.Path.{ap}
 use native.Mathlib.Omega.{arith}
 use lib.ListN.{length}
-use Rattle.packed_number.specs.Numbers.{groups_of, number_bytes}
+use Rattle.packed_number.specs.Numbers.{number_bytes}
 use Rattle.packed_number.proofs.Groups.{groups_last, groups_more, groups_tenth}
 use Rattle.packed_number.proofs.number_length.Goals as goal
 

@@ -3,7 +3,7 @@ use Prim.Native.Nat.{ℕ, zero, suc, ◌+◌, ◌-◌, ◌/◌, ◌%◌, ◌≤�
 use mathlib.Core.Path.{◌≡◌, refl, sym, ap, ◌∙◌}
 use mathlib.Core.List.{List}
 use native.Mathlib.Omega.{arith}
-use lib.ListN.{length, set, length-set}
+use lib.ListN.{set, length-set}
 use lib.Seq.{sets}
 use Rattle.writing.specs.Written.{sets_last}
 use Rattle.phrases.specs.Pieces.{letters}
@@ -32,7 +32,7 @@ pub loop-i-preserved : goal.loop-i-preserved
 loop-i-preserved c =
     let l = c.loop-i in
     let a = c.args in
-    (omega arith, simp length-set l.invariant.1, store l.i (l.i - 1) l.rest l.out a.at (omega arith) ∙ l.invariant.2)
+    (simp length-set l.invariant.0, store l.i (l.i - 1) l.rest l.out a.at (omega arith) ∙ l.invariant.1)
 
 pub returns : goal.returns
 returns c =
@@ -40,7 +40,7 @@ returns c =
     let a = c.args in
     record {
       bytes =
-          sym (none_left l.i l.rest l.out a.at c.loop-i-test.false) ∙ l.invariant.2
+          sym (none_left l.i l.rest l.out a.at c.loop-i-test.false) ∙ l.invariant.1
           ∙ written a.k a.n a.out.now a.at;
       place = rw letters_length;
     }

@@ -1,9 +1,7 @@
--- `polynomial` meets its contract: the terms that are left, taken onto the sum, give Horner's rule whole. The measure is how many
--- are left.
--- That the table holds the rounded quotients is one computed test, the `refl` in `loop-again`. Assumes nothing.
-use borrow.Author.Rules.{rules}
+-- `polynomial` meets its contract. That the table holds the rounded quotients is one computed test, the `refl` in
+-- `loop-k-preserved`. Assumes nothing.
 use native.Mathlib.Omega.{arith}
-use Prim.Native.Nat.{ℕ, zero, suc, ◌-◌, ◌≤◌, ◌<◌}
+use Prim.Native.Nat.{ℕ, zero, suc, ◌-◌, ◌<◌}
 use mathlib.Core.Path.{◌≡◌, refl, ◌∙◌}
 use lib.Ieee.{Float, div, of_int, of_bits}
 use Rattle.binary64.specs.Operators.{◌⊕◌, ◌⊗◌}
@@ -20,18 +18,15 @@ step y sum next (suc k) h e = let f : suc k - 1 ≡ k = omega arith in rw (e, f)
 pub loop-k-init : goal.loop-k-init
 unfolding horner coefficient div of_int of_bits
 loop-k-init c =
-    (omega arith, refl)
+    refl
 
 pub loop-k-preserved : goal.loop-k-preserved
 unfolding from coefficient div of_int of_bits
 loop-k-preserved c =
-    let l = c.loop-k in (
-      omega arith,
-      step c.args.y l.sum _ l.k c.loop-k-test.true
-          (entry _ refl (l.k - 1) (omega arith)) ∙ l.invariant.1,
-    )
+    let l = c.loop-k in
+    step c.args.y l.sum _ l.k c.loop-k-test.true (entry _ refl (l.k - 1) (omega arith)) ∙ l.invariant
 
 pub returns : goal.returns
 unfolding down
 returns c =
-    let l = c.loop-k in let e : l.k ≡ 0 = omega arith in rw e at l.invariant.1
+    let l = c.loop-k in let e : l.k ≡ 0 = omega arith in rw e at l.invariant

@@ -4,7 +4,7 @@ use Rattle.std.proofs.Common.{T, sym, ap, ◌∙◌, subst, arith}
 use lib.Ieee.{binary64, fits, div, of_bits}
 use lib.Ieee.Bits.{of_bits-to_bits}
 use Rattle.rounding.specs.Cut.{infinity}
-use Rattle.binary64.specs.Tests.{above_no_nan, bits_pos, bits_number}
+use Rattle.binary64.specs.Tests.{bits_pos, bits_number}
 use Rattle.power.specs.Power.{power}
 use Rattle.power.proofs.Special.{power_of_infinity, power_of_zero, power_of_rest}
 use Rattle.power.proofs.find.Goals as goal

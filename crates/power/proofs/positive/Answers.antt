@@ -1,10 +1,9 @@
 -- `power::positive` meets its contract, by `Law`: what is returned is the pattern that `is_clear` or `search` vouches for.
 -- Assumes nothing.
-use Rattle.std.proofs.Common.{sym, arith, rules}
+use Rattle.std.proofs.Common.{sym, arith}
 use Rattle.binary64.specs.Tests.{bits_number}
 use Rattle.root.specs.Parts.{Scaled}
-use Rattle.power.specs.Parts.{Held}
-use Rattle.power.proofs.Law.{held, power_pattern}
+use Rattle.power.proofs.Law.{power_pattern}
 use Rattle.power.proofs.positive.Goals as goal
 use Rattle.power.proofs.positive.Goals.{After-scaled-p}
 

@@ -1,6 +1,5 @@
 -- Answers.
 use Rattle.report.specs.Report.{job_added}
-use borrow.Author.Rules.{rules}
 use Rattle.report.proofs.add_job.Goals as goal
 
 pub returns : goal.returns

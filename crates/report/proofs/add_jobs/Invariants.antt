@@ -1,21 +1,10 @@
 -- What stays so in the loop, and what goes down.
-use Prim.Native.Nat.{◌-◌, ◌≤◌, ◌<◌}
-use mathlib.Core.Path.{◌≡◌, sym, ◌∙◌}
-use native.Mathlib.Omega.{arith}
-use borrow.Author.Rules.{rules}
-use lib.ListN.{length}
-use Rattle.packed_number.specs.NumberLaws.{Bytes}
-use Rattle.packed.specs.ListLaws.{nothing_left}
-use Rattle.packed.specs.RestLaws.{bytes_all, found_later}
-use Rattle.packed.specs.Reading.{read_at}
-use Rattle.packed.specs.declared.read.Read.TheVariants.{Found}
-use Rattle.report.proofs.Adding.{Adding, adding_begins, adding_more, adding_refused, adding_ended}
+use Rattle.std.proofs.Common.{◌-◌, length}
+use Rattle.report.proofs.Adding.{Adding}
 use Rattle.report.proofs.add_jobs.Given as goal
 
-abbrev pub invariant-loop-place : goal.invariant-loop-place
-invariant-loop-place l =
-    Adding l.initial.report l.list l.report l.place
+abbrev pub invariant-loop-got : goal.invariant-loop-got
+invariant-loop-got l = Adding l.initial.report l.list l.report l.place
 
-abbrev pub decreases-loop-place : goal.decreases-loop-place
-decreases-loop-place l =
-    length l.list - l.place
+abbrev pub decreases-loop-got : goal.decreases-loop-got
+decreases-loop-got l = length l.list - l.place

@@ -1,10 +1,10 @@
 -- The answers of `call`, which calls itself: each case of the plan is that of the definition. Assumes nothing.
+use Rattle.std.proofs.Common.{Err}
+use Rattle.refusals.specs.declared.Refusal.TheVariants.{TooDeep}
 use Prim.Native.Nat.{ℕ, zero, suc, ◌-◌, ◌≤◌}
 use mathlib.Core.Path.{◌≡◌, refl, sym, ap, ◌∙◌}
 use native.Mathlib.Omega.{arith}
-use Rattle.carlson.specs.Constants.{too_deep}
-use Rattle.carlson.specs.declared.answer.Answer.{Answer}
-use Rattle.carlson.specs.declared.answer.Answer.TheVariants.{Refused}
+use Rattle.carlson.specs.Answer.{Answer}
 use Rattle.elliprd.specs.Rd.{over_scale}
 use Rattle.rj_negative.specs.declared.reduction.Reduced.{Reduced}
 use Rattle.rj_negative.specs.Reduction.{wrapped_answer}
@@ -16,7 +16,7 @@ use Rattle.rj_calls.specs.Few.{run_plain}
 use Rattle.rj_calls.proofs.+call.Goals as goal
 
 -- ---- the definition, with calls left
-spent : (left : ℕ) (p : Plan) → left ≡ 0 → Refused too_deep ≡ rj_run left p
+spent : (left : ℕ) (p : Plan) → left ≡ 0 → Err TooDeep ≡ rj_run left p
 unfolding rj_run
 spent left p e = rw e
 

@@ -3,7 +3,7 @@
 use Rattle.std.proofs.Common.{T, sym, ap, ◌∙◌, subst, arith}
 use lib.Ieee.{binary64, fits, div, of_bits}
 use lib.Ieee.Bits.{of_bits-to_bits}
-use Rattle.binary64.specs.Tests.{above_no_nan, bits_pos}
+use Rattle.binary64.specs.Tests.{bits_pos}
 use Rattle.root.specs.Root.{root}
 use Rattle.root.proofs.Special.{root_of_infinity, root_of_zero, root_of_rest}
 use Rattle.root.proofs.exactly.Goals as goal

@@ -1,5 +1,5 @@
 -- `root::searched` meets its contract, by `Law`: `search` vouches for the digits. Assumes nothing.
-use Rattle.std.proofs.Common.{◌+◌, ◌*◌, ◌^◌, ◌<◌, ◌≤◌, sym, arith}
+use Rattle.std.proofs.Common.{◌+◌, ◌*◌, ◌^◌, ◌<◌, sym, arith}
 use Rattle.rounding.specs.Cut.{infinity}
 use Rattle.binary64.specs.Tests.{bits_number}
 use Rattle.root.specs.Parts.{Scaled}

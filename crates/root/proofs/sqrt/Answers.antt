@@ -1,8 +1,7 @@
 -- `root::sqrt` meets its contract: `certified` has tested the guess, or `rest` has the root. Assumes nothing.
-use Rattle.std.proofs.Common.{T, sym, ap, ◌∙◌, subst, arith}
+use Rattle.std.proofs.Common.{T, sym, ap, ◌∙◌, subst}
 use lib.Ieee.{binary64, fits}
 use lib.Ieee.Bits.{of_bits-to_bits}
-use Rattle.binary64.specs.Tests.{above_no_nan}
 use Rattle.root.specs.Root.{root}
 use Rattle.root.proofs.sqrt.Goals as goal
 use Rattle.root.proofs.sqrt.Goals.{Start}

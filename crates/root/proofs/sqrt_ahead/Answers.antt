@@ -1,6 +1,5 @@
 -- `root::sqrt_ahead` meets its contract: `certain` has tested the guess, or `sqrt` has the root. Assumes nothing.
 use Rattle.std.proofs.Common.{sym, ◌∙◌}
-use Rattle.binary64.specs.Tests.{above_no_nan}
 use Rattle.root.proofs.TogetherLaws.{numbers3_told, root_told}
 use Rattle.root.proofs.sqrt_ahead.Goals as goal
 

@@ -1,9 +1,6 @@
--- The measure is the number of turns that are left.
+-- No more is held than there is room for.
 use Rattle.std.proofs.Common.{◌≤◌, length}
 use Rattle.rows.proofs.next_of.Given as goal
 
-abbrev pub invariant-loop-turns : goal.invariant-loop-turns
-invariant-loop-turns l = l.so_far.row ≤ length l.held
-
-abbrev pub decreases-loop-turns : goal.decreases-loop-turns
-decreases-loop-turns l = l.turns
+abbrev pub invariant-loop : goal.invariant-loop
+invariant-loop l = l.so_far.row ≤ length l.held

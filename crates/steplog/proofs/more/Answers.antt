@@ -1,28 +1,22 @@
--- `more` meets its contract: the sum passes 2 ^ 64 - 1 exactly where there is no room for what is added. Assumes nothing.
-use Rattle.std.proofs.Common.{◌≡◌, ℕ, ◌+◌, ◌-◌, ◌^◌, ◌<◌, ◌≤◌, arith, rules, le-ltb, lt-ltb}
-use Rattle.steplog.specs.Steps.{added, added_to, too_large}
-use Rattle.steplog.specs.declared.Steps.TheVariants.{Total, Refused}
+-- `more` meets its contract: there is a sum exactly where it fits. Assumes nothing.
+use Rattle.std.proofs.Common.{◌≡◌, ℕ, ◌+◌, ◌^◌, ◌<◌, Option, Some, None, arith, ◌∙◌, le-ltb, lt-ltb}
+use Rattle.std.specs.Option.{SomeIff, ok_or}
+use Rattle.std.proofs.lemmas.Result.{err_from_is_err_and}
+use Rattle.refusals.specs.declared.Refusal.TheVariants.{SumTooLarge}
+use Rattle.steplog.specs.Steps.{added, added_to}
 use Rattle.steplog.proofs.more.Goals as goal
 
-passes : (total n : ℕ) → total < 2 ^ 64 → 2 ^ 64 - 1 - total < n → Refused too_large ≡ added total n
+sum_of : (total n : ℕ) (o : Option ℕ) → SomeIff o (total + n < 2 ^ 64) (total + n) → ok_or o SumTooLarge ≡ added total n
 unfolding added
-passes total n h k = rw (le-ltb (total + n) (2 ^ 64) (omega arith))
+sum_of total n (Some x) h = rw (h.1, lt-ltb (total + n) (2 ^ 64) h.0)
+sum_of total n None h = rw (le-ltb (total + n) (2 ^ 64) (omega arith))
 
-stays : (total n : ℕ) → total < 2 ^ 64 → n ≤ 2 ^ 64 - 1 - total → Total (total + n) ≡ added total n
-unfolding added
-stays total n h k = rw (lt-ltb (total + n) (2 ^ 64) (omega arith))
-
-pub returns-then-n-total : goal.returns-then-n-total
+pub returns-in_err-total : goal.returns-in_err-total
 unfolding added_to
-returns-then-n-total c =
-    rw c.in-Total.is (passes _ _ (omega arith) c.if-n-total.true)
+returns-in_err-total c =
+    let p = err_from_is_err_and c.from_residual.result c.from_residual.ensures.1 in rw (p.1, p.2, c.in_err-total.was)
 
-pub returns-else-n-total : goal.returns-else-n-total
+pub returns : goal.returns
 unfolding added_to
-returns-else-n-total c =
-    rw c.in-Total.is (stays _ _ (omega arith) c.if-n-total.false)
-
-pub returns-in-Refused : goal.returns-in-Refused
-unfolding added_to
-returns-in-Refused c =
-    rw c.in-Refused.is
+returns c =
+    rw c.in_ok-total.was (c.ok_or.ensures.value ∙ sum_of _ _ _ c.checked_add.ensures)

@@ -1,6 +1,5 @@
 -- `is_header` meets its contract. Assumes nothing.
 use mathlib.Core.Path.{sym, ◌∙◌}
-use borrow.Author.Rules.{rules}
 use Rattle.table_lines.specs.Lines.{is_header}
 use Rattle.table_lines.proofs.is_header.Goals as goal
 

@@ -1,5 +1,4 @@
 -- `kind` meets its contract, case by case. Assumes nothing.
-use Rattle.std.proofs.Common.{rules}
 use Rattle.bench_replies.specs.Replies.{kind_of}
 use Rattle.bench_replies.proofs.counts.kind.Goals as goal
 

@@ -1,14 +1,12 @@
 -- `byte` meets its contract: a newline ends the line, any other byte is read. Assumes nothing.
 use Prim.Native.Nat.{ℕ}
 use mathlib.Core.Path.{◌≡◌}
-use mathlib.Core.List.{List, []}
+use mathlib.Core.List.{List}
 use native.Mathlib.Omega.{arith}
-use borrow.Author.Rules.{rules}
 use borrow.Author.Tests.{eq-eqb, ne_eqb}
 use lib.ListN.{take}
 use Rattle.writing.specs.Fed.{Fed}
 use Rattle.writing.specs.FedLaws.{fed_quiet}
-use Rattle.writing.specs.Written.{put_length}
 use Rattle.bench_stream.specs.Lines.{state_after, name_after, under, open_after, line_end, bench_byte}
 use Rattle.bench_stream.specs.Stream.{Benches}
 use Rattle.bench_stream.specs.declared.lines.State.{State}

@@ -1,22 +1,12 @@
--- What stays so in the loop, and what goes down.
-use Prim.Native.Nat.{◌-◌, ◌≤◌, ◌<◌}
-use mathlib.Core.Path.{◌≡◌, refl, sym, ◌∙◌}
-use mathlib.Core.Bool.{false}
-use native.Mathlib.Omega.{arith}
-use lib.ListN.{length, take}
-use Rattle.writing.specs.FedLaws.{Upto, upto_none, upto_byte, upto_all}
-use Rattle.writing.specs.Written.{put_length}
+-- What stays so in the loop: what was fed so far is the beginning, and the name that is held is none too long.
+use Rattle.std.specs.Prelude.{◌≡◌, ◌≤◌, false, length, take}
+use Rattle.writing.specs.FedLaws.{Upto}
 use Rattle.bench_write.specs.Texts.{longest_reply}
 use Rattle.bench_stream.specs.Lines.{under, bench_byte, held_length}
-use Rattle.bench_stream.proofs.Lengths.{byte_short}
 use Rattle.bench_stream.proofs.stream.feed_all.Given as goal
 
-abbrev pub invariant-loop-i : goal.invariant-loop-i
-invariant-loop-i l =
-    (l.i ≤ l.size) × (l.n ≤ held_length) × (length l.held ≡ held_length)
-    × Upto bench_byte (λ s. false) longest_reply 0 l.block (under l.initial.state (take l.held_before l.initial.held)) l.initial.out l.i
-    (under l.state (take l.n l.held)) l.out l.used 0
-
-abbrev pub decreases-loop-i : goal.decreases-loop-i
-decreases-loop-i l =
-    l.size - l.i
+abbrev pub invariant-loop-b : goal.invariant-loop-b
+invariant-loop-b l =
+    (l.n ≤ held_length) × (length l.held ≡ held_length)
+    × Upto bench_byte (λ s. false) longest_reply 0 l.part (under l.initial.state (take l.held_before l.initial.held)) l.initial.out
+    l.b-index (under l.state (take l.n l.held)) l.out l.used 0

@@ -5,7 +5,7 @@ use mathlib.Core.List.{List, []}
 use native.Mathlib.Omega.{arith}
 use lib.ListN.{length, take}
 use lib.Seq.{length-take-le}
-use Rattle.writing.specs.Written.{Put, Tried, tried_put, put_length}
+use Rattle.writing.specs.Written.{Put, Tried, tried_put}
 use Rattle.writing.specs.Fed.{Fed}
 use Rattle.bench_write.specs.Texts.{longest_reply, longest_of, text_under}
 use Rattle.bench_write.specs.declared.said.Said.{Said}

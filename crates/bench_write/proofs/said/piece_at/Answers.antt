@@ -1,4 +1,5 @@
 -- `piece_at` meets its contract, case by case. Assumes nothing.
+use Rattle.std.proofs.Common.{sym}
 use Rattle.std.proofs.Common.{rules}
 use Rattle.bench_write.specs.Pieces.{piece_of}
 use Rattle.bench_write.proofs.said.piece_at.Goals as goal
@@ -11,7 +12,7 @@ returns-in-Weighed c =
 pub returns-in-NoVerdict : goal.returns-in-NoVerdict
 unfolding piece_of
 returns-in-NoVerdict c =
-    rw c.in-NoVerdict.is c.no_verdict_piece.ensures
+    rw (c.in-NoVerdict.is, sym c.number.ensures) c.no_verdict_piece.ensures
 
 pub returns-in-Decrement : goal.returns-in-Decrement
 unfolding piece_of
@@ -21,7 +22,7 @@ returns-in-Decrement c =
 pub returns-in-NoDecrement : goal.returns-in-NoDecrement
 unfolding piece_of
 returns-in-NoDecrement c =
-    rw c.in-NoDecrement.is c.count_piece.ensures
+    rw (c.in-NoDecrement.is, sym c.number-in-NoDecrement.ensures) c.count_piece.ensures
 
 pub returns-in-Bad : goal.returns-in-Bad
 unfolding piece_of

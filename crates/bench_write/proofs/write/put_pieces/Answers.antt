@@ -25,15 +25,13 @@ module _ (s : Said) {n at : ℕ} {o : List ℕ} (e : n ≡ pieces_of s) (room : 
 
 pub loop-i-init : goal.loop-i-init
 loop-i-init c =
-    (omega arith, pieces_none _ _ _)
+    pieces_none _ _ _
 
 pub loop-i-preserved : goal.loop-i-preserved
-loop-i-preserved c = (
-  omega arith,
-  more c.args.said c.requires.n_value c.requires.said_in_bounds _ c.loop-i-test.true c.piece_at.ensures c.loop-i.invariant.1
-      c.put_piece-next.ensures,
-)
+loop-i-preserved c =
+    more c.args.said c.requires.n_value c.requires.said_in_bounds _ c.loop-i-test.true c.piece_at.ensures c.loop-i.invariant
+    c.put_piece-next.ensures
 
 pub returns : goal.returns
 returns c =
-    all c.args.said c.requires.n_value c.requires.said_in_bounds c.loop-i.invariant.0 c.loop-i-test.false c.loop-i.invariant.1
+    all c.args.said c.requires.n_value c.requires.said_in_bounds c.loop-i.auto.i-end c.loop-i-test.false c.loop-i.invariant

@@ -1,5 +1,4 @@
 -- `missing` meets its contract, case by case as its definition. Assumes nothing.
-use borrow.Author.Rules.{rules}
 use Rattle.claim.specs.Rows.{missing_at}
 use Rattle.claim.proofs.rows.missing.Goals as goal
 

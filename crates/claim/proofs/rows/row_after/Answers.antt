@@ -1,5 +1,4 @@
 -- `row_after` meets its contract, case by case as its definition. Assumes nothing.
-use borrow.Author.Rules.{rules}
 use Rattle.claim.specs.Rows.{row_after}
 use Rattle.claim.proofs.rows.row_after.Goals as goal
 

@@ -1,29 +1,31 @@
--- `field_length` meets its contract. The invariant: what was passed, and the field of what is left, are the field. Assumes
--- nothing.
-use Prim.Native.Nat.{◌+◌, ◌-◌, ◌≤◌}
-use mathlib.Core.Path.{◌≡◌}
-use native.Mathlib.Omega.{arith}
-use lib.ListN.{length, drop}
+-- `field_length` meets its contract: a field ends at the first blank, or with the text. Assumes nothing.
+use Rattle.std.proofs.Common.{ℕ, ◌≡◌, ◌+◌, refl, sym, List, [], ◌∷◌, Bool, true, false, cond, Some, None, ◌==◌, nat_lt, length, arith, ltb-false}
+use Rattle.std.specs.List.{position, position_or_len}
+use Rattle.std.specs.Option.{unwrap_or}
+use Rattle.std.proofs.lemmas.List.Recursion.{is_position_or_len}
 use Rattle.claim_read.specs.Line.{field_of}
-use Rattle.claim_read.specs.FieldLaws.{field_blank, field_more, field_end}
+use Rattle.claim_read.specs.FieldLaws.{field_most}
 use Rattle.claim_read.proofs.fields.field_length.Goals as goal
 
-pub loop-i-init : goal.loop-i-init
-loop-i-init c =
-    (omega arith, omega arith)
+ends : (l : List ℕ) → length (field_of l) ≡ position_or_len (λ b. b == 32) l
+unfolding field_of
+ends l = is_position_or_len (λ l. length (field_of l)) (λ b. b == 32) refl step l
+  where
+    step : (b : ℕ) (l : List ℕ) → length (field_of (b ∷ l)) ≡ cond (b == 32) 0 (1 + length (field_of l))
+    step b l = go (b == 32)
+      where
+        go : (t : Bool) → length (cond t [] (b ∷ field_of l)) ≡ cond t 0 (1 + length (field_of l))
+        go true = refl
+        go false = omega arith
 
-pub returns-then-text-i-eq32 : goal.returns-then-text-i-eq32
-returns-then-text-i-eq32 c =
-    let inside = c.loop-i-test.true in
-    omega (arith, c.loop-i.invariant.1, field_blank c.args.text.now c.loop-i.i inside c.if-text-i-eq32.true)
-
-pub loop-i-preserved : goal.loop-i-preserved
-loop-i-preserved c =
-    let inside = c.loop-i-test.true in (
-      omega arith,
-      omega (arith, c.loop-i.invariant.1, field_more c.args.text.now c.loop-i.i inside c.if-text-i-eq32.false),
-    )
+-- the first blank, or the end
+found : (l : List ℕ) → unwrap_or (position (λ b. b == 32) l) (length l) ≡ length (field_of l)
+found l = rw (sym (ends l)) (go (nat_lt (length (field_of l)) (length l)) refl)
+  where
+    go : (t : Bool) → nat_lt (length (field_of l)) (length l) ≡ t
+        → unwrap_or (cond t (Some (length (field_of l))) None) (length l) ≡ length (field_of l)
+    go true e = refl
+    go false e = omega (arith, ltb-false (length (field_of l)) (length l) e, field_most l)
 
 pub returns : goal.returns
-returns c =
-    omega (arith, c.loop-i.invariant.1, field_end c.args.text.now c.loop-i.i c.loop-i-test.false)
+returns c = rw (c.unwrap_or.ensures, c.first_blank.ensures) (found _)

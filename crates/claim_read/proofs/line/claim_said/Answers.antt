@@ -1,6 +1,5 @@
 -- `claim_said` meets its contract: its cases are those of the definition. Assumes nothing.
 use mathlib.Core.Path.{sym, ◌∙◌}
-use borrow.Author.Rules.{rules}
 use Rattle.claim_read.specs.StepLaws.{field_size, value_there, value_none}
 use Rattle.claim_read.proofs.line.claim_said.Goals as goal
 
@@ -8,11 +7,11 @@ pub slice_bounds-value-end : goal.slice_bounds-value-end
 slice_bounds-value-end c =
     field_size _ _ c.field_length-n.ensures
 
-pub returns-in-Is : goal.returns-in-Is
-returns-in-Is c =
-    value_there _ _ c.field_length-n.ensures _ (sym c.value.ensures ∙ c.in-Is.is)
+pub returns-in-Some : goal.returns-in-Some
+returns-in-Some c =
+    value_there _ _ c.field_length-n.ensures _ (sym c.value.ensures ∙ c.in-Some.is)
 
-pub returns-in-Not : goal.returns-in-Not
-returns-in-Not c =
+pub returns-in-None : goal.returns-in-None
+returns-in-None c =
     c.refusal_said.ensures
-    ∙ value_none _ _ c.field_length-n.ensures (sym c.value.ensures ∙ c.in-Not.is)
+    ∙ value_none _ _ c.field_length-n.ensures (sym c.value.ensures ∙ c.in-None.is)

@@ -1,6 +1,5 @@
 -- `is_name_of` meets its contract, test by test as the name's definition. Assumes nothing.
 use mathlib.Core.Path.{sym}
-use borrow.Author.Rules.{rules}
 use borrow.Author.Tests.{eq-eqb, ne_eqb}
 use Rattle.unpack_stream.specs.Text.{name_text}
 use Rattle.claim_read.proofs.line.is_name_of.Goals as goal

@@ -1,6 +1,5 @@
 -- `refusal_said` meets its contract: its tests are those of the definition, in its order. Assumes nothing.
 use mathlib.Core.Path.{sym, ◌∙◌}
-use borrow.Author.Rules.{rules}
 use Rattle.claim_read.specs.StepLaws.{field_size, refusal_there, refusal_none}
 use Rattle.claim_read.proofs.line.refusal_said.Goals as goal
 

@@ -1,33 +1,30 @@
 -- `scan` meets its contract. The invariant: what is left of the text, scanned from here, gives what all of it gives. Assumes
 -- nothing.
-use Prim.Native.Nat.{◌-◌, ◌≤◌}
-use mathlib.Core.Path.{◌≡◌, sym, ◌∙◌}
-use native.Mathlib.Omega.{arith}
-use lib.ListN.{length, drop}
-use Rattle.decimal_read.specs.Scanned.{scanned_from, scanned_of}
+use Rattle.std.proofs.Common.{ℕ, ◌≤◌, ◌≡◌, List, length, drop, sym, ap, ◌∙◌, arith}
+use Rattle.decimal_scan.specs.declared.scan.Scan.{Scan}
+use Rattle.decimal_read.specs.Scanned.{ended_at, scanned_from, scanned_of}
 use Rattle.decimal_read.specs.ScannedLaws.{scanned_bad, scanned_on, scanned_last}
 use Rattle.decimal_read.proofs.text.scan.Goals as goal
 
 pub loop-i-init : goal.loop-i-init
 unfolding scanned_of
-loop-i-init c =
-    (omega arith, rw c.start-s.ensures)
+loop-i-init c = rw c.start-s.ensures
 
-pub returns-then-s-eq-BAD : goal.returns-then-s-eq-BAD
-returns-then-s-eq-BAD c =
-    let l = c.args.text.now in
-    sym (scanned_bad l c.loop-i.s _ c.loop-i.i c.loop-i-test.true c.step-s.ensures c.if-s-eq-BAD.true)
-    ∙ c.loop-i.invariant.1
+pub returns-then-is_bad : goal.returns-then-is_bad
+returns-then-is_bad c =
+    let told = sym c.is_bad.ensures ∙ c.if-is_bad.true in
+    sym (scanned_bad c.args.text.now c.loop-i.s _ c.loop-i.i (omega arith) c.step-s.ensures told)
+    ∙ c.loop-i.invariant
 
 pub loop-i-preserved : goal.loop-i-preserved
 loop-i-preserved c =
-    let l = c.args.text.now in (
-      omega arith,
-      sym (scanned_on l c.loop-i.s _ c.loop-i.i c.loop-i-test.true c.step-s.ensures c.if-s-eq-BAD.false)
-          ∙ c.loop-i.invariant.1,
-    )
+    let told = sym c.is_bad.ensures ∙ c.if-is_bad.false in
+    sym (scanned_on c.args.text.now c.loop-i.s _ c.loop-i.i (omega arith) c.step-s.ensures told)
+    ∙ c.loop-i.invariant
+
+-- no byte is left
+last : (l : List ℕ) (s : Scan) (i : ℕ) → i ≤ length l → length l ≤ i → scanned_from s i (drop i l) ≡ ended_at s (length l)
+last l s i h k = scanned_last l s i k ∙ ap (ended_at s) (omega arith)
 
 pub returns : goal.returns
-returns c =
-    let l = c.args.text.now in
-    c.ended.ensures ∙ sym (scanned_last l c.loop-i.s c.loop-i.i c.loop-i-test.false) ∙ c.loop-i.invariant.1
+returns c = c.ended.ensures ∙ sym (last c.args.text.now c.loop-i.s c.loop-i.i (omega arith) (omega arith)) ∙ c.loop-i.invariant

@@ -21,14 +21,14 @@ near r digits places d e t =
     let both = and_r (ltb digits many) (ltb places many && (eqb d 0 || ltb digits significant)) (subst T (sym (sym e ∙ t)) tt) in
     ltb→lt places many (and_l (ltb places many) (eqb d 0 || ltb digits significant) both)
 
-pub after-grown-requires : goal.after-grown-requires
+pub after-figures-requires : goal.after-figures-requires
 unfolding digit_after
-after-grown-requires c =
+after-figures-requires c =
     (c.requires.0, few _ _ _ _ c.room.ensures c.if-room.true)
 
-pub overflow_add-result : goal.overflow_add-result
+pub overflow_add-places : goal.overflow_add-places
 unfolding digit_after
-overflow_add-result c =
+overflow_add-places c =
     record {
       fits = omega (
         arith,
@@ -40,7 +40,7 @@ overflow_add-result c =
 pub returns-then-room : goal.returns-then-room
 unfolding digit_after
 returns-then-room c =
-    rw (sym c.room.ensures ∙ c.if-room.true, c.after-grown.ensures)
+    rw (sym c.room.ensures ∙ c.if-room.true, c.after-figures.ensures)
 
 pub returns : goal.returns
 unfolding digit_after

@@ -9,7 +9,6 @@ use lib.Ieee.{Float, binary64, round}
 use Rattle.rounding.specs.Jam.{Jam}
 use Rattle.decimal.specs.Decimal.{above, under, decimal_of}
 use Rattle.decimal.specs.Leading.{Leads, leads_round}
-use Rattle.decimal_value.proofs.Short.{unknown}
 use Rattle.decimal_value.proofs.rounded.by_words.Goals as goal
 
 told : (s : Bool) (d t v e : ℕ) (r : Float) → 0 < v → (v ≡ 0) ⊎ Leads (above d t) (under t) v e
@@ -20,7 +19,6 @@ told s d t v e r p (inr l) f = leads_round s (above d t) (under t) v e r (one-le
 
 pub returns : goal.returns
 returns c =
-    λ k.
     let l = c.lead-digits in
     let a = c.args in
     let r = c.round_word in

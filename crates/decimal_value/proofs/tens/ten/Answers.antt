@@ -1,8 +1,6 @@
 -- `ten` meets its contract: each arm's number is taken apart and compared. Assumes nothing.
 use mathlib.Core.Path.{refl}
-use native.Mathlib.Omega.{arith}
 use lib.Ieee.{of_bits}
-use Rattle.algebra.specs.Arms.{past}
 use Rattle.decimal_value.proofs.tens.ten.Goals as goal
 
 pub returns-in-1 : goal.returns-in-1

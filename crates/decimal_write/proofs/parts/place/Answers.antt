@@ -1,9 +1,8 @@
 -- `place` meets its contract: the guess is right for every power of two. Assumes nothing.
 use Prim.Native.Nat.{ℕ, ◌+◌, ◌-◌, ◌<◌}
 use native.Mathlib.Omega.{arith}
-use borrow.Author.Rules.{rules}
 use lib.Count.{count_leading_zeros}
-use Rattle.nearest.specs.Normal.{Normal, normal, zeros_le}
+use Rattle.nearest.specs.Normal.{Normal, normal}
 use Rattle.decimal_write.specs.Guess.{guess_of, guess_right}
 use Rattle.decimal_write.specs.Whole.{Fit, fit}
 use Rattle.decimal_write.proofs.parts.place.Goals as goal

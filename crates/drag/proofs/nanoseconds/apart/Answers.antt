@@ -1,6 +1,5 @@
 -- `apart` meets its contract, step by step as its definition. Assumes nothing.
 use mathlib.Core.Path.{sym}
-use borrow.Author.Rules.{rules}
 use borrow.Author.Tests.{eq-eqb, ne_eqb, le-leb, lt-leb}
 use Rattle.drag.specs.Verdict.{apart_of}
 use Rattle.drag.proofs.nanoseconds.apart.Goals as goal

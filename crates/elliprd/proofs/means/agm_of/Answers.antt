@@ -1,4 +1,5 @@
 -- `agm_of` meets its contract. The invariant: what is left of the loop gives what the whole loop gives. Assumes nothing.
+use Rattle.std.proofs.Common.{Ok}
 use Prim.Native.Nat.{◌-◌}
 use mathlib.Core.Path.{◌≡◌, refl, sym, ap, ◌∙◌}
 use mathlib.Core.Bool.{not}
@@ -9,7 +10,6 @@ use Rattle.carlson.specs.Answer.{agm_at}
 use Rattle.carlson.specs.Common.{mean_cap}
 use Rattle.carlson.specs.Constants.{zero}
 use Rattle.carlson.specs.Loop.{capped, Left, left_begins, left_on, left_spent, left_found}
-use Rattle.carlson.specs.declared.answer.Answer.TheVariants.{Value}
 use Rattle.binary64.specs.Operators.{bits}
 use Rattle.elliprd.specs.declared.means.Sums.{Sums}
 use Rattle.elliprd.specs.Means.{sums_of, rd_together, rd_agm_found, rd_agm_spent, rd_agm_start, rd_agm_of}
@@ -38,6 +38,6 @@ pub returns-else-still_apart : goal.returns-else-still_apart
 returns-else-still_apart c =
     let l = c.loop-s in
     let b = c.args in
-    ap Value (c.agm.ensures ∙ ap (λ (v : Float). agm_at v l.n) c.value_of.ensures)
+    ap Ok (c.agm.ensures ∙ ap (λ (v : Float). agm_at v l.n) c.value_of.ensures)
     ∙ left_found l.invariant (ap not (sym c.still_apart.ensures ∙ c.if-still_apart.false))
     ∙ whole b.y b.z _ _ c.sqrt-x0.ensures c.sqrt-y0.ensures

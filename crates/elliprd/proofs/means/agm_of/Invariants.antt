@@ -9,7 +9,6 @@ use Rattle.carlson.specs.Answer.{agm_at}
 use Rattle.carlson.specs.Common.{mean_cap}
 use Rattle.carlson.specs.Constants.{zero}
 use Rattle.carlson.specs.Loop.{capped, Left, left_begins, left_on, left_spent, left_found}
-use Rattle.carlson.specs.declared.answer.Answer.TheVariants.{Value}
 use Rattle.binary64.specs.Operators.{bits}
 use Rattle.elliprd.specs.declared.means.Sums.{Sums}
 use Rattle.elliprd.specs.Means.{sums_of, rd_together, rd_agm_found, rd_agm_spent, rd_agm_start, rd_agm_of}

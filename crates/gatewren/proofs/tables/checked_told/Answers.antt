@@ -16,4 +16,4 @@ returns-in-BadRow c =
 pub returns-in-Refused : goal.returns-in-Refused
 unfolding checked_number checked_row
 returns-in-Refused c =
-    let e = c.in-Refused.is in record { value = rw e; row_after = rw e }
+    let e = c.in-Refused.is in record { value = rw e c.number.ensures; row_after = rw e }

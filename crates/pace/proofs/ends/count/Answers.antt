@@ -1,9 +1,7 @@
--- `count` meets its contract. The invariant: what was counted and what is left to count are all, and no more than the bytes.
--- Assumes nothing.
-use Prim.Native.Nat.{ℕ, ◌+◌, ◌-◌, ◌≤◌, ◌<◌}
+-- `count` meets its contract. Assumes nothing.
+use Prim.Native.Nat.{ℕ, ◌+◌, ◌≤◌, ◌<◌}
 use mathlib.Core.Path.{◌≡◌}
 use mathlib.Core.List.{List}
-use native.Mathlib.Nat.{zero-add}
 use native.Mathlib.Omega.{arith}
 use lib.ListN.{length, drop, get_or, drop_of_length-le}
 use Rattle.pace.specs.Numbers.{ends_of, newlines}
@@ -20,27 +18,22 @@ unfolding newlines
 none l n i h e = omega (arith, rw (drop_of_length-le l {i = i} h) at e)
 
 pub overflow_add-lines : goal.overflow_add-lines
-overflow_add-lines c =
-    record {
-      fits = omega (
-        arith,
-        c.loop-i.invariant.1,
-        c.loop-i.invariant.0,
-        c.requires,
-        ends_most
-            (get_or c.args.part.now c.loop-i.i 0),
-        c.ending-lines.ensures,
-      );
-    }
+overflow_add-lines c = record {
+  fits = omega (
+    arith,
+    c.loop-byte.invariant.few,
+    c.requires,
+    ends_most
+        (get_or c.args.part.now c.loop-byte.byte-index 0),
+    c.ending-lines.ensures,
+  );
+}
 
-pub loop-i-preserved : goal.loop-i-preserved
-loop-i-preserved c = (
-  omega arith,
-  omega (arith, c.loop-i.invariant.1, ends_most (get_or c.args.part.now c.loop-i.i 0), c.ending-lines.ensures),
-  more c.args.part.now _ _ _ c.loop-i-test.true c.loop-i.invariant.2
-      c.ending-lines.ensures,
-)
+pub loop-byte-preserved : goal.loop-byte-preserved
+loop-byte-preserved c = record {
+  few = omega (arith, c.loop-byte.invariant.few, ends_most (get_or c.args.part.now c.loop-byte.byte-index 0), c.ending-lines.ensures);
+  all = more c.args.part.now _ _ _ c.loop-byte-test.true c.loop-byte.invariant.all c.ending-lines.ensures;
+}
 
 pub returns : goal.returns
-returns c =
-    none _ _ _ c.loop-i-test.false c.loop-i.invariant.2
+returns c = none _ _ _ c.loop-byte-test.false c.loop-byte.invariant.all

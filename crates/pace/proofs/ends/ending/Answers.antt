@@ -1,14 +1,13 @@
 -- `ending` meets its contract. Assumes nothing.
-use borrow.Author.Tests.{eq-eqb, ne_eqb}
+use Rattle.std.proofs.Common.{◌≡◌, Bool, true, false, cond, eqb, refl, ◌∙◌}
+use mir.Val.{bool_byte}
 use Rattle.pace.specs.Numbers.{ends_of}
 use Rattle.pace.proofs.ends.ending.Goals as goal
 
-pub returns-then-b-eq10 : goal.returns-then-b-eq10
-unfolding ends_of
-returns-then-b-eq10 c =
-    rw (eq-eqb _ _ c.if-b-eq10.true)
+flag : (t : Bool) → bool_byte t ≡ cond t 1 0
+flag true = refl
+flag false = refl
 
-pub returns-else-b-eq10 : goal.returns-else-b-eq10
+pub returns : goal.returns
 unfolding ends_of
-returns-else-b-eq10 c =
-    rw (ne_eqb _ _ c.if-b-eq10.false)
+returns c = c.from.ensures ∙ flag (eqb c.args.b 10)

@@ -1,18 +1,10 @@
--- What stays so in the loop, and what goes down.
-use Prim.Native.Nat.{◌-◌, ◌≤◌}
-use mathlib.Core.Path.{◌≡◌, refl}
-use mathlib.Core.List.{[]}
-use native.Mathlib.Omega.{arith}
-use borrow.Author.Rules.{rules}
-use lib.ListN.{take}
+-- The lines counted, and those in what is left, are all that end in the first `end` bytes.
+use Rattle.std.proofs.Common.{◌≡◌, ◌+◌, take}
 use Rattle.pace.specs.Numbers.{newlines}
-use Rattle.pace.specs.NumberLaws.{newlines_part, newlines_few, newlines_all, part_short}
 use Rattle.pace.proofs.ends.lines_in.Given as goal
 
-abbrev pub invariant-loop-at : goal.invariant-loop-at
-invariant-loop-at l =
-    (l.at ≤ l.end) × (l.lines ≤ l.at) × (l.lines ≡ newlines (take l.at l.block))
-
-abbrev pub decreases-loop-at : goal.decreases-loop-at
-decreases-loop-at l =
-    l.end - l.at
+abbrev pub invariant-loop-part : goal.invariant-loop-part
+invariant-loop-part l = record {
+  size : l.part-iterator.size ≡ 224;
+  all : l.lines + newlines l.part-iterator.rest.now ≡ newlines (take l.end l.block);
+}

@@ -1,5 +1,4 @@
 -- `percent` meets its contract: where not all is read, a hundred times that is a word. Assumes nothing.
-use native.Mathlib.Omega.{arith}
 use borrow.Author.Tests.{le-leb, lt-leb}
 use Rattle.pace.specs.Numbers.{percent_of}
 use Rattle.pace.proofs.numbers.percent.Goals as goal

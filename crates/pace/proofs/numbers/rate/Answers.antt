@@ -1,6 +1,5 @@
 -- `rate` meets its contract, test by test. Assumes nothing.
 use mathlib.Core.Path.{sym}
-use native.Mathlib.Omega.{arith}
 use borrow.Author.Tests.{le-leb, lt-leb}
 use Rattle.pace.specs.Numbers.{rate_of}
 use Rattle.pace.proofs.numbers.rate.Goals as goal

@@ -1,5 +1,4 @@
 -- `job_of` meets its contract, case by case. Assumes nothing.
-use borrow.Author.Rules.{rules}
 use Rattle.calls.specs.Calls.{arguments_of, number_of}
 use Rattle.pack_stream.specs.Pack.{job_of}
 use Rattle.pack_stream.proofs.jobs.job_of.Goals as goal

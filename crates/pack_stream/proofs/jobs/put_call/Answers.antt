@@ -3,7 +3,6 @@ use Prim.Native.Nat.{ℕ, ◌+◌, ◌-◌, ◌≤◌}
 use mathlib.Core.Path.{◌≡◌}
 use mathlib.Core.List.{List}
 use native.Mathlib.Omega.{arith}
-use borrow.Author.Rules.{rules}
 use borrow.Author.Tests.{ne_eqb, le-ltb}
 use lib.ListN.{length}
 use Rattle.calls.specs.Calls.{number_of}
@@ -13,8 +12,8 @@ use Rattle.packed.specs.Jobs.{arity_of, job_bytes, job_length}
 use Rattle.packed.specs.Writing.{left_after, write_at, bytes_after}
 use Rattle.packed.specs.LengthLaws.{job_length_bounds}
 use Rattle.packed.specs.declared.jobs.Job.{Job}
-use Rattle.packed.specs.declared.write.Written.{Written}
-use Rattle.packed.specs.declared.write.Written.TheVariants.{Next, Refused}
+use Rattle.refusals.specs.declared.Refusal.{Refusal}
+use Rattle.std.specs.Prelude.{Result, Ok, Err}
 use Rattle.writing.specs.Written.{Put}
 use Rattle.pack_stream.specs.Pack.{job_of, job_room}
 use Rattle.pack_stream.proofs.jobs.put_call.Goals as goal
@@ -28,7 +27,7 @@ known (Rg x y z) e = omega arith
 known (Rj x y z p) e = omega arith
 known (Cel kc p a b) e = omega arith
 
-fits : (l at : ℕ) (c : Call) → at + job_room ≤ l → write_at l at (job_of c) ≡ Next (at + job_length (job_of c))
+fits : (l at : ℕ) (c : Call) → at + job_room ≤ l → write_at l at (job_of c) ≡ Ok (at + job_length (job_of c))
 unfolding write_at left_after
 fits l at c h =
     let j = job_of c in
@@ -38,27 +37,26 @@ fits l at c h =
           (omega (arith, (job_length_bounds j (known c)).1)),
     )
 
-put : (l out : List ℕ) (at next : ℕ) (c : Call) (j : Job) (w : Written) → at + job_room ≤ length l → j ≡ job_of c
+put : (l out : List ℕ) (at next : ℕ) (c : Call) (j : Job) (w : Result ℕ Refusal) → at + job_room ≤ length l → j ≡ job_of c
     → w ≡ write_at (length l) at j
-    → out ≡ bytes_after w l at j → w ≡ Next next → Put l at (job_bytes (job_of c)) out next
+    → out ≡ bytes_after w l at j → w ≡ Ok next → Put l at (job_bytes (job_of c)) out next
 unfolding bytes_after job_length
 put l out at next c j w h e f g k =
-    let m : write_at (length l) at j ≡ Next (at + job_length (job_of c)) = rw e (fits (length l) at c h) in
+    let m : write_at (length l) at j ≡ Ok (at + job_length (job_of c)) = rw e (fits (length l) at c h) in
     let z : next ≡ at + job_length (job_of c) = cc in
     record { bytes = rw (k, e) at g; place = z }
 
-never : (l at n : ℕ) (c : Call) (j : Job) (w : Written) {P : Type 0} → at + job_room ≤ l → j ≡ job_of c → w ≡ write_at l at j
-    → w ≡ Refused n → P
+never : (l at : ℕ) (n : Refusal) (c : Call) (j : Job) (w : Result ℕ Refusal) {P : Type 0} → at + job_room ≤ l
+    → j ≡ job_of c → w ≡ write_at l at j
+    → w ≡ Err n → P
 never l at n c j w h e f g =
-    let m : write_at l at j ≡ Next (at + job_length (job_of c)) = rw e (fits l at c h) in
+    let m : write_at l at j ≡ Ok (at + job_length (job_of c)) = rw e (fits l at c h) in
     let z : ◌≡◌ {A = ℕ} 0 1 = cc in
     absurd (omega arith)
 
-pub returns-in-Next : goal.returns-in-Next
-returns-in-Next c =
-    put _ _ _ _ c.args.call _ _ c.requires c.job_of.ensures c.write_job.ensures.value c.write_job.ensures.bytes_after
-    c.in-Next.is
+pub returns-in-Ok : goal.returns-in-Ok
+returns-in-Ok c =
+    put _ _ _ _ c.args.call _ _ c.requires c.job_of.ensures c.write_job.ensures.value c.write_job.ensures.bytes_after c.in-Ok.is
 
-pub returns-in-Refused : goal.returns-in-Refused
-returns-in-Refused c =
-    never _ _ _ c.args.call _ _ c.requires c.job_of.ensures c.write_job.ensures.value c.in-Refused.is
+pub returns-in-Err : goal.returns-in-Err
+returns-in-Err c = never _ _ _ c.args.call _ _ c.requires c.job_of.ensures c.write_job.ensures.value c.in-Err.is

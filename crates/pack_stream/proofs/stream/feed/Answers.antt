@@ -1,13 +1,8 @@
 -- `feed` meets its contract: so many bytes are fed that their jobs fit. Assumes nothing.
-use Prim.Native.Nat.{◌≤◌}
-use mathlib.Core.Path.{◌≡◌, sym}
+use mathlib.Core.Path.{◌≡◌}
 use native.Mathlib.Omega.{arith}
 use borrow.Author.Rules.{rules}
 use lib.ListN.{length}
-use lib.Seq.{length-take-le}
-use Rattle.writing.specs.Written.{put_length}
-use Rattle.writing.specs.Parts.{take_least}
-use Rattle.pack_stream.specs.Pack.{held_length}
 use Rattle.pack_stream.proofs.stream.feed.Goals as goal
 
 pub feed_all-requires : goal.feed_all-requires

@@ -1,14 +1,14 @@
 -- `feed_all` meets its contract. The invariant: what was fed so far is the block's beginning, and no line in it was bad.
 -- Assumes nothing.
-use Prim.Native.Nat.{ℕ, ◌+◌, ◌-◌, ◌*◌, ◌^◌, ◌≤◌, ◌<◌}
+use Prim.Native.Nat.{ℕ, ◌+◌, ◌*◌, ◌^◌, ◌≤◌, ◌<◌}
 use mathlib.Core.Path.{◌≡◌, refl, sym, ◌∙◌}
 use mathlib.Core.Bool.{false}
 use mathlib.Core.List.{List}
 use native.Mathlib.Omega.{arith}
 use lib.ListN.{length, take}
-use Rattle.writing.specs.FedLaws.{Upto, upto_none, upto_byte, upto_all, upto_stop}
+use Rattle.writing.specs.FedLaws.{upto_none, upto_byte, upto_all, upto_stop}
 use Rattle.writing.specs.Written.{put_length}
-use Rattle.pack_stream.specs.Pack.{holding, pack_byte, held_length, job_room, state_of}
+use Rattle.pack_stream.specs.Pack.{pack_byte, held_length, job_room}
 use Rattle.pack_stream.specs.declared.stream.Progress.{Progress}
 use Rattle.pack_stream.proofs.Bounds.{byte_short}
 use Rattle.pack_stream.proofs.stream.feed_all.Goals as goal
@@ -37,7 +37,7 @@ unfolding pack_byte
 turn c =
     let inside : c.loop-i.i < length c.args.block.now =
     omega (arith, c.requires.size_in_bounds) in
-    upto_byte c.loop-i.invariant.4 inside c.loop-i.invariant.3 byte_short c.step-fed.ensures.packs
+    upto_byte c.loop-i.invariant.3 inside c.loop-i.invariant.2 byte_short c.step-fed.ensures.packs
 
 -- the room is in the machine, so there are few bytes
 few_bytes : (c : At-loop-i) → job_room * c.args.size < 2 ^ 64
@@ -47,11 +47,11 @@ pub loop-i-init : goal.loop-i-init
 loop-i-init c =
     let b = begins c.args.block.now c.args.held.now c.args.out.now c.args.n _ c.requires.n_le_held_length
     c.nothing-all.ensures in
-    (omega arith, b.0, c.requires.held_len, b.1, b.2)
+    (b.0, c.requires.held_len, b.1, b.2)
 
 pub step-fed-requires : goal.step-fed-requires
 step-fed-requires c =
-    let l = c.loop-i in let u = l.invariant.4 in record { held_len = l.invariant.2; n_le_held_length = l.invariant.1; job_room_in_bounds = omega (arith, put_length u.fed.said, u.used_most) }
+    let l = c.loop-i in let u = l.invariant.3 in record { held_len = l.invariant.1; n_le_held_length = l.invariant.0; job_room_in_bounds = omega (arith, put_length u.fed.said, u.used_most) }
 
 pub overflow_add-all : goal.overflow_add-all
 overflow_add-all c =
@@ -67,21 +67,20 @@ returns-then-all c =
 
 pub shape_of-held : goal.shape_of-held
 shape_of-held c =
-    c.loop-i.invariant.2 ∙ sym c.requires.held_len
+    c.loop-i.invariant.1 ∙ sym c.requires.held_len
 
 pub shape_of-out : goal.shape_of-out
 shape_of-out c =
-    put_length c.loop-i.invariant.4.fed.said
+    put_length c.loop-i.invariant.3.fed.said
 
 pub returns : goal.returns
 returns c =
-    let l = c.loop-i in let u = c.loop-i.invariant.4 in record { packs = upto_all u _ l.invariant.0 c.loop-i-test.false; held_le_held_length = l.invariant.1; used_bound = omega (arith, l.invariant.0, u.used_most) }
+    let l = c.loop-i in let u = c.loop-i.invariant.3 in record { packs = upto_all u _ (omega arith) c.loop-i-test.false; held_le_held_length = l.invariant.0; used_bound = omega (arith, u.used_most) }
 
 pub loop-i-preserved : goal.loop-i-preserved
 loop-i-preserved c = (
-  omega arith,
   c.step-fed.ensures.held_le_held_length,
-  c.step-fed.auto.held ∙ c.loop-i.invariant.2,
+  c.step-fed.auto.held ∙ c.loop-i.invariant.1,
   c.if-all.false,
   turn (goal.at.loop-i-preserved c).After-step-fed,
 )

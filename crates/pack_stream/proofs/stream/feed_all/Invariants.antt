@@ -1,15 +1,12 @@
--- What stays so in the loop, and what goes down.
-use Prim.Native.Nat.{ℕ, ◌+◌, ◌-◌, ◌*◌, ◌^◌, ◌≤◌, ◌<◌}
-use mathlib.Core.Path.{◌≡◌, refl, sym, ◌∙◌}
+-- What stays so in the loop.
+use Prim.Native.Nat.{ℕ, ◌≤◌}
+use mathlib.Core.Path.{◌≡◌}
 use mathlib.Core.Bool.{false}
 use mathlib.Core.List.{List}
-use native.Mathlib.Omega.{arith}
 use lib.ListN.{length, take}
-use Rattle.writing.specs.FedLaws.{Upto, upto_none, upto_byte, upto_all, upto_stop}
-use Rattle.writing.specs.Written.{put_length}
+use Rattle.writing.specs.FedLaws.{Upto}
 use Rattle.pack_stream.specs.Pack.{holding, pack_byte, held_length, job_room, state_of}
 use Rattle.pack_stream.specs.declared.stream.Progress.{Progress}
-use Rattle.pack_stream.proofs.Bounds.{byte_short}
 use Rattle.pack_stream.proofs.stream.feed_all.Given as goal
 
 -- the block's first i bytes were fed, from what was held, and brought it there
@@ -20,9 +17,5 @@ Fed-to block held out₀ i after out all =
 
 abbrev pub invariant-loop-i : goal.invariant-loop-i
 invariant-loop-i l =
-    (l.i ≤ l.size) × (l.all.held ≤ held_length) × (length l.held ≡ held_length) × (l.all.bad ≡ false)
+    (l.all.held ≤ held_length) × (length l.held ≡ held_length) × (l.all.bad ≡ false)
     × Fed-to l.block (take l.n l.initial.held) l.initial.out l.i l.held l.out l.all
-
-abbrev pub decreases-loop-i : goal.decreases-loop-i
-decreases-loop-i l =
-    l.size - l.i

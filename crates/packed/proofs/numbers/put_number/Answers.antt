@@ -1,14 +1,13 @@
 -- `put_number` meets its contract. The invariant: what is left of the groups, written where the loop stands, gives what all of
 -- them give. Assumes nothing.
-use Prim.Native.Nat.{◌+◌, ◌-◌, ◌*◌, ◌^◌, ◌<◌}
-use mathlib.Core.Path.{◌≡◌, refl, ap}
+use Prim.Native.Nat.{◌-◌, ◌<◌}
+use mathlib.Core.Path.{refl, ap}
 use native.Mathlib.Numerals.{add-one}
 use native.Mathlib.Omega.{arith}
 use lib.ListN.{length, length-set}
-use lib.Seq.{sets}
-use Rattle.packed_number.specs.Numbers.{groups_of, number_bytes}
+use Rattle.packed_number.specs.Numbers.{number_bytes}
 use Rattle.packed.specs.LengthLaws.{groups_some}
-use Rattle.packed_number.proofs.Groups.{groups_last, groups_more, groups_tenth, rest_less, one_bit}
+use Rattle.packed_number.proofs.Groups.{groups_last, groups_more, groups_tenth, rest_less}
 use Rattle.packed.proofs.numbers.put_number.Goals as goal
 use Rattle.packed.proofs.numbers.put_number.Goals.{In-loop-left}
 

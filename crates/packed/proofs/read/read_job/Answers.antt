@@ -1,22 +1,87 @@
 -- `read_job` meets its contract, step by step as its definition. Assumes nothing.
 use mathlib.Core.Path.{sym}
 use borrow.Author.Tests.{lt-ltb, le-ltb}
-use Rattle.packed.specs.Reading.{job_at, read_at}
+use Rattle.std.proofs.lemmas.Result.{err_from_is_err_and}
+use Rattle.packed.specs.Reading.{argument_after, job_at, found, read_at}
 use Rattle.packed.proofs.read.read_job.Goals as goal
 
-pub returns-then-place-bytes : goal.returns-then-place-bytes
-unfolding job_at read_at
-returns-then-place-bytes c =
+pub returns-then-bytes-place : goal.returns-then-bytes-place
+unfolding read_at
+returns-then-bytes-place c = rw (le-ltb _ _ c.if-bytes-place.true)
+
+pub returns-in_err-none : goal.returns-in_err-none
+unfolding argument_after job_at found read_at
+returns-in_err-none c =
+    let p = err_from_is_err_and c.from_residual.result c.from_residual.ensures.1 in
     rw (
-      lt-ltb _ _ c.if-place-bytes.true,
-      sym c.function_at.ensures,
-      sym c.argument_after-one.ensures,
-      sym c.argument_after-two.ensures,
-      sym c.argument_after-three.ensures,
-      sym c.argument_after.ensures,
+      p.1,
+      p.2,
+      lt-ltb _ _ c.if-bytes-place.false,
+      sym c.in_err-none.ensures,
+    )
+
+pub returns-in_err-one : goal.returns-in_err-one
+unfolding argument_after job_at found read_at
+returns-in_err-one c =
+    let p = err_from_is_err_and c.from_residual-in_err-one.result c.from_residual-in_err-one.ensures.1 in
+    rw (
+      p.1,
+      p.2,
+      lt-ltb _ _ c.if-bytes-place.false,
+      sym c.in_ok-none.ensures,
+      sym c.in_err-one.ensures,
+    )
+
+pub returns-in_err-two : goal.returns-in_err-two
+unfolding argument_after job_at found read_at
+returns-in_err-two c =
+    let p = err_from_is_err_and c.from_residual-in_err-two.result c.from_residual-in_err-two.ensures.1 in
+    rw (
+      p.1,
+      p.2,
+      lt-ltb _ _ c.if-bytes-place.false,
+      sym c.in_ok-none.ensures,
+      sym c.in_ok-one.ensures,
+      sym c.in_err-two.ensures,
+    )
+
+pub returns-in_err-three : goal.returns-in_err-three
+unfolding argument_after job_at found read_at
+returns-in_err-three c =
+    let p = err_from_is_err_and c.from_residual-in_err-three.result c.from_residual-in_err-three.ensures.1 in
+    rw (
+      p.1,
+      p.2,
+      lt-ltb _ _ c.if-bytes-place.false,
+      sym c.in_ok-none.ensures,
+      sym c.in_ok-one.ensures,
+      sym c.in_ok-two.ensures,
+      sym c.in_err-three.ensures,
+    )
+
+pub returns-in_err-all : goal.returns-in_err-all
+unfolding argument_after job_at found read_at
+returns-in_err-all c =
+    let p = err_from_is_err_and c.from_residual-in_err-all.result c.from_residual-in_err-all.ensures.1 in
+    rw (
+      p.1,
+      p.2,
+      lt-ltb _ _ c.if-bytes-place.false,
+      sym c.in_ok-none.ensures,
+      sym c.in_ok-one.ensures,
+      sym c.in_ok-two.ensures,
+      sym c.in_ok-three.ensures,
+      sym c.in_err-all.ensures,
     )
 
 pub returns : goal.returns
-unfolding read_at
+unfolding argument_after job_at found read_at
 returns c =
-    rw (le-ltb _ _ c.if-place-bytes.false)
+    rw (
+      lt-ltb _ _ c.if-bytes-place.false,
+      sym c.in_ok-none.ensures,
+      sym c.in_ok-one.ensures,
+      sym c.in_ok-two.ensures,
+      sym c.in_ok-three.ensures,
+      sym c.in_ok-all.ensures,
+    )

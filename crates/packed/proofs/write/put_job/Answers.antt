@@ -1,6 +1,5 @@
 -- `put_job` meets its contract: a run after a run is one run. Assumes nothing.
 use native.Mathlib.Omega.{arith}
-use borrow.Author.Rules.{rules}
 use Rattle.writing.specs.Written.{put_more, put_length}
 use Rattle.packed.specs.Jobs.{job_bytes}
 use Rattle.packed.specs.LengthLaws.{job_length_sum}

@@ -1,20 +1,19 @@
 -- `write_job` meets its contract: it tests 16, then 17, and else writes. Assumes nothing.
+use Rattle.std.specs.Prelude.{Ok}
 use Prim.Native.Nat.{ℕ, ◌+◌, ◌≤◌}
 use mathlib.Core.Path.{◌≡◌, refl, sym, ◌∙◌}
 use native.Mathlib.Omega.{arith}
-use borrow.Author.Rules.{rules}
 use borrow.Author.Tests.{eq-eqb, ne_eqb, lt-ltb, le-ltb}
 use lib.ListN.{length}
 use Rattle.packed.specs.Jobs.{arity_of, job_bytes, job_length}
 use Rattle.packed.specs.Writing.{left_after, write_at, bytes_after}
 use Rattle.packed.specs.LengthLaws.{job_some}
 use Rattle.packed.specs.declared.jobs.Job.{Job}
-use Rattle.packed.specs.declared.write.Written.TheVariants.{Next}
 use Rattle.packed.proofs.write.write_job.Goals as goal
 
 written : (l place next : ℕ) (j : Job) → (arity_of j.function ≡ 0 → ⊥) → job_length j ≤ left_after l place
     → next ≡ place + length (job_bytes j)
-    → Next next ≡ write_at l place j
+    → Ok next ≡ write_at l place j
 unfolding write_at job_length
 written l place next j h k e = rw (ne_eqb (arity_of j.function) 0 h, le-ltb (left_after l place) (length (job_bytes j)) k, e)
 

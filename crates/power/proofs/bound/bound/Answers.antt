@@ -1,5 +1,5 @@
 -- `power::bound::bound` meets its contract, by `OneWord`: x is a bound from below, and x + 4 is above. Assumes nothing.
-use Rattle.std.proofs.Common.{◌≡◌, ℕ, ◌+◌, ◌-◌, ◌*◌, ◌^◌, ◌<◌, ◌≤◌, subst, arith, rules}
+use Rattle.std.proofs.Common.{◌≡◌, ℕ, ◌+◌, ◌-◌, ◌*◌, ◌^◌, ◌<◌, ◌≤◌, subst, arith}
 use Rattle.power.specs.Power.{cube}
 use Rattle.power.proofs.OneWord.{High, high_word, at_least, less_than, told_above, told_below, shifted}
 use Rattle.power.proofs.bound.bound.Goals as goal

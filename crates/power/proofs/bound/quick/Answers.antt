@@ -1,5 +1,5 @@
 -- `power::bound::quick` meets its contract: the digits are moved up, and none is lost. Assumes nothing.
-use Rattle.std.proofs.Common.{◌-◌, ◌/◌, ◌^◌, refl, rules}
+use Rattle.std.proofs.Common.{◌-◌, ◌/◌, ◌^◌, refl}
 use Rattle.power.proofs.OneWord.{raised}
 use Rattle.power.proofs.bound.quick.Goals as goal
 

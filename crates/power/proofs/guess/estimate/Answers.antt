@@ -1,5 +1,5 @@
 -- `power::guess::estimate` is safe: the patterns that it makes are no NaN's. Assumes nothing.
-use Rattle.std.proofs.Common.{◌-◌, ◌/◌, ◌%◌, ◌^◌, arith, rules}
+use Rattle.std.proofs.Common.{◌-◌, ◌/◌, ◌%◌, ◌^◌, arith}
 use Rattle.binary64.specs.Tests.{bits_number}
 use Rattle.power.proofs.guess.estimate.Goals as goal
 

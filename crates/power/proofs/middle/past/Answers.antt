@@ -1,8 +1,8 @@
 -- `power::middle::past` meets its contract, by `Odd`. Assumes nothing.
-use Rattle.std.proofs.Common.{◌≡◌, sym, ap, ◌∙◌, rules}
+use Rattle.std.proofs.Common.{◌≡◌, sym, ap, ◌∙◌}
 use Prim.Native.Nat.{Ordering}
-use Rattle.limbs.specs.declared.order.Order.{Order}
-use Rattle.limbs.specs.declared.order.Order.TheVariants.{Less, Equal, Greater}
+use Rattle.std.proofs.Common.{Less, Equal, Greater}
+use Rattle.std.specs.declared.cmp.Ordering as Ranked
 use Rattle.rounding.specs.Cut.{nearer, passed}
 use Rattle.power.specs.Parts.{cut_at}
 use Rattle.power.proofs.Odd.{cut_by, of_order, order_is}
@@ -10,7 +10,7 @@ use Rattle.power.proofs.middle.past.Goals as goal
 use Rattle.power.proofs.middle.past.Goals.{After-exact}
 
 -- the answer of the comparison decides
-by : (c : After-exact) (s : Order) → c.exact.result ≡ s
+by : (c : After-exact) (s : Ranked.Ordering) → c.exact.result ≡ s
     → let a = c.args in nearer (of_order s) a.r ≡ passed (cut_at a.n a.y) a.r
 by c s h =
     let a = c.args in

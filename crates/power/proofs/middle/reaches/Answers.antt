@@ -1,5 +1,5 @@
 -- `power::middle::reaches` meets its contract, by `Law`: the middle before r decides. Assumes nothing.
-use Rattle.std.proofs.Common.{sym, ◌∙◌, true≢false, arith, rules}
+use Rattle.std.proofs.Common.{sym, ◌∙◌, true≢false, arith}
 use Rattle.power.specs.Parts.{cut_at}
 use Rattle.power.proofs.Law.{reached_zero, reached_past, reached_at}
 use Rattle.power.proofs.middle.reaches.Goals as goal

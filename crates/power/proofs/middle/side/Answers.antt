@@ -1,5 +1,5 @@
 -- `power::middle::side` meets its contract, by `Odd`. Assumes nothing.
-use Rattle.std.proofs.Common.{sym, subst, rules}
+use Rattle.std.proofs.Common.{sym, subst}
 use Prim.Native.Nat.{Ordering}
 use Rattle.power.specs.Parts.{Told}
 use Rattle.power.proofs.Odd.{cut_by}

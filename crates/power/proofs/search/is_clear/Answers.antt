@@ -1,5 +1,4 @@
 -- `power::search::is_clear` meets its contract, by `Law`: both middles are told of. Assumes nothing.
-use Rattle.std.proofs.Common.{sym, true≢false, rules}
 use Rattle.power.specs.Parts.{cut_at}
 use Rattle.power.proofs.Law.{clear}
 use Rattle.power.proofs.search.is_clear.Goals as goal

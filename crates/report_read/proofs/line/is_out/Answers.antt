@@ -1,6 +1,5 @@
 -- `is_out` meets its contract. Assumes nothing.
 use Rattle.report_read.proofs.Tries.{out_tally, out_not}
-use borrow.Author.Rules.{rules}
 use Rattle.report_read.proofs.line.is_out.Goals as goal
 
 pub returns-then-is_tally : goal.returns-then-is_tally

@@ -5,7 +5,6 @@ use mathlib.Core.List.{List}
 use Rattle.listing_read.specs.Lines.{same}
 use Rattle.report_text.specs.RoomLaws.{exact_most}
 use Rattle.report_read.proofs.Tries.{front}
-use borrow.Author.Rules.{rules}
 use Rattle.report_read.proofs.line.same_exact.Goals as goal
 
 pub same_front-requires : goal.same_front-requires

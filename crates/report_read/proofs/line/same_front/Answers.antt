@@ -2,7 +2,6 @@
 use mathlib.Core.Path.{sym}
 use lib.Seq.{length-take-le}
 use native.Mathlib.Omega.{arith}
-use borrow.Author.Rules.{rules}
 use Rattle.report_read.proofs.line.same_front.Goals as goal
 
 pub slice_bounds-is_name-end : goal.slice_bounds-is_name-end

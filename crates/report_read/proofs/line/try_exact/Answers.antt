@@ -1,7 +1,6 @@
 -- `try_exact` meets its contract. Assumes nothing.
 use mathlib.Core.Path.{refl}
 use Rattle.report_read.proofs.Tries.{zeros, exact_hit, exact_missed}
-use borrow.Author.Rules.{rules}
 use Rattle.report_read.proofs.line.try_exact.Goals as goal
 
 pub last_sum-requires : goal.last_sum-requires

@@ -1,7 +1,6 @@
 -- `try_line` meets its contract. Assumes nothing.
 use native.Mathlib.Omega.{arith}
 use Rattle.report_read.proofs.Tries.{sum_stays}
-use borrow.Author.Rules.{rules}
 use Rattle.report_read.proofs.line.try_line.Goals as goal
 
 pub returns : goal.returns

@@ -1,6 +1,5 @@
 -- `try_slot` meets its contract. Assumes nothing.
 use Rattle.report_read.proofs.Tries.{slot_out, slot_hit, slot_missed}
-use borrow.Author.Rules.{rules}
 use Rattle.report_read.proofs.line.try_slot.Goals as goal
 
 pub returns-then-is_out : goal.returns-then-is_out

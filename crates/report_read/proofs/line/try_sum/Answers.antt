@@ -1,6 +1,5 @@
 -- `try_sum` meets its contract. Assumes nothing.
 use Rattle.report_read.proofs.Tries.{sum_tried}
-use borrow.Author.Rules.{rules}
 use Rattle.report_read.proofs.line.try_sum.Goals as goal
 
 pub returns : goal.returns

@@ -3,7 +3,6 @@ use Prim.Native.Nat.{◌+◌, ◌*◌, ◌^◌}
 use mathlib.Core.Path.{sym, ◌∙◌}
 use native.Mathlib.Omega.{arith}
 use Rattle.report_read.proofs.Numbers.{step_there, step_not, low_word}
-use borrow.Author.Rules.{rules}
 use Rattle.report_read.proofs.number.decimal_step.Goals as goal
 
 pub returns-then-d-lt10 : goal.returns-then-d-lt10

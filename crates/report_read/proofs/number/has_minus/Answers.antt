@@ -1,31 +1,27 @@
 -- `has_minus` meets its contract. Assumes nothing.
-use Prim.Native.Nat.{◌-◌, ◌≤◌}
-use mathlib.Core.Path.{◌≡◌, refl, sym, ◌∙◌}
-use lib.ListN.{length, drop}
-use Rattle.report_read.specs.Reading.{has_minus}
+use mathlib.Core.Path.{refl, sym, ◌∙◌}
 use native.Mathlib.Omega.{arith}
 use Rattle.report_read.proofs.Numbers.{minus_here, minus_on, minus_none}
-use borrow.Author.Rules.{rules}
 use Rattle.report_read.proofs.number.has_minus.Goals as goal
 
-pub loop-i-init : goal.loop-i-init
-loop-i-init c =
-    (omega arith, refl)
+pub loop-b-init : goal.loop-b-init
+loop-b-init c =
+    refl
 
-pub returns-then-line-i-eq45 : goal.returns-then-line-i-eq45
-returns-then-line-i-eq45 c =
-    let l = c.loop-i in
+pub returns-then-b-eq45 : goal.returns-then-b-eq45
+returns-then-b-eq45 c =
+    let l = c.loop-b in
     let a = c.args.line.now in
-    sym (minus_here a l.i (omega arith) c.if-line-i-eq45.true) ∙ l.invariant.1
+    sym (minus_here a l.b-index (omega arith) c.if-b-eq45.true) ∙ l.invariant
 
-pub loop-i-preserved : goal.loop-i-preserved
-loop-i-preserved c =
-    let l = c.loop-i in
+pub loop-b-preserved : goal.loop-b-preserved
+loop-b-preserved c =
+    let l = c.loop-b in
     let a = c.args.line.now in
-    (omega arith, minus_on a l.i (omega arith) c.if-line-i-eq45.false ∙ l.invariant.1)
+    minus_on a l.b-index (omega arith) c.if-b-eq45.false ∙ l.invariant
 
 pub returns : goal.returns
 returns c =
-    let l = c.loop-i in
+    let l = c.loop-b in
     let a = c.args.line.now in
-    sym (minus_none a l.i (omega arith)) ∙ l.invariant.1
+    sym (minus_none a l.b-index (omega arith)) ∙ l.invariant

@@ -1,11 +1,8 @@
 -- `take_line` meets its contract. Assumes nothing.
-use Prim.Native.Nat.{◌-◌}
-use mathlib.Core.Path.{◌≡◌, refl, sym, ap, ◌∙◌}
+use mathlib.Core.Path.{refl, sym, ap, ◌∙◌}
 use lib.ListN.{length}
-use Rattle.report_read.specs.Reading.{take_line}
 use native.Mathlib.Omega.{arith}
 use Rattle.report_read.proofs.Tries.{no_report, takes_bad, takes_found, takes_none, take_spent, stays, goes_on}
-use borrow.Author.Rules.{rules}
 use Rattle.report_read.proofs.taken.take_line.Goals as goal
 
 pub returns-then-words-ne-WORDS : goal.returns-then-words-ne-WORDS
@@ -43,18 +40,18 @@ loop-k-preserved c =
       omega arith,
       goes_on a.q a.words.now a.line.now l.k l.words c.try_line.new.words l.invariant.0 m (omega arith)
           l.invariant.2
-          c.try_line.ensures.value c.try_line.ensures.words_after f c.is_tally.ensures c.if-is_tally.true,
+          c.try_line.ensures.value c.try_line.ensures.words_after f c.is_tally.ensures c.if-not-is_tally.false,
     )
 
-pub returns-else-is_tally : goal.returns-else-is_tally
-returns-else-is_tally c =
+pub returns-then-not-is_tally : goal.returns-then-not-is_tally
+returns-then-not-is_tally c =
     let l = c.loop-k in let a = c.args in record {
       value = (takes_none a.q a.words.now a.line.now l.k l.words c.try_line.new.words l.invariant.0
           (sym (ap length l.invariant.0) ∙ l.invariant.1) (omega arith) l.invariant.2 c.try_line.ensures.value c.try_line.ensures.words_after
-          c.if-try_line.false c.is_tally.ensures c.if-is_tally.false).0;
+          c.if-try_line.false c.is_tally.ensures c.if-not-is_tally.true).0;
       words_after = (takes_none a.q a.words.now a.line.now l.k l.words c.try_line.new.words l.invariant.0
           (sym (ap length l.invariant.0) ∙ l.invariant.1) (omega arith) l.invariant.2 c.try_line.ensures.value c.try_line.ensures.words_after
-          c.if-try_line.false c.is_tally.ensures c.if-is_tally.false).1;
+          c.if-try_line.false c.is_tally.ensures c.if-not-is_tally.true).1;
     }
 
 pub returns : goal.returns

@@ -1,17 +1,10 @@
--- What stays so in the loop, and what goes down.
+-- What stays so in the loop.
 use Prim.Native.Nat.{◌-◌}
-use mathlib.Core.Path.{◌≡◌, refl, sym, ap, ◌∙◌}
+use mathlib.Core.Path.{◌≡◌}
 use lib.ListN.{length}
 use Rattle.report_read.specs.Reading.{take_line}
-use native.Mathlib.Omega.{arith}
-use Rattle.report_read.proofs.Tries.{no_report, takes_bad, takes_found, takes_none, take_spent, stays, goes_on}
-use borrow.Author.Rules.{rules}
 use Rattle.report_read.proofs.taken.take_line.Given as goal
 
 abbrev pub invariant-loop-k : goal.invariant-loop-k
 invariant-loop-k l =
     (l.words ≡ l.initial.words) × (length l.words ≡ 384) × (take_line l.k (192 - l.k) l.initial.words l.line ≡ take_line l.q (192 - l.q) l.initial.words l.line)
-
-abbrev pub decreases-loop-k : goal.decreases-loop-k
-decreases-loop-k l =
-    192 - l.k

@@ -4,7 +4,6 @@ use mathlib.Core.Path.{refl}
 use native.Mathlib.Omega.{arith}
 use Rattle.writing.specs.Written.{there, tried_there, tried_lacking}
 use Rattle.report_text.proofs.Parts.{after_key, after_sign, size_is, exact_whole, zeros}
-use borrow.Author.Rules.{rules}
 use Rattle.report_text.proofs.line.put_exact.Goals as goal
 
 pub put_name-name-requires : goal.put_name-name-requires

@@ -1,6 +1,5 @@
 -- `put_sign` meets its contract. Assumes nothing.
 use Rattle.report_text.proofs.Parts.{sign_there, sign_not}
-use borrow.Author.Rules.{rules}
 use Rattle.report_text.proofs.line.put_sign.Goals as goal
 
 pub returns-then-below_zero : goal.returns-then-below_zero

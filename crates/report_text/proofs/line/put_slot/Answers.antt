@@ -3,7 +3,6 @@ use native.Mathlib.Omega.{arith}
 use Prim.Native.Nat.{◌+◌}
 use Rattle.writing.specs.Written.{there, tried_there, tried_lacking}
 use Rattle.report_text.proofs.Parts.{after_name_lem, slot_whole}
-use borrow.Author.Rules.{rules}
 use Rattle.report_text.proofs.line.put_slot.Goals as goal
 
 pub put_name-name-requires : goal.put_name-name-requires

@@ -2,7 +2,6 @@
 use mathlib.Core.Path.{sym}
 use native.Mathlib.Omega.{arith}
 use Rattle.report_text.proofs.Lines.{calls_in_lem, rest_in, tally_in}
-use borrow.Author.Rules.{rules}
 use Rattle.report_text.proofs.report.left_out.Goals as goal
 
 pub returns-then-i-lt1 : goal.returns-then-i-lt1

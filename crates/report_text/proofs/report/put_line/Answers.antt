@@ -5,7 +5,6 @@ use lib.ListN.{length, length-set}
 use Rattle.writing.specs.Written.{there, tried_there, tried_lacking, put_more, put_byte, put_length}
 use Rattle.report_text.specs.RoomLaws.{line_most}
 use Rattle.report_text.proofs.Lines.{no_report, no_line, out_line, in_line, tried_none}
-use borrow.Author.Rules.{rules}
 use Rattle.report_text.proofs.report.put_line.Goals as goal
 use Rattle.report_text.proofs.report.put_line.Goals.{After-slice_known-then-has_room-1}
 

@@ -3,7 +3,6 @@ use mathlib.Core.Path.{sym}
 use native.Mathlib.Omega.{arith}
 use Rattle.writing.specs.Written.{tried_put}
 use Rattle.report_text.proofs.Lines.{slot_line_lem, exact_line_lem, sum_line_lem}
-use borrow.Author.Rules.{rules}
 use Rattle.report_text.proofs.report.write_line.Goals as goal
 
 pub returns-then-i-lt-SUM : goal.returns-then-i-lt-SUM

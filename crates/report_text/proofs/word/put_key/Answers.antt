@@ -3,7 +3,6 @@ use native.Mathlib.Omega.{arith}
 use borrow.Author.Tests.{eq-eqb, ne_eqb, le-leb, lt-leb}
 use Rattle.writing.specs.Written.{tried_put}
 use Rattle.report_text.specs.Text.{slot_key}
-use borrow.Author.Rules.{rules}
 use Rattle.report_text.proofs.word.put_key.Goals as goal
 
 pub returns-then-i-eq0 : goal.returns-then-i-eq0

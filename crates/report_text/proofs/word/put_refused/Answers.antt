@@ -6,7 +6,6 @@ use lib.ListN.{length, set}
 use Rattle.writing.specs.Written.{Put}
 use Rattle.report_text.specs.Text.{refused_key}
 use Rattle.report_text.proofs.Parts.{refused_whole}
-use borrow.Author.Rules.{rules}
 use Rattle.report_text.proofs.word.put_refused.Goals as goal
 use Rattle.report_text.proofs.word.put_refused.Goals.{After-slice_known-3-1}
 

@@ -1,17 +1,10 @@
--- What stays so in the loop, and what goes down.
-use Prim.Native.Nat.{◌+◌, ◌-◌, ◌≤◌}
+-- What stays so in the loop.
+use Prim.Native.Nat.{◌+◌}
 use mathlib.Core.Path.{◌≡◌}
-use borrow.Author.Rules.{rules}
 use lib.ListN.{length}
 use Rattle.report_words.specs.Words.{calls_in}
-use native.Mathlib.Omega.{arith}
-use Rattle.report_words.proofs.Steps.{calls_other, calls_over, calls_on, calls_left}
 use Rattle.report_words.proofs.calls.room_after.Given as goal
 
 abbrev pub invariant-loop-k : goal.invariant-loop-k
 invariant-loop-k l =
-    (l.k ≤ 6) × (l.left + calls_in l.k l.report ≡ l.room) × (length l.report ≡ 384)
-
-abbrev pub decreases-loop-k : goal.decreases-loop-k
-decreases-loop-k l =
-    6 - l.k
+    (l.left + calls_in l.k l.report ≡ l.room) × (length l.report ≡ 384)

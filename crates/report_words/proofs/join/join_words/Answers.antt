@@ -1,9 +1,5 @@
 -- Answers.
-use Prim.Native.Nat.{◌-◌, ◌≤◌}
-use mathlib.Core.Path.{◌≡◌, refl, ◌∙◌}
-use borrow.Author.Rules.{rules}
-use lib.ListN.{length}
-use Rattle.report_words.specs.Words.{blocks_joined}
+use mathlib.Core.Path.{refl, ◌∙◌}
 use native.Mathlib.Omega.{arith}
 use Rattle.report_words.proofs.Steps.{joined_not, joined_nor, joined_all, joined_on}
 use Rattle.report_words.proofs.join.join_words.Goals as goal
@@ -19,18 +15,17 @@ returns-then-other-ne-WORDS c =
 
 pub loop-k-init : goal.loop-k-init
 loop-k-init c =
-    (omega arith, omega arith, omega arith, refl)
+    (omega arith, omega arith, refl)
 
 pub loop-k-preserved : goal.loop-k-preserved
 loop-k-preserved c =
     let o = c.args.other.now in (
       omega arith,
-      omega arith,
-      c.loop-k.invariant.2,
+      c.loop-k.invariant.1,
       joined_on c.loop-k.k c.loop-k.report o c.join_blocks.new.block (omega arith)
-          c.join_blocks.ensures ∙ c.loop-k.invariant.3,
+          c.join_blocks.ensures ∙ c.loop-k.invariant.2,
     )
 
 pub returns : goal.returns
 returns c =
-    joined_all c.loop-k.k _ c.loop-k.report _ (omega arith) (omega arith) (omega arith) (omega arith) c.loop-k.invariant.3
+    joined_all c.loop-k.k _ c.loop-k.report _ (omega arith) (omega arith) (omega arith) (omega arith) c.loop-k.invariant.2

@@ -1,18 +1,11 @@
--- What stays so in the loop, and what goes down.
-use Prim.Native.Nat.{◌-◌, ◌≤◌}
-use mathlib.Core.Path.{◌≡◌, refl, ◌∙◌}
-use borrow.Author.Rules.{rules}
+-- What stays so in the loop.
+use Prim.Native.Nat.{◌-◌}
+use mathlib.Core.Path.{◌≡◌}
 use lib.ListN.{length}
 use Rattle.report_words.specs.Words.{blocks_joined}
-use native.Mathlib.Omega.{arith}
-use Rattle.report_words.proofs.Steps.{joined_not, joined_nor, joined_all, joined_on}
 use Rattle.report_words.proofs.join.join_words.Given as goal
 
 abbrev pub invariant-loop-k : goal.invariant-loop-k
 invariant-loop-k l =
-    (l.k ≤ 6) × (length l.report ≡ 384) × (length l.other ≡ 384)
+    (length l.report ≡ 384) × (length l.other ≡ 384)
     × (blocks_joined l.k (6 - l.k) l.report l.other ≡ blocks_joined 0 6 l.initial.report l.other)
-
-abbrev pub decreases-loop-k : goal.decreases-loop-k
-decreases-loop-k l =
-    6 - l.k

@@ -2,7 +2,6 @@
 use mathlib.Core.Path.{◌∙◌}
 use native.Mathlib.Omega.{arith}
 use Rattle.report_words.proofs.Steps.{refused_low, refused_past, refused_there}
-use borrow.Author.Rules.{rules}
 use Rattle.report_words.proofs.parts.refused_of.Goals as goal
 
 pub returns-then-number-lt-FIRST : goal.returns-then-number-lt-FIRST

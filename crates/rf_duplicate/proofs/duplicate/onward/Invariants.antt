@@ -1,19 +1,11 @@
--- What stays so in the loop, and what goes down.
-use Prim.Native.Nat.{◌+◌, ◌-◌}
-use mathlib.Core.Path.{refl, sym, ap, ◌∙◌}
-use mathlib.Core.Bool.{false}
-use native.Mathlib.Omega.{arith}
-use lib.Ieee.{Float}
-use Rattle.carlson.specs.Answer.{duplication_at}
-use Rattle.carlson.specs.Loop.{capped, Rest, rest_begins, left_on, left_spent, left_found}
+-- What stays so in the loop: what is left of it gives what was left of it at first.
+use Rattle.std.proofs.Common.{◌-◌, false}
+use Rattle.carlson.specs.Loop.{capped, Rest}
 use Rattle.rf_duplicate.specs.Duplicate.{rf_cap, rf_step, rf_close, rf_found, rf_spent}
 use Rattle.rf_duplicate.proofs.duplicate.onward.Given as goal
 
-abbrev pub invariant-loop-n : goal.invariant-loop-n
-invariant-loop-n l =
+abbrev pub invariant-loop-m : goal.invariant-loop-m
+invariant-loop-m l =
     let found = rf_found l.x l.y l.a0 in
-    Rest rf_step rf_close found rf_spent rf_cap (capped rf_step rf_close found rf_spent (rf_cap - l.initial.n) false l.initial.at l.initial.n) false l.at l.n
-
-abbrev pub decreases-loop-n : goal.decreases-loop-n
-decreases-loop-n l =
-    rf_cap - l.n
+    let first = capped rf_step rf_close found rf_spent (rf_cap - l.from) false l.initial.at l.from in
+    Rest rf_step rf_close found rf_spent rf_cap first false l.at l.m

@@ -39,7 +39,7 @@ told-requires c =
     guesses (goal.at.told-requires c).Then-numbers3-2
 
 pub returns-then-told : goal.returns-then-told
-returns-then-told c h =
+returns-then-told c =
     let r = c.told.ensures c.if-told.true in
     c.lambda_with.ensures ∙ by-roots _ _ _
     (root_told _ _ c.well_formed.0.1 c.by_row-rx.type_inv r.0)

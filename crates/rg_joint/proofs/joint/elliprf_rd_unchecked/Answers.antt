@@ -1,11 +1,6 @@
--- `elliprf_rd_unchecked` meets its contract. The invariant: what is left of the loop gives what the whole loop gives. Assumes
--- nothing.
-use Prim.Native.Nat.{◌-◌}
-use mathlib.Core.Path.{◌≡◌, refl, sym, ◌∙◌}
-use mathlib.Core.Bool.{false}
-use native.Mathlib.Omega.{arith}
-use lib.Ieee.{Float}
-use Rattle.carlson.specs.Loop.{capped, Left, left_begins, left_on, left_spent, left_found}
+-- `elliprf_rd_unchecked` meets its contract. Assumes nothing.
+use Rattle.std.proofs.Common.{◌≡◌, ◌∙◌, refl, sym, arith, false, Float}
+use Rattle.carlson.specs.Loop.{capped, left_on, left_over, left_found}
 use Rattle.rf_duplicate.specs.Duplicate.{mean_of}
 use Rattle.rd_duplicate.specs.Duplicate.{rd_mean}
 use Rattle.rg_joint.specs.declared.joint.Joint.{Joint}
@@ -19,23 +14,18 @@ whole x y z a b s e f g = rw (e, f, g)
 
 pub loop-n-preserved : goal.loop-n-preserved
 loop-n-preserved c =
-    let l = c.loop-n in
-    left_on l.invariant refl (omega arith) c.step-at.ensures (sym c.if-all_done.false ∙ c.all_done.ensures)
-
-pub returns-then-n-eq-CAP : goal.returns-then-n-eq-CAP
-returns-then-n-eq-CAP c =
-    let l = c.loop-n in
-    let b = c.args in
-    c.result.ensures
-    ∙ left_spent l.invariant refl c.if-n-eq-CAP.true
-    ∙ whole b.x b.y b.z _ _ c.begin-at.result c.mean_of-arf.ensures c.mean_of-ard.ensures
-    c.begin-at.ensures
+    left_on c.loop-n.invariant refl (omega arith) c.step-at.ensures (sym c.if-all_done.false ∙ c.all_done.ensures)
 
 pub returns-then-all_done : goal.returns-then-all_done
 returns-then-all_done c =
-    let l = c.loop-n in
     let b = c.args in
-    c.result-then-all_done.ensures
-    ∙ left_found (left_on l.invariant refl (omega arith) c.step-at.ensures c.all_done.ensures) c.if-all_done.true
-    ∙ whole b.x b.y b.z _ _ c.begin-at.result c.mean_of-arf.ensures c.mean_of-ard.ensures
-    c.begin-at.ensures
+    c.result.ensures
+    ∙ left_found (left_on c.loop-n.invariant refl (omega arith) c.step-at.ensures c.all_done.ensures) c.if-all_done.true
+    ∙ whole b.x b.y b.z _ _ c.begin-at.result c.mean_of-arf.ensures c.mean_of-ard.ensures c.begin-at.ensures
+
+pub returns : goal.returns
+returns c =
+    let b = c.args in
+    c.result-2.ensures
+    ∙ left_over c.loop-n.invariant refl (omega arith)
+    ∙ whole b.x b.y b.z _ _ c.begin-at.result c.mean_of-arf.ensures c.mean_of-ard.ensures c.begin-at.ensures

@@ -8,7 +8,6 @@ use Rattle.root.specs.Root.{root}
 use Rattle.carlson.specs.Answer.{agm_at}
 use Rattle.carlson.specs.Common.{mean_cap}
 use Rattle.carlson.specs.Loop.{capped, Left, left_begins, left_on, left_spent, left_found}
-use Rattle.carlson.specs.declared.answer.Answer.TheVariants.{Value}
 use Rattle.rg_means.specs.declared.means.Sums.{Sums}
 use Rattle.rg_means.specs.Means.{rg_begin, rg_next, rg_together, rg_agm_found, rg_agm_spent, rg_agm_of}
 use Rattle.rg_means.proofs.means.agm_of.Given as goal

@@ -4,12 +4,12 @@ use borrow.Author.Rules.{rules}
 use Rattle.rj_calls.specs.Run.{plan_near}
 use Rattle.rj_calls.proofs.plan.unless_near.Goals as goal
 
-pub returns-in-Taylor : goal.returns-in-Taylor
+pub returns-in-Some : goal.returns-in-Some
 unfolding plan_near
-returns-in-Taylor c =
-    rw (c.in-Taylor.is, sym c.taylor.ensures)
+returns-in-Some c =
+    rw (c.in-Some.is, sym c.taylor.ensures)
 
-pub returns-in-Far : goal.returns-in-Far
+pub returns-in-None : goal.returns-in-None
 unfolding plan_near
-returns-in-Far c =
-    rw c.in-Far.is c.scaled.ensures
+returns-in-None c =
+    rw c.in-None.is c.scaled.ensures

@@ -1,6 +1,6 @@
 -- `elliprj_pv_near_zero` meets its contract: its tests are those of the definition, in its order. Assumes nothing.
+use Rattle.std.proofs.Common.{Some}
 use mathlib.Core.Path.{sym, ap, ◌∙◌}
-use Rattle.rj_near_zero.specs.declared.nearzero.Near.TheVariants.{Taylor}
 use Rattle.rj_near_zero.specs.NearZero.{near_zero, root_epsilon}
 use Rattle.rj_near_zero.proofs.nearzero.elliprj_pv_near_zero.Goals as goal
 
@@ -18,7 +18,7 @@ returns-then-largest-radius c =
       sym c.deltas_of-d.ensures,
       sym c.largest.ensures,
       c.if-largest-radius.true,
-    ) (ap Taylor c.value_of.ensures)
+    ) (ap Some c.value_of.ensures)
 
 pub returns : goal.returns
 unfolding near_zero

@@ -4,17 +4,17 @@ use mathlib.Core.Path.{sym}
 use Rattle.rj_negative.specs.Reduction.{wrapped_answer}
 use Rattle.rj_negative.proofs.reduction.carried.Goals as goal
 
-pub returns-in-Value : goal.returns-in-Value
+pub returns-in-Ok : goal.returns-in-Ok
 unfolding wrapped_answer
-returns-in-Value c =
+returns-in-Ok c =
     rw (
-      c.in-Value.is,
+      c.in-Ok.is,
       sym c.elliprf_unchecked.ensures,
       sym c.rc_of.ensures,
       sym c.together.ensures,
     )
 
-pub returns-in-Refused : goal.returns-in-Refused
+pub returns-in-Err : goal.returns-in-Err
 unfolding wrapped_answer
-returns-in-Refused c =
-    rw c.in-Refused.is
+returns-in-Err c =
+    rw c.in-Err.is

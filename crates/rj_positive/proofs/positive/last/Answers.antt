@@ -1,6 +1,6 @@
 -- `last` meets its contract: its tests are those of the definition, in its order. Assumes nothing.
+use Rattle.std.proofs.Common.{Ok}
 use mathlib.Core.Path.{ap}
-use Rattle.carlson.specs.declared.answer.Answer.TheVariants.{Value}
 use Rattle.rj_positive.specs.Positive.{rj_last}
 use Rattle.rj_positive.proofs.positive.last.Goals as goal
 
@@ -12,4 +12,4 @@ returns-then-z-p c =
 pub returns : goal.returns
 unfolding rj_last
 returns c =
-    rw c.if-z-p.false (ap Value c.duplicated-found.ensures)
+    rw c.if-z-p.false (ap Ok c.duplicated-found.ensures)

@@ -1,8 +1,7 @@
 -- `root::certificate::certified` meets its contract: `matches` has tested the pattern. Assumes nothing.
-use Rattle.std.proofs.Common.{T, sym, ◌∙◌, subst, true≢false}
+use Rattle.std.proofs.Common.{T, sym, ◌∙◌, subst}
 use lib.Ieee.{binary64, fits}
 use lib.Ieee.Bits.{of_bits-to_bits}
-use Rattle.binary64.specs.Tests.{above_no_nan}
 use Rattle.root.proofs.certificate.certified.Goals as goal
 use Rattle.root.proofs.certificate.certified.Goals.{Start}
 

@@ -1,5 +1,5 @@
 -- `root::certificate::matches` meets its contract, by `Upper`. Assumes nothing.
-use Rattle.std.proofs.Common.{sym, true≢false, arith, rules}
+use Rattle.std.proofs.Common.{arith}
 use Rattle.root.proofs.Upper.{lower_least, matches_is}
 use Rattle.root.proofs.certificate.matches.Goals as goal
 

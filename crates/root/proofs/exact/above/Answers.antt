@@ -1,6 +1,6 @@
 -- `root::exact::above` meets its contract, by `Halves`. Assumes nothing.
-use Rattle.std.proofs.Common.{◌/◌, ◌%◌, ◌^◌, arith, rules}
-use Rattle.root.proofs.Halves.{Bounds, bounds, by_halves}
+use Rattle.std.proofs.Common.{◌/◌, ◌%◌, ◌^◌, arith}
+use Rattle.root.proofs.Halves.{by_halves}
 use Rattle.root.proofs.exact.above.Goals as goal
 
 pub returns : goal.returns

@@ -1,6 +1,6 @@
 -- `root::exact::near` is safe: its patterns are no NaN's, and a number above zero is none. Assumes nothing.
-use Rattle.std.proofs.Common.{◌+◌, ◌*◌, ◌/◌, ◌^◌, arith, rules}
-use Rattle.binary64.specs.Tests.{above_no_nan, bits_number}
+use Rattle.std.proofs.Common.{◌+◌, ◌*◌, ◌/◌, ◌^◌, arith}
+use Rattle.binary64.specs.Tests.{bits_number}
 use Rattle.root.proofs.exact.near.Goals as goal
 
 pub float_from_bits-v : goal.float_from_bits-v

@@ -1,5 +1,5 @@
 -- `root::parts::normal` meets its contract, by `Scale`. Assumes nothing.
-use Rattle.std.proofs.Common.{arith, rules}
+use Rattle.std.proofs.Common.{arith}
 use Rattle.root.proofs.Scale.{normal_odd, normal_even}
 use Rattle.root.proofs.parts.normal.Goals as goal
 

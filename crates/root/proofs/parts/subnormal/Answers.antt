@@ -1,6 +1,5 @@
 -- `root::parts::subnormal` meets its contract, by `Scale`: n * 4 ^ y stays what it was. The measure is y. Assumes nothing.
-use Rattle.std.proofs.Common.{◌≡◌, ◌+◌, ◌*◌, ◌^◌, ◌≤◌, refl, ◌∙◌, arith, rules}
-use Rattle.root.specs.Parts.{four}
+use Rattle.std.proofs.Common.{◌≤◌, ◌∙◌, arith}
 use Rattle.root.proofs.Scale.{step, not_yet, subnormal_is}
 use Rattle.root.proofs.parts.subnormal.Goals as goal
 use Rattle.root.proofs.parts.subnormal.Goals.{In-loop-n}

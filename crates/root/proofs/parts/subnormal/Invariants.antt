@@ -1,7 +1,6 @@
 -- What stays so in the loop, and what goes down.
-use Rattle.std.proofs.Common.{◌≡◌, ◌+◌, ◌*◌, ◌^◌, ◌≤◌, refl, ◌∙◌, arith, rules}
+use Rattle.std.proofs.Common.{◌≡◌, ◌+◌, ◌*◌, ◌^◌, ◌≤◌}
 use Rattle.root.specs.Parts.{four}
-use Rattle.root.proofs.Scale.{step, not_yet, subnormal_is}
 use Rattle.root.proofs.parts.subnormal.Given as goal
 
 abbrev pub invariant-loop-n : goal.invariant-loop-n

@@ -1,5 +1,4 @@
 -- `before_end` meets its contract, case by case. Assumes nothing.
-use borrow.Author.Rules.{rules}
 use Rattle.spoken_parts.specs.Parts.{before_end}
 use Rattle.spoken_parts.proofs.parts.before_end.Goals as goal
 

@@ -1,6 +1,5 @@
 -- `found_part` meets its contract, part by part. Assumes nothing.
 use borrow.Author.Tests.{ne_eqb}
-use borrow.Author.Rules.{rules}
 use Rattle.spoken_parts.specs.Parts.{found_part}
 use Rattle.spoken_parts.proofs.parts.found_part.Goals as goal
 

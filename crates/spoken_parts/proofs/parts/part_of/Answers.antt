@@ -1,6 +1,5 @@
 -- `part_of` meets its contract: the last is the end. Assumes nothing.
 use borrow.Author.Tests.{eq-eqb, ne_eqb}
-use borrow.Author.Rules.{rules}
 use Rattle.spoken_parts.specs.Parts.{part_of}
 use Rattle.spoken_parts.proofs.parts.part_of.Goals as goal
 

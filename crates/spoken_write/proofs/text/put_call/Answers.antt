@@ -1,5 +1,4 @@
 -- `put_call` meets its contract, as the flag says. Assumes nothing.
-use borrow.Author.Rules.{rules}
 use Rattle.writing.specs.Written.{put_none}
 use Rattle.spoken_write.proofs.text.put_call.Goals as goal
 

@@ -1,5 +1,5 @@
 -- `put_given` meets its contract. The invariant: the first i bytes were written, as they are shown. Assumes nothing.
-use Prim.Native.Nat.{ℕ, ◌+◌, ◌-◌, ◌≤◌, ◌<◌, min}
+use Prim.Native.Nat.{ℕ, ◌+◌, ◌≤◌, ◌<◌, min}
 use mathlib.Core.Path.{◌≡◌, refl, ap, ◌∙◌, subst}
 use mathlib.Core.List.{List, [], ◌∷◌, ◌++◌}
 use native.Mathlib.Numerals.{add-one}
@@ -40,16 +40,16 @@ all {o} {out} line {at} {i} {n} e h k p =
 
 pub loop-i-init : goal.loop-i-init
 loop-i-init c =
-    (omega arith, refl, none_yet _ c.args.line.now _)
+    (refl, none_yet _ c.args.line.now _)
 
 pub loop-i-preserved : goal.loop-i-preserved
 loop-i-preserved c =
-    (omega arith, simp length-set c.loop-i.invariant.1, more _ (omega arith) c.shown.ensures c.loop-i.invariant.2)
+    (simp length-set c.loop-i.invariant.0, more _ (omega arith) c.shown.ensures c.loop-i.invariant.1)
 
 pub shape_of-out : goal.shape_of-out
 shape_of-out c =
-    simp length-set c.loop-i.invariant.1
+    simp length-set c.loop-i.invariant.0
 
 pub returns : goal.returns
 returns c =
-    all _ c.least-n.ensures.2 c.loop-i.invariant.0 c.loop-i-test.false c.loop-i.invariant.2
+    all _ c.least-n.ensures.2 (omega arith) (omega arith) c.loop-i.invariant.1

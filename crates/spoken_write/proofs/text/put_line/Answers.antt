@@ -1,5 +1,4 @@
 -- `put_line` meets its contract: it writes where there is room. Assumes nothing.
-use borrow.Author.Rules.{rules}
 use Rattle.writing.specs.Written.{there, tried_there, tried_lacking}
 use Rattle.spoken_write.proofs.text.put_line.Goals as goal
 

@@ -1,6 +1,5 @@
 -- `put_part` meets its contract, case by case. Assumes nothing.
 use native.Mathlib.Nat.{le_refl}
-use borrow.Author.Rules.{rules}
 use Rattle.phrases.specs.PieceLaws.{piece_length}
 use Rattle.spoken_parts.specs.Parts.{part_text, part_room}
 use Rattle.spoken_write.proofs.text.put_part.Goals as goal

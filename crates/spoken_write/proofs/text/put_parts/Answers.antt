@@ -1,5 +1,5 @@
 -- `put_parts` meets its contract. The invariant: the first i parts were written. Assumes nothing.
-use Prim.Native.Nat.{ℕ, ◌+◌, ◌-◌, ◌≤◌, ◌<◌}
+use Prim.Native.Nat.{ℕ, ◌+◌, ◌≤◌, ◌<◌}
 use mathlib.Core.Path.{◌≡◌, ap, ◌∙◌, subst}
 use mathlib.Core.List.{List}
 use native.Mathlib.Omega.{arith}
@@ -33,19 +33,17 @@ module _ (s : Said) (form : Form) {at : ℕ} {o : List ℕ} (room : at + longest
 
 pub loop-i-init : goal.loop-i-init
 loop-i-init c =
-    (omega arith, run_none _ _ _ _ _)
+    run_none _ _ _ _ _
 
 pub loop-i-preserved : goal.loop-i-preserved
-loop-i-preserved c = (
-  omega arith,
-  more c.args.said c.args.form c.requires _ c.loop-i-test.true c.part_of.ensures c.loop-i.invariant.1
-      (c.put_part-next.ensures.tried, c.put_part-next.ensures.part_len_bound),
-)
+loop-i-preserved c =
+    more c.args.said c.args.form c.requires _ (omega arith) c.part_of.ensures c.loop-i.invariant
+    (c.put_part-next.ensures.tried, c.put_part-next.ensures.part_len_bound)
 
 pub shape_of-out : goal.shape_of-out
 shape_of-out c =
-    put_length c.loop-i.invariant.1.put
+    put_length c.loop-i.invariant.put
 
 pub returns : goal.returns
 returns c =
-    all c.args.said c.args.form c.requires c.loop-i.invariant.0 c.loop-i-test.false c.loop-i.invariant.1
+    all c.args.said c.args.form c.requires (omega arith) (omega arith) c.loop-i.invariant

@@ -5,7 +5,6 @@ use mathlib.Core.Path.{◌≡◌, sym, ◌∙◌}
 use mathlib.Core.Bool.{true, false, cond}
 use mathlib.Core.List.{List, []}
 use native.Mathlib.Omega.{arith}
-use borrow.Author.Rules.{rules}
 use lib.ListN.{length}
 use Rattle.writing.specs.Written.{Put, there, tried_there, tried_lacking, put_more, put_length, put_none}
 use Rattle.spoken_parts.specs.Texts.{given_text, line_text, speaks, reply_text, longest_line, longest_reply}

@@ -2,7 +2,6 @@
 use Prim.Native.Nat.{ℕ, ◌-◌, min}
 use mathlib.Core.Path.{◌≡◌, subst}
 use mathlib.Core.List.{List}
-use borrow.Author.Rules.{rules}
 use lib.ListN.{length, take, drop}
 use Rattle.writing.specs.Written.{Tried}
 use Rattle.spoken_parts.specs.Held.{span_of}

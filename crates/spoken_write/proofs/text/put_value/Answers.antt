@@ -1,6 +1,5 @@
 -- `put_value` meets its contract: an argument is an f64, whose text is short. Assumes nothing.
 use mathlib.Core.Path.{sym, subst}
-use borrow.Author.Rules.{rules}
 use lib.Dec.{T}
 use Rattle.spoken_write.specs.Shown.{text_length}
 use Rattle.spoken_write.proofs.text.put_value.Goals as goal

@@ -3,7 +3,7 @@ use Prim.Native.Nat.{ℕ}
 use mathlib.Core.Path.{◌≡◌, sym, ◌∙◌, subst}
 use mathlib.Core.Bool.{Bool, true}
 use native.Mathlib.Omega.{arith}
-use Rattle.carlson.specs.declared.answer.Answer.{Answer}
+use Rattle.carlson.specs.Answer.{Answer}
 use Rattle.swing.specs.Period.{within, period_of, swing_numbers}
 use Rattle.carlson.specs.Only.{Only, Finite}
 use Rattle.swing.specs.Ranges.{From1}

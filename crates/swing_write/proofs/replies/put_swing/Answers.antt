@@ -4,7 +4,7 @@ use mathlib.Core.Path.{◌≡◌, sym, subst}
 use mathlib.Core.List.{List}
 use borrow.Author.Rules.{rules}
 use Rattle.writing.specs.Written.{Put, there, tried_there, tried_lacking}
-use Rattle.carlson.specs.declared.answer.Answer.{Answer}
+use Rattle.carlson.specs.Answer.{Answer}
 use Rattle.swing.specs.Period.{period_of}
 use Rattle.swing.specs.Bounded.{Bounded}
 use Rattle.swing.proofs.Bounded.{period_bounded}

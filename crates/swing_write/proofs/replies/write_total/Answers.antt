@@ -1,16 +1,16 @@
 -- `write_total` meets its contract, case by case. Assumes nothing.
 use native.Mathlib.Omega.{arith}
 use borrow.Author.Rules.{rules}
-use Rattle.writing.specs.Written.{put_length}
+use Rattle.std.proofs.Common.{sym}
 use Rattle.swing_write.specs.Replies.{total_text}
 use Rattle.swing_write.proofs.replies.write_total.Goals as goal
 
-pub returns-in-Total : goal.returns-in-Total
+pub returns-in-Ok : goal.returns-in-Ok
 unfolding total_text
-returns-in-Total c =
-    rw c.in-Total.is c.put_number.ensures
+returns-in-Ok c =
+    rw c.in-Ok.is c.put_number.ensures
 
-pub returns-in-Refused : goal.returns-in-Refused
+pub returns-in-Err : goal.returns-in-Err
 unfolding total_text
-returns-in-Refused c =
-    rw c.in-Refused.is c.put_refused.ensures
+returns-in-Err c =
+    rw (c.in-Err.is, sym c.number.ensures) c.put_refused.ensures

@@ -1,5 +1,4 @@
 -- `judged` meets its contract, case by case as the definition. Assumes nothing.
-use borrow.Author.Rules.{rules}
 use Rattle.claim.specs.Rows.{row_after}
 use Rattle.table.proofs.judge.judged.Goals as goal
 

@@ -1,14 +1,14 @@
--- Answers.
+-- `counted_of` meets its contract, case by case. Assumes nothing.
 use Rattle.tally.specs.Tally.{counted_of}
 use Rattle.std.proofs.Common.{sym, rules}
 use Rattle.tally.proofs.counted.counted_of.Goals as goal
 
-pub returns-in-Value : goal.returns-in-Value
+pub returns-in-Ok : goal.returns-in-Ok
 unfolding counted_of
-returns-in-Value c =
-    rw (c.in-Value.is, sym c.split.ensures)
+returns-in-Ok c =
+    rw (c.in-Ok.is, sym c.split.ensures)
 
-pub returns-in-Refused : goal.returns-in-Refused
+pub returns-in-Err : goal.returns-in-Err
 unfolding counted_of
-returns-in-Refused c =
-    rw c.in-Refused.is
+returns-in-Err c =
+    rw (c.in-Err.is, sym c.number.ensures)

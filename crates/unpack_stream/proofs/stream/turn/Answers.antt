@@ -1,4 +1,5 @@
 -- `turn` meets its contract: a byte is taken, or a job's bytes at once. Assumes nothing.
+use Rattle.std.specs.Prelude.{Option, Some, None, Ok}
 use Prim.Native.Nat.{ℕ, suc, ◌+◌, ◌-◌, ◌≤◌, ◌<◌}
 use mathlib.Core.Path.{◌≡◌, refl, sym, ap, ◌∙◌}
 use mathlib.Core.Bool.{Bool, true, false, cond}
@@ -15,11 +16,10 @@ use Rattle.packed_number.specs.NumberLaws.{Bytes}
 use Rattle.packed_number.proofs.NumberLaws.{bytes_drop}
 use Rattle.packed.specs.JobLaws.{Is, read_is}
 use Rattle.packed.specs.declared.read.Got.{Got}
-use Rattle.packed.specs.declared.read.Read.TheVariants.{Found, Nothing}
 use Rattle.writing.specs.FedLaws.{run_one}
 use Rattle.writing.specs.Written.{Put}
 use Rattle.unpack_stream.specs.Text.{job_text}
-use Rattle.unpack_stream.specs.Unpack.{holding, unpack_byte, ahead_at, held_length, Unpacks, Turns}
+use Rattle.unpack_stream.specs.Unpack.{ended, holding, unpack_byte, ahead_at, held_length, Unpacks, Turns}
 use Rattle.unpack_stream.specs.WholeLaws.{bytes_front, job_run}
 use Rattle.unpack_stream.specs.declared.stream.Progress.{Progress}
 use Rattle.unpack_stream.proofs.stream.turn.Goals as goal
@@ -38,7 +38,7 @@ steps bytes held after before out i at r h f few = record {
   later = omega arith;
   inside = omega arith;
   few = few;
-  fed = rw (one_byte bytes i h, run_one unpack_byte (λ s. s.ended) (holding held) (get_or bytes i 0) refl) f;
+  fed = rw (one_byte bytes i h, run_one unpack_byte ended (holding held) (get_or bytes i 0) refl) f;
 }
 
 -- ---- a job
@@ -46,15 +46,17 @@ bytes_all : (l : List ℕ) → ((k : ℕ) → get_or l k 0 < 256) → Bytes l
 bytes_all [] h = tt
 bytes_all (b ∷ l) h = (h 0, bytes_all l (λ k. h (suc k)))
 
-is-ahead : (bytes : List ℕ) (i n : ℕ) (got : Got) → ahead_at bytes i n ≡ Found got → (n ≡ 0) × (read_at bytes i ≡ Found got)
+is-ahead : (bytes : List ℕ) (i n : ℕ) (got : Got) → ahead_at bytes i n ≡ Ok (Some got)
+    → (n ≡ 0) × (read_at bytes i ≡ Ok (Some got))
 unfolding ahead_at
 is-ahead bytes i n got = go (eqb n 0) refl
   where
-    go : (t : Bool) → eqb n 0 ≡ t → cond t (read_at bytes i) Nothing ≡ Found got → (n ≡ 0) × (read_at bytes i ≡ Found got)
+    go : (t : Bool) → eqb n 0 ≡ t → cond t (read_at bytes i) (Ok None) ≡ Ok (Some got)
+        → (n ≡ 0) × (read_at bytes i ≡ Ok (Some got))
     go true e f = (eqb-true n 0 e, f)
     go false e f = let z : ◌≡◌ {A = ℕ} 0 1 = cc in absurd (omega arith)
 
-module _ (bytes : List ℕ) (i n : ℕ) (got : Got) (good : (k : ℕ) → get_or bytes k 0 < 256) (e : ahead_at bytes i n ≡ Found got)
+module _ (bytes : List ℕ) (i n : ℕ) (got : Got) (good : (k : ℕ) → get_or bytes k 0 < 256) (e : ahead_at bytes i n ≡ Ok (Some got))
   where
     is : (i < length bytes) × Is bytes i got
     is = read_is bytes i (bytes_all bytes good) got (is-ahead bytes i n got e).1
@@ -76,7 +78,7 @@ module _ (bytes : List ℕ) (i n : ℕ) (got : Got) (good : (k : ℕ) → get_or
     leaps : (held after before out : List ℕ) (at next : ℕ) → Put before at (job_text got.job) out next
         → Turns bytes i (take n held) after before at out
         (record {
-          fed = record { held = 0; used = next; taken = got.next - i; ended = false; stop = 0 };
+          fed = record { held = 0; used = next; taken = got.next - i; stop = None };
           next = got.next;
         })
     leaps held after before out at next p =
@@ -102,8 +104,13 @@ returns-in_default c =
 
 pub overflow_sub-result : goal.overflow_sub-result
 overflow_sub-result c =
-    omega (arith, (long _ _ _ _ (good (goal.at.overflow_sub-result c).After-ahead) (sym c.ahead.ensures ∙ c.in-Found.is)).0)
+    omega (
+      arith,
+      (long _ _ _ _ (good (goal.at.overflow_sub-result c).After-ahead)
+          (sym c.ahead.ensures ∙ c.in-Ok-Some.is ∙ ap (λ (o : Option Got). Ok o) c.in-Ok-Some.field-0-is)).0,
+    )
 
 pub returns : goal.returns
 returns c =
-    leaps _ _ _ _ (good (goal.at.returns c).After-ahead) (sym c.ahead.ensures ∙ c.in-Found.is) _ _ _ _ _ _ c.put_job_text.ensures
+    leaps _ _ _ _ (good (goal.at.returns c).After-ahead)
+    (sym c.ahead.ensures ∙ c.in-Ok-Some.is ∙ ap (λ (o : Option Got). Ok o) c.in-Ok-Some.field-0-is) _ _ _ _ _ _ c.put_job_text.ensures

@@ -1,17 +1,16 @@
 -- `write_words` meets its contract: it hands out what `write_job` answers. Assumes nothing.
-use mathlib.Core.Path.{sym, ◌∙◌}
-use borrow.Author.Rules.{rules}
+use mathlib.Core.Path.{sym}
 use Rattle.worklist.specs.Words.{job_of, written_number, written_place}
 use Rattle.worklist.proofs.words.write_words.Goals as goal
 
-pub returns-in-Next : goal.returns-in-Next
+pub returns-in-Ok : goal.returns-in-Ok
 unfolding job_of written_number written_place
-returns-in-Next c =
-    let e = sym c.write_job.ensures.value ∙ c.in-Next.is in
-    record { number_is = rw e; place_is = rw e; bytes_are = rw (sym c.write_job.ensures.value) c.write_job.ensures.bytes_after }
+returns-in-Ok c =
+    let e = sym c.in-Ok.ensures.value in
+    record { number_is = rw e; place_is = rw e; bytes_are = rw e c.in-Ok.ensures.bytes_after }
 
-pub returns-in-Refused : goal.returns-in-Refused
+pub returns-in-Err : goal.returns-in-Err
 unfolding job_of written_number written_place
-returns-in-Refused c =
-    let e = sym c.write_job.ensures.value ∙ c.in-Refused.is in
-    record { number_is = rw e; place_is = rw e; bytes_are = rw (sym c.write_job.ensures.value) c.write_job.ensures.bytes_after }
+returns-in-Err c =
+    let e = sym c.in-Err.ensures.value in
+    record { number_is = rw e c.number.ensures; place_is = rw e; bytes_are = rw e c.in-Err.ensures.bytes_after }

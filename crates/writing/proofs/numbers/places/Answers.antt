@@ -23,17 +23,17 @@ pub returns-then-rest-lt10 : goal.returns-then-rest-lt10
 returns-then-rest-lt10 c =
     let l = c.loop-k in
     let m = c.args.more in
-    omega (arith, l.invariant.1, ends (m - l.k) (m - (l.k + 1)) l.rest (omega arith) c.if-rest-lt10.true)
+    omega (arith, l.invariant, ends (m - l.k) (m - (l.k + 1)) l.rest (omega arith) c.if-rest-lt10.true)
 
 pub loop-k-preserved : goal.loop-k-preserved
 loop-k-preserved c =
     let l = c.loop-k in
     let m = c.args.more in
     let e = goes_on (m - l.k) (m - (l.k + 1)) l.rest (omega arith) c.if-rest-lt10.false in
-    (omega arith, omega (arith, l.invariant.1, e))
+    omega (arith, l.invariant, e)
 
 pub returns : goal.returns
 returns c =
     let l = c.loop-k in
     let m = c.args.more in
-    omega (arith, l.invariant.1, spent (m - l.k) l.rest (omega arith))
+    omega (arith, l.invariant, spent (m - l.k) l.rest (omega arith))

@@ -1,18 +1,16 @@
 -- `put_decimal` meets its contract: so many more digits than one are never passed. Assumes nothing.
 use Prim.Native.Nat.{ℕ, suc, ◌+◌, ◌≤◌}
-use mathlib.Core.Path.{◌≡◌, refl, sym}
+use mathlib.Core.Path.{◌≡◌}
 use mathlib.Core.Bool.{Bool}
 use mathlib.Core.List.{List}
 use native.Mathlib.Numerals.{add-one}
 use native.Mathlib.Omega.{arith}
-use borrow.Author.Rules.{rules}
-use borrow.Author.Tests.{lt-leb}
 use lib.Dec.{leb}
 use lib.ListN.{length}
 use Rattle.digits.specs.Digits.{digits}
 use Rattle.writing.specs.Decimal.{places_of, decimal}
 use Rattle.writing.specs.Places.{places_most}
-use Rattle.writing.specs.Written.{Put, there, tried_there, tried_lacking}
+use Rattle.writing.specs.Written.{Put, there, tried_there}
 use Rattle.writing.proofs.numbers.put_decimal.Goals as goal
 
 spelled : (n k more : ℕ) {o out : List ℕ} {at next : ℕ} → k ≡ places_of more n → Put o at (digits 10 k n) out next

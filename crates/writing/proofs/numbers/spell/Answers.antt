@@ -1,10 +1,9 @@
 -- `spell` meets its contract. The invariant: what is left of the loop writes what the whole loop writes. Assumes nothing.
 use Prim.Native.Nat.{ℕ, zero, suc, ◌+◌, ◌-◌, ◌/◌, ◌%◌, ◌≤◌}
 use mathlib.Core.Path.{◌≡◌, refl, sym, ap, ◌∙◌}
-use mathlib.Core.List.{List, []}
+use mathlib.Core.List.{List}
 use native.Mathlib.Omega.{arith}
-use native.Mathlib.Nat.{mod-lt}
-use lib.ListN.{length, set, length-set}
+use lib.ListN.{set, length-set}
 use lib.Seq.{sets}
 use Rattle.digits.specs.Digits.{glyph_of, digits}
 use Rattle.digits.proofs.DigitLaws.{digits_length}
@@ -35,10 +34,9 @@ pub loop-i-preserved : goal.loop-i-preserved
 loop-i-preserved c =
     let l = c.loop-i in
     let a = c.args in (
-      omega arith,
-      simp length-set l.invariant.1,
+      simp length-set l.invariant.0,
       store a.base l.i (l.i - 1) l.rest l.out a.at c.glyph.result (omega arith)
-          c.glyph.ensures ∙ l.invariant.2,
+          c.glyph.ensures ∙ l.invariant.1,
     )
 
 pub returns : goal.returns
@@ -47,7 +45,7 @@ returns c =
     let a = c.args in
     record {
       bytes =
-          sym (none_left a.base l.i l.rest l.out a.at c.loop-i-test.false) ∙ l.invariant.2
+          sym (none_left a.base l.i l.rest l.out a.at c.loop-i-test.false) ∙ l.invariant.1
           ∙ written a.base a.k a.n a.out.now a.at;
       place = rw digits_length;
     }

@@ -1,6 +1,5 @@
 -- `push` meets its contract. Assumes nothing.
 use mathlib.Core.Path.{refl, sym}
-use borrow.Author.Rules.{rules}
 use borrow.Author.Tests.{lt-ltb, le-ltb}
 use lib.Seq.{set_out}
 use Rattle.writing.specs.Written.{pushed}

@@ -1,9 +1,0 @@
--- `times_fed` meets its contract, step by step as its definition. Assumes nothing.
-use mathlib.Core.Path.{sym}
-use Rattle.bench_read.specs.Rows.{times_fed}
-use Rattle.bench_read.proofs.rows.times_fed.Goals as goal
-
-pub returns : goal.returns
-unfolding times_fed
-returns c =
-    rw (sym c.measure.ensures)

@@ -1,5 +1,0 @@
--- The measure is the number of turns that are left.
-use Rattle.report_run.proofs.report_all.Given as goal
-
-abbrev pub decreases-loop-turns : goal.decreases-loop-turns
-decreases-loop-turns l = l.turns
