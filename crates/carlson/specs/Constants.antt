@@ -1,5 +1,5 @@
--- The constants of the Rust and of document 01 by their bits, and document 01's numbers for no. (Those that are what a formula
--- says are in the crate `derived`.) Definitions only.
+-- The constants of the Rust and of document 01 by their bits. (Those that are what a formula says are in the crate `derived`.)
+-- Definitions only.
 use Rattle.std.specs.Prelude.{ℕ, Float}
 use Rattle.binary64.specs.Operators.{bits}
 

@@ -38,5 +38,7 @@ cel_unsettled kc p a b =
 unfoldable pub cel_settled : Found → Float → Float → Float → Float → Answer
 cel_settled f kc p a b = cond (finite f.value) (Ok f) (cel_unsettled kc p a b)
 
+-- ---- the entry: "4 for kc or p zero, steps; a finite result stands; else 1, then more than one infinite argument, then kc or p
+-- infinite gives 0, then a or b infinite, then 6"; the arguments are tested as given
 unfoldable pub cel : Float → Float → Float → Float → Answer
 cel kc p a b = cond (eq kc zero || eq p zero) (Err ZeroGiven) (cel_settled (cel_steps kc p a b) kc p a b)

@@ -30,7 +30,7 @@ pub fn rest(text: &[u8], n: usize) -> &[u8]
 }
 
 // A value's pattern: sixteen digits.
-#[tactic(auto, unfolding(crate::specs::Line::value_of))]
+#[tactic(auto, unfolding(crate::specs::Line::value_of, digits::specs::Digits::number_of))]
 pub fn value(field: &[u8]) -> Option<u64>
     ensures { result ≡ value_of field.now }
 {
@@ -41,7 +41,7 @@ pub fn value(field: &[u8]) -> Option<u64>
 }
 
 // A refusal's number: up to ten decimal digits.
-#[tactic(auto, unfolding(crate::specs::Line::count_of))]
+#[tactic(auto, unfolding(crate::specs::Line::count_of, digits::specs::Digits::number_of))]
 pub fn count(field: &[u8]) -> Option<u64>
     ensures { result ≡ count_of field.now }
 {

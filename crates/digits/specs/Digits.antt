@@ -1,5 +1,5 @@
 -- Numbers as digits in a base up to 16, upper case: how they are written and how they are read. Definitions only.
-use Rattle.std.specs.Prelude.{ℕ, zero, suc, ◌+◌, ◌-◌, ◌*◌, ◌/◌, ◌%◌, cond, Option, Some, None, List, [], ◌∷◌, ◌++◌, ltb}
+use Rattle.std.specs.Prelude.{ℕ, zero, suc, ◌+◌, ◌-◌, ◌*◌, ◌/◌, ◌%◌, cond, Option, Some, None, List, [], ◌∷◌, ◌++◌, ltb, leb, ◌&&◌, length}
 
 -- the byte of a digit below 16: `0` to `9`, then `A` to `F`
 unfoldable pub glyph_of : ℕ → ℕ
@@ -18,6 +18,10 @@ digits base (suc k) n = digits base k (n / base) ++ (glyph_of (n % base) ∷ [])
 unfoldable pub number_from : ℕ → ℕ → List ℕ → Option ℕ
 number_from base v [] = Some v
 number_from base v (b ∷ bs) = cond (ltb (digit_of b) base) (number_from base (v * base + digit_of b) bs) None
+
+-- of at most sixteen bytes, whose digits fill a word, in a base from 2 to 16; none of any other
+unfoldable pub number_of : ℕ → List ℕ → Option ℕ
+number_of base bs = cond (leb (length bs) 16 && (ltb 1 base && leb base 16)) (number_from base 0 bs) None
 
 -- a word as the listing has it: a blank and the pattern's sixteen digits
 unfoldable pub word_text : ℕ → List ℕ

@@ -2,7 +2,7 @@
 #![tactic(auto)]
 
 ghost use Rattle.std.specs.Prelude.{◌≡◌, ◌<◌, ◌≤◌, length};
-ghost use Rattle.digits.specs.Digits.{digit_of, number_from};
+ghost use Rattle.digits.specs.Digits.{digit_of, number_from, number_of};
 
 // No digit, in any base: not below one, so that one comparison tells a digit of a base from every other byte.
 const NONE: u64 = 16;
@@ -20,7 +20,7 @@ pub fn digit(b: u8) -> u64
 }
 
 // The number that these digits are, if digits is what they are: sixteen fill a word.
-pub fn number(text: &[u8], base: u64) -> Option<u64>
+fn held(text: &[u8], base: u64) -> Option<u64>
     requires text_len { length text.now ≤ 16 }
     requires base_within { (1 < base) × (base ≤ 16) }
     ensures { result ≡ number_from base 0 text.now }
@@ -34,4 +34,15 @@ pub fn number(text: &[u8], base: u64) -> Option<u64>
         value = value * base + d;
     }
     Some(value)
+}
+
+// The same of any text: none of more than sixteen bytes, and none in a base that is not from 2 to 16.
+#[tactic(auto, unfolding(crate::specs::Digits::number_of))]
+pub fn number(text: &[u8], base: u64) -> Option<u64>
+    ensures { result ≡ number_of base text.now }
+{
+    if text.len() <= 16 && 1 < base && base <= 16 {
+        return held(text, base);
+    }
+    None
 }

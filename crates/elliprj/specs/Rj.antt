@@ -20,6 +20,7 @@ rj_rest x y z p =
     (cond (zeros_of3 x y z) (Err Zeros)
     (cond (any_infinite4 x y z p) infinite_at (rj_settled (rj_unchecked x y z p))))
 
+-- ---- document 02, 2026-10: "each makes the old checks in the old order, p of the wrong sign being refused straight after 4"
 unfoldable pub rj_signed : Bool → Float → Float → Float → Float → Answer
 rj_signed wrong x y z p =
     cond (any_nan4 x y z p) (Err NanGiven)

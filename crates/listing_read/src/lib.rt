@@ -23,7 +23,7 @@ const LONG_FOUR: usize = 3 + 4 * ARGUMENT;
 pub const LONGEST: usize = LONG_FOUR;
 
 // The argument whose blank stands at `at`.
-#[tactic(auto, unfolding(crate::specs::Lines::word_at))]
+#[tactic(auto, unfolding(crate::specs::Lines::word_at, digits::specs::Digits::number_of))]
 fn argument(line: &[u8], at: usize) -> Option<u64>
     requires { at + argument_length ≤ length line.now }
     ensures { result ≡ word_at line.now at }

@@ -15,7 +15,7 @@ use Rattle.elliprd.specs.Rd.{rd}
 use Rattle.elliprg.specs.Rg.{rg}
 use Rattle.elliprj.specs.Rj.{rj_of_positive}
 
--- ---- past the zeros' signs: "the base ones first where they rest on arguments alone (1 to 5, in the base order, 1 where NaN is
+-- ---- "23 size outside the profile, infinities included"; past the zeros' signs: "the base ones first where they rest on arguments alone (1 to 5, in the base order, 1 where NaN is
 -- present and none came earlier), then 23", then the base entry, at the arguments in order
 -- RC: 2, 4, 1, 23
 unfoldable pub rc_plain : Float → Float → Answer

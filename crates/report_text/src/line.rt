@@ -5,10 +5,9 @@ ghost use Rattle.writing.specs.Written.{Put, Tried};
 ghost use Rattle.report_text.specs.Text.{slot_line, slot_room, sign_text, exact_line, exact_room, sum_line, sum_room};
 
 use crate::hex::put_hex;
-use crate::word::put_key;
+use crate::word::{put_key, put_name};
 use binary64::split;
 use exact::{below_zero, rounded, size_into};
-use unpack_stream::put_name;
 use writing::{has_room, put_decimal, put_text, put_word};
 
 const SLOT: usize = 35;

@@ -1,13 +1,28 @@
-// A line's words: what its number is called.
+// A line's words: the function's name, and what its number is called.
 ghost use Rattle.std.specs.Prelude.{◌+◌, ◌≤◌, length};
 ghost use Rattle.writing.specs.Written.{Put};
+ghost use Rattle.unpack_stream.specs.Text.{name_text};
 ghost use Rattle.report_text.specs.Text.{slot_key, refused_key};
 
+use unpack_stream::letter;
 use writing::{put_decimal, put_text};
 
 const LAST: usize = 27; // the largest number that is tallied
 
 const ROUNDS: usize = 28;
+
+// The function's name. (`unpack_stream` has the same: one for both would ask another crate for room.)
+pub fn put_name(function: u64, out: &mut [u8], at: usize) -> usize
+    requires { at + 3 ≤ length out.old }
+    ensures { Put out.old at (name_text function) out.new result }
+{
+    if function == 6 {
+        return put_text(b"CEL", out, at);
+    }
+    out[at] = b'R';
+    out[at + 1] = letter(function);
+    at + 2
+}
 
 fn put_refused(number: u64, out: &mut [u8], at: usize) -> usize
     requires { at + 12 ≤ length out.old }

@@ -3,6 +3,7 @@
 use Rattle.std.specs.Prelude.{ℕ, Bool, cond, List, eqb, length, Float}
 use Rattle.std.specs.Float.{binary64}
 use Rattle.std.specs.Float.Ieee.{to_bits}
+use Rattle.refusals.specs.Numbers.{refusal_number}
 use Rattle.carlson.specs.declared.answer.Road.{Road}
 use Rattle.carlson.specs.declared.answer.Road.TheVariants.{Closed, Infinite, Agm, Duplication, Joint, Taylor, Reduction, Loop}
 use Rattle.carlson.specs.declared.answer.Found.{Found}
@@ -157,7 +158,7 @@ before_end Nothing form i = nothing_part
 before_end Heading form i = heading_part form.hex i
 before_end (Valued f) form i = found_part f form i
 before_end (Leaf x) form i = leaf_part x form i
-before_end (Refused n) form i = refused_part n form i
+before_end (Refused r) form i = refused_part (refusal_number r) form i
 before_end (NoCall b) form i = bad_part b form i
 
 unfoldable pub part_of : Said → Form → ℕ → Part

@@ -3,6 +3,7 @@
 use Rattle.std.specs.Prelude.{ℕ, Bool, true, false, cond, List, [], ◌∷◌, ◌++◌, eqb, take, Float}
 use Rattle.std.specs.Float.{binary64}
 use Rattle.std.specs.Float.Ieee.{to_bits}
+use Rattle.refusals.specs.Numbers.{refusal_number}
 use Rattle.digits.specs.Digits.{digits}
 use Rattle.writing.specs.Decimal.{decimal}
 use Rattle.carlson.specs.declared.answer.Road.{Road}
@@ -120,7 +121,7 @@ said_text Nothing form = []
 said_text Heading form = heading_text form
 said_text (Value f) form = found_text f form
 said_text (Leaf x) form = leaf_text x form
-said_text (Refused n) form = refused_text n form
+said_text (Refused r) form = refused_text (refusal_number r) form
 said_text (NoCall b) form = no_call_text b form
 
 unfoldable pub line_text : Said → Form → List ℕ
@@ -144,7 +145,7 @@ speaks Nothing = false
 speaks Heading = true
 speaks (Value f) = true
 speaks (Leaf x) = true
-speaks (Refused n) = true
+speaks (Refused r) = true
 speaks (NoCall b) = true
 
 unfoldable pub reply_text : Said → Form → List ℕ → List ℕ

@@ -1,5 +1,6 @@
 // Which part of a line comes next, as a function of numbers: the words are named by their places in the text of `text.rt`.
 ghost use Rattle.std.specs.Prelude.{◌≡◌};
+ghost use Rattle.refusals.specs.Numbers.{refusal_number};
 ghost use Rattle.spoken_parts.specs.Parts.{
   bad_end,
   bad_number,
@@ -30,6 +31,7 @@ use crate::said::{Bad, Form, Said};
 use binary64::split;
 use carlson::answer::{Found, Road};
 use phrases::Piece;
+use refusals::Refusal;
 
 #[derive(Clone, Copy)]
 pub enum Part {
@@ -109,24 +111,36 @@ fn road_words(road: Road) -> Part
 }
 
 // docs/REFUSALS.md's words, shortened: what an entry can refuse for.
-fn reason(number: u32) -> Part
-    ensures { result ≡ reason_part number }
+#[tactic(auto, unfolding(crate::specs::Parts::reason_part))]
+fn reason(refusal: Refusal) -> Part
+    ensures { result ≡ reason_part (refusal_number refusal) }
 {
-    match number {
-        1 => Part::Words(52, 72), // an argument is NaN
-        2 => Part::Words(72, 99), // an argument is below zero
-        3 => Part::Words(99, 115), // too many zeros
-        4 => Part::Words(115, 140), // a zero that must not be
-        5 => Part::Words(140, 164), // RD's z is zero or less
-        6 => Part::Words(164, 182), // no finite result
-        7 => Part::Words(164, 182), // no finite result
-        8 => Part::Words(164, 182), // no finite result
-        9 => Part::Words(182, 211), // the mean's rounds are spent
-        10 => Part::Words(211, 235), // a fifth nested RJ call
-        19 => Part::Words(235, 263), // several infinite arguments
-        20 => Part::Words(263, 283), // a or b is infinite
-        21 => Part::Words(283, 300), // wrong sign of p
-        _ => nothing(),
+    match refusal {
+        Refusal::NanGiven => Part::Words(52, 72), // an argument is NaN
+        Refusal::BelowZero => Part::Words(72, 99), // an argument is below zero
+        Refusal::Zeros => Part::Words(99, 115), // too many zeros
+        Refusal::ZeroGiven => Part::Words(115, 140), // a zero that must not be
+        Refusal::ZNotAbove => Part::Words(140, 164), // RD's z is zero or less
+        Refusal::NoResult | Refusal::RcNoResult | Refusal::RgNoResult => Part::Words(164, 182), // no finite result
+        Refusal::AgmSpent => Part::Words(182, 211), // the mean's rounds are spent
+        Refusal::TooDeep => Part::Words(211, 235), // a fifth nested RJ call
+        Refusal::SeveralInfinite => Part::Words(235, 263), // several infinite arguments
+        Refusal::AOrBInfinite => Part::Words(263, 283), // a or b is infinite
+        Refusal::WrongSign => Part::Words(283, 300), // wrong sign of p
+        // no entry says these
+        Refusal::OutOfRange
+        | Refusal::Height
+        | Refusal::SumTooLarge
+        | Refusal::ListCut
+        | Refusal::NumberBad
+        | Refusal::UnknownFunction
+        | Refusal::NoRoom
+        | Refusal::TooMany
+        | Refusal::NumbersDiffer
+        | Refusal::OutsideProfile
+        | Refusal::Amplitude
+        | Refusal::TooLarge
+        | Refusal::NoNumber => nothing(),
     }
 }
 
@@ -199,12 +213,12 @@ fn leaf_part(value: f64, form: Form, i: u64) -> Part
 }
 
 #[tactic(auto, unfolding(crate::specs::Parts::refused_part))]
-fn refused_part(refusal: u32, form: Form, i: u64) -> Part
-    ensures { result ≡ refused_part refusal form i }
+fn refused_part(refusal: Refusal, form: Form, i: u64) -> Part
+    ensures { result ≡ refused_part (refusal_number refusal) form i }
 {
     match i {
         0 => empty_cells(form.table, 479, 487), // refused
-        1 => number(refusal as u64),
+        1 => number(refusal.number() as u64),
         2 => reason(refusal),
         3 => if_hex(form.hex),
         _ => nothing(),

@@ -3,6 +3,7 @@ ghost use Rattle.std.specs.Prelude.{◌≡◌};
 ghost use Rattle.spoken_parts.specs.Texts.{speaks};
 
 use carlson::answer::Found;
+use refusals::Refusal;
 
 // The argument `table` asks for rows, `hex` for rows with the values' bits; without one a line is for people.
 #[derive(Clone, Copy)]
@@ -31,7 +32,7 @@ pub enum Said {
     Value(Found),
     // a leaf's
     Leaf(f64),
-    Refused(u32),
+    Refused(Refusal),
     Bad(Bad),
 }
 

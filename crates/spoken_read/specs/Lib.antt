@@ -3,3 +3,4 @@ pub mod Numbers
 pub mod Lines
 pub mod WordLaws
 pub mod NumberLaws
+pub mod LineLaws

@@ -5,7 +5,6 @@ use Rattle.root.specs.Root.{root}
 use Rattle.series.specs.Atan.{atan}
 use Rattle.series.specs.Ln.{ln}
 use Rattle.series.specs.Ln1p.{ln_1p}
-use Rattle.refusals.specs.Numbers.{refusal_number}
 use Rattle.carlson.specs.Answer.{Answer}
 use Rattle.calls.specs.declared.Call.{Call}
 use Rattle.calls.specs.declared.Call.TheVariants.{Rc as CallRc, Rf as CallRf, Rd as CallRd}
@@ -66,7 +65,7 @@ wants_of Atan = 1
 -- ---- the answer
 abbrev pub said_of : Answer → Said
 said_of (Ok f) = Value f
-said_of (Err r) = Refused (refusal_number r)
+said_of (Err r) = Refused r
 
 unfoldable pub entry_of : Call → Said
 entry_of call = said_of (answer_of call)

@@ -106,7 +106,7 @@ fn entry(call: Call) -> Said
 {
     match answer_of(call) {
         Ok(found) => Said::Value(found),
-        Err(refusal) => Said::Refused(refusal.number()),
+        Err(refusal) => Said::Refused(refusal),
     }
 }
 

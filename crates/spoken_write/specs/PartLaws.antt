@@ -2,6 +2,8 @@
 use Rattle.std.specs.Prelude.{ℕ, ◌+◌, ◌≤◌, ◌≡◌, Bool, true, false, cond, eqb, leb, length, Float}
 use Rattle.std.proofs.Math.Path.{refl}
 use Rattle.std.proofs.Common.{ap, arith, leb-true}
+use Rattle.refusals.specs.Numbers.{refusal_number}
+use Rattle.refusals.specs.declared.Refusal.{Refusal}
 use mathlib.Core.List.{List, [], ◌∷◌, ◌++◌, append-nil, append_assoc}
 use Rattle.writing.specs.Decimal.{decimal}
 use Rattle.carlson.specs.declared.answer.Road.{Road}
@@ -179,9 +181,9 @@ module _ (form : Form) where
   unfolding run_to part_of before_end leaf_part part_text piece_text span_of line_text said_text leaf_text
   leaf_is x = rw (no_cells.is, (tab form.hex).is, (bits form.hex x).is) (simp (append-nil, append_assoc) refl)
 
-  refused_is : (n : ℕ) → run_to part_text (part_of (Refused n) form) 11 ≡ line_text (Refused n) form
+  refused_is : (r : Refusal) → run_to part_text (part_of (Refused r) form) 11 ≡ line_text (Refused r) form
   unfolding run_to part_of before_end refused_part part_text piece_text span_of line_text said_text refused_text
-  refused_is n = rw (refused_cells.is, (reason n).is, (tab form.hex).is) (simp (append-nil, append_assoc) refl)
+  refused_is r = rw (refused_cells.is, (reason (refusal_number r)).is, (tab form.hex).is) (simp (append-nil, append_assoc) refl)
 
   no_call_is : (b : Bad) → run_to part_text (part_of (NoCall b) form) 11 ≡ line_text (NoCall b) form
   unfolding run_to part_of before_end bad_part part_text span_of line_text said_text no_call_text
@@ -199,7 +201,7 @@ parts_are Nothing form = unfold run_to part_of before_end part_text span_of line
 parts_are Heading form = heading_is form.table form.hex
 parts_are (Value f) form = found_is form f
 parts_are (Leaf x) form = leaf_is form x
-parts_are (Refused n) form = refused_is form n
+parts_are (Refused r) form = refused_is form r
 parts_are (NoCall b) form = no_call_is form b
 
 -- THE LAW: the parts have room
@@ -220,5 +222,5 @@ parts_fit (Value f) form =
       (bits form.hex f.value).most,
     )
 parts_fit (Leaf x) form = omega (arith, (no_cells form).most, (tab form.hex).most, (bits form.hex x).most)
-parts_fit (Refused n) form = omega (arith, (refused_cells form).most, (reason n).most, (tab form.hex).most)
+parts_fit (Refused r) form = omega (arith, (refused_cells form).most, (reason (refusal_number r)).most, (tab form.hex).most)
 parts_fit (NoCall b) form = omega (arith, (no_cells form).most, why_room b, (tab form.hex).most)

@@ -5,4 +5,4 @@ mod stream;
 mod text;
 
 pub use crate::stream::{BLOCK, HELD, Progress, feed, left_over};
-pub use crate::text::{letter, put_name};
+pub use crate::text::letter;

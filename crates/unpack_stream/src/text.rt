@@ -33,7 +33,7 @@ fn put_argument(job: Job, k: usize, out: &mut [u8], at: usize) -> usize
 }
 
 // The function's name.
-pub fn put_name(function: u64, out: &mut [u8], at: usize) -> usize
+fn put_name(function: u64, out: &mut [u8], at: usize) -> usize
     requires { at + 3 ≤ length out.old }
     ensures { Put out.old at (name_text function) out.new result }
 {

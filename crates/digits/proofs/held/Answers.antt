@@ -1,9 +1,9 @@
--- `number` meets its contract: the digits that are left, after the number so far, give what all give. Assumes nothing.
+-- `held` meets its contract: the digits that are left, after the number so far, give what all give. Assumes nothing.
 use Rattle.std.proofs.Common.{ℕ, ◌≡◌, ◌+◌, ◌*◌, ◌^◌, ◌≤◌, ◌<◌, List, Some, None, length, get_or, drop, arith, add-one, pow-suc, drop-cons, drop_of_length-le, lit<, lt-ltb, le-ltb, ◌∙◌}
 use Rattle.std.proofs.Math.Nat.{mul-le-mul_left, pow-le-pow_right}
 use Rattle.digits.specs.Digits.{digit_of, number_from}
-use Rattle.digits.proofs.number.Goals as goal
-use Rattle.digits.proofs.number.Goals.{Else-d-base}
+use Rattle.digits.proofs.held.Goals as goal
+use Rattle.digits.proofs.held.Goals.{Else-d-base}
 
 -- the digit d at i
 module _ (base v : ℕ) (l : List ℕ) (i d : ℕ) (inside : i < length l) (is : d ≡ digit_of (get_or l i 0)) where

@@ -2,7 +2,7 @@
 -- give.
 use Rattle.std.proofs.Common.{◌≡◌, ◌^◌, ◌<◌, drop}
 use Rattle.digits.specs.Digits.{number_from}
-use Rattle.digits.proofs.number.Given as goal
+use Rattle.digits.proofs.held.Given as goal
 
 abbrev pub invariant-loop-b : goal.invariant-loop-b
 invariant-loop-b l =
