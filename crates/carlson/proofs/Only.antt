@@ -8,7 +8,7 @@ use Rattle.std.specs.Float.Ieee.Scale.{finite}
 use Rattle.refusals.specs.declared.Refusal.TheVariants.{NanGiven}
 use Rattle.refusals.specs.Numbers.{refusal_number}
 use Rattle.refusals.specs.declared.Refusal.{Refusal}
-use Rattle.carlson.specs.Answer.{infinite_at, settled, settled_late}
+use Rattle.carlson.specs.Answer.{infinite_at, settled, settled_told, settled_late}
 use Rattle.carlson.specs.declared.answer.Found.{Found}
 use Rattle.carlson.specs.Answer.{Answer}
 use Rattle.carlson.specs.Only.{Any, Finite, Only, among, part, refused, value}
@@ -60,7 +60,7 @@ infinite_only numbers = value refl
 
 pub late_only : (numbers : List ℕ) (f : Found) (nan unbounded : Bool) (r : Refusal) → T (among (refusal_number NanGiven) numbers)
     → T (among (refusal_number r) numbers) → Only Finite numbers (settled_late f nan unbounded r)
-unfolding settled_late
+unfolding settled_told
 late_only numbers f nan unbounded r g h =
     let Q = Only Finite numbers in
     finite_or f (chosen Q nan (refused g) (chosen Q unbounded (infinite_only numbers) (refused h)))

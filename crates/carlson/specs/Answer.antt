@@ -52,8 +52,11 @@ unfoldable pub carried_at : Float → Way → Found
 carried_at v w = record { value = v; road = Closed; way = w }
 
 -- the zero for an infinite argument is +0 and counts none: "rescalings are then 0"
-unfoldable pub infinite_at : Answer
-infinite_at = Ok (record { value = zero; road = Infinite; way = way_of 0 })
+abbrev pub infinite_found : Found
+infinite_found = record { value = zero; road = Infinite; way = way_of 0 }
+
+unfoldable pub infinite_at : {R : Type 0} → Result Found R
+infinite_at = Ok infinite_found
 
 -- the mean counts the passes that replaced it
 unfoldable pub agm_at : Float → ℕ → Found
@@ -95,11 +98,15 @@ unfoldable pub handed_at : Found → Float → Found
 handed_at f v = record { value = v; road = f.road; way = f.way }
 
 -- ---- how an entry settles it
--- "steps, then 6": a finite value stands, else the refusal
-unfoldable pub settled : Found → Refusal → Answer
+-- "steps, then 6": a finite value stands, else the refusal, in whatever form the caller has it
+unfoldable pub settled : {R : Type 0} → Found → R → Result Found R
 settled f r = cond (finite f.value) (Ok f) (Err r)
 
--- "a finite result stands; else 1, then +infinity gives 0, then" the refusal
-unfoldable pub settled_late : Found → Bool → Bool → Refusal → Answer
-settled_late f nan unbounded r = cond (finite f.value) (Ok f)
-    (cond nan (Err NanGiven) (cond unbounded infinite_at (Err r)))
+-- "a finite result stands; else 1, then +infinity gives 0, then" the refusal; `told` brings the 1 into the caller's form
+unfoldable pub settled_told : {R : Type 0} → (Refusal → R) → Found → Bool → Bool → R → Result Found R
+settled_told told f nan unbounded r = cond (finite f.value) (Ok f)
+    (cond nan (Err (told NanGiven)) (cond unbounded infinite_at (Err r)))
+
+-- the entries have a refusal as it is
+abbrev pub settled_late : Found → Bool → Bool → Refusal → Answer
+settled_late f nan unbounded r = settled_told (λ s. s) f nan unbounded r

@@ -6,6 +6,7 @@ ghost use Rattle.carlson.specs.Answer.{
   wrapped_ways,
   closed_at,
   carried_at,
+  infinite_found,
   infinite_at,
   agm_at,
   duplication_at,
@@ -18,11 +19,11 @@ ghost use Rattle.carlson.specs.Answer.{
   handed_at,
   road_number,
   settled,
-  settled_late,
+  settled_told,
 };
 
 use binary64::is_finite;
-use refusals::Refusal;
+use refusals::{Refusal, Told};
 
 // Which formula answered (document 02, 2026-04; the loop is cel's alone, 2026-09).
 #[derive(Clone, Copy, Debug, PartialEq, Eq)]
@@ -107,18 +108,24 @@ pub fn carried(value: f64, way: Way) -> Found
     }
 }
 
-// The zero for an infinite argument.
-pub fn infinite() -> Answer
-    ensures { result ≡ infinite_at }
+fn infinite_found() -> Found
+    ensures { result ≡ infinite_found }
 {
-    Ok(Found {
+    Found {
         value: 0.0,
         road: Road::Infinite,
         way: Way {
             rounds: 0,
             rescalings: 0,
         },
-    })
+    }
+}
+
+// The zero for an infinite argument.
+pub fn infinite() -> Answer
+    ensures { result ≡ infinite_at }
+{
+    Ok(infinite_found())
 }
 
 // The arithmetic-geometric mean, after so many passes that replaced the means.
@@ -238,8 +245,8 @@ pub fn handed(found: Found, value: f64) -> Found
     Found { value, road, way }
 }
 
-// A finite value stands; else the refusal says why there is none.
-pub fn settle(found: Found, refusal: Refusal) -> Answer
+// A finite value stands; else the refusal says why there is none. It comes as the caller has it, also as a bare number.
+pub fn settle<R: Copy>(found: Found, refusal: R) -> Result<Found, R>
     ensures { result ≡ settled found refusal }
 {
     let value = found.value;
@@ -250,18 +257,23 @@ pub fn settle(found: Found, refusal: Refusal) -> Answer
 }
 
 // A finite value stands; else a NaN among the arguments is refused as such, then an infinite one gives the zero.
-pub fn settle_late(found: Found, nan: bool, unbounded: bool, refusal: Refusal) -> Answer
-    ensures { result ≡ settled_late found nan unbounded refusal }
+pub fn settle_late<R: Told>(
+    found: Found,
+    nan: bool,
+    unbounded: bool,
+    refusal: R,
+) -> Result<Found, R>
+    ensures { result ≡ settled_told R.told found nan unbounded refusal }
 {
     let value = found.value;
     if is_finite(value) {
         return Ok(found);
     }
     if nan {
-        return Err(Refusal::NanGiven);
+        return Err(R::of(Refusal::NanGiven));
     }
     if unbounded {
-        return infinite();
+        return Ok(infinite_found());
     }
     Err(refusal)
 }

@@ -4,7 +4,7 @@ use mathlib.Core.Path.{◌≡◌, refl, ap, ◌∙◌}
 use mathlib.Core.Bool.{true}
 use lib.Ieee.{Float}
 use Rattle.carlson.specs.Constants.{one}
-use Rattle.carlson.specs.Answer.{closed_at, settled, settled_late}
+use Rattle.carlson.specs.Answer.{closed_at, settled, settled_told}
 use Rattle.carlson_arguments.specs.Door.{moderate, moderate2}
 use Rattle.carlson_arguments.proofs.DoorLaws.{Moderate, moderate_told, inside2}
 use Rattle.carlson_arguments.proofs.DoorLaws.{not_below, not_zero, no_nan2, none_infinite2, unscaled2}
@@ -12,7 +12,7 @@ use Rattle.elliprc.specs.Rc.{rc_found, over_root, rc_unchecked, rc}
 use Rattle.rc_cases.specs.Cases.{rc_cases, rc_steps}
 
 pub within : (x y : Float) → moderate2 x y ≡ true → settled (rc_found x y) RcNoResult ≡ rc x y
-unfolding rc rc_unchecked settled settled_late
+unfolding rc rc_unchecked settled settled_told
 within x y h =
     let i = inside2 x y h in
     rw (not_below i, not_zero i, no_nan2 i, none_infinite2 i, unscaled2 i over_root rc_found)

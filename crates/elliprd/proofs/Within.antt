@@ -4,7 +4,7 @@ use mathlib.Core.Path.{◌≡◌, refl, sym, ap, ◌∙◌}
 use mathlib.Core.Bool.{Bool, true, false, not, ◌&&◌, true≢false}
 use lib.Ieee.{Float, eq, ne}
 use lib.Ieee.Scale.{finite}
-use Rattle.carlson.specs.Answer.{settled_late}
+use Rattle.carlson.specs.Answer.{settled_told}
 use Rattle.carlson.specs.Answer.{Answer}
 use Rattle.carlson.specs.declared.answer.Found.{Found}
 use Rattle.carlson_arguments.specs.Door.{moderate, moderate3}
@@ -45,7 +45,7 @@ stands x y z f a e h = settles ∙ ap (λ (g : Found). rd_settled (Ok g) false f
     ∙ ap (λ (g : Answer). rd_settled g false false) (sym (duplicates x y z a)) ∙ within x y z door
   where
     settles : Ok f ≡ rd_settled (Ok f) false false
-    settles = unfold rd_settled settled_late in rw h
+    settles = unfold rd_settled settled_told in rw h
 
     door : moderate3 x y z ≡ true
     door = unfold moderate3 in rw (a.one, a.two, a.three)

@@ -30,6 +30,7 @@ use Rattle.carlson.specs.Answer.{
   loop_at,
   rescaled_at,
   settled,
+  settled_told,
   settled_late,
 }
 use Rattle.carlson.specs.Loop.{capped_holds}
@@ -97,7 +98,7 @@ unfolding settled
 settled_fits f n h = chosen Fits (finite f.value) h tt
 
 late_fits : (f : Found) (bad unbounded : Bool) (n : Refusal) → FitFound f → Fits (settled_late f bad unbounded n)
-unfolding settled_late
+unfolding settled_told
 late_fits f bad unbounded n h =
     chosen Fits (finite f.value) h (chosen Fits bad tt (chosen Fits unbounded infinite_fits tt))
 

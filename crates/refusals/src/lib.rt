@@ -3,6 +3,7 @@
 #![tactic(auto)]
 
 ghost use Rattle.std.specs.Prelude.{◌≡◌};
+ghost use Rattle.refusals.specs.declared.Refusal.{Refusal};
 ghost use Rattle.refusals.specs.Numbers.{refusal_number, code_of};
 
 #[derive(Clone, Copy, Debug, PartialEq, Eq)]
@@ -94,6 +95,30 @@ impl Refusal {
             Refusal::TooLarge => 25,
             Refusal::NoNumber => 26,
         }
+    }
+}
+
+// What a refusal may be told as: the refusal itself, or its number.
+pub trait Told: Copy {
+    ghost told: { Refusal → Self };
+
+    fn of(refusal: Refusal) -> Self
+        ensures { result ≡ told refusal };
+}
+
+impl Told for Refusal {
+    ghost told = { λ r. r };
+
+    fn of(same: Refusal) -> Self {
+        same
+    }
+}
+
+impl Told for u32 {
+    ghost told = { refusal_number };
+
+    fn of(refusal: Refusal) -> Self {
+        refusal.number()
     }
 }
 

@@ -8,7 +8,7 @@ use Rattle.root.specs.Root.{root}
 use Rattle.scaling.specs.One.{sign}
 use Rattle.scaling.proofs.Pick.{choose}
 use Rattle.carlson.specs.Constants.{zero}
-use Rattle.carlson.specs.Answer.{closed_at, settled_late}
+use Rattle.carlson.specs.Answer.{closed_at, settled_told}
 use Rattle.carlson_arguments.specs.Checks.{below3}
 use Rattle.carlson_arguments.specs.Rescaling.{rescaling3}
 use Rattle.carlson.specs.Answer.{Answer}
@@ -39,5 +39,5 @@ rg_any_order {x} {y} {z} {x'} {y'} {z'} p a b c =
 -- ---- with a -0 it is false: no zero is below another, and the root of the one that comes first is the answer
 pub first_zero : (rg (neg zero) zero zero ≡ Ok (closed_at (neg zero))) × (rg zero (neg zero) zero ≡ Ok (closed_at zero))
 unfolding rg rg_unchecked rg_steps rg_sorted rg_top rg_equal rg_settled fall_xy fall_xz rise_yz largest_first rescaling3 closed_at
-    settled_late absolute maximum minimum root of_bits neg lt eq is_nan
+    settled_told absolute maximum minimum root of_bits neg lt eq is_nan
 first_zero = (refl, refl)

@@ -9,7 +9,7 @@ use Rattle.binary64.specs.Leaves.{minimum}
 use Rattle.refusals.specs.declared.Refusal.{Refusal}
 use Rattle.carlson.specs.Constants.{zero as +0}
 use Rattle.carlson_arguments.specs.Checks.{any_nan2, any_nan3, any_nan4, any_infinite2, any_infinite3, any_infinite4, below3, zeros_of3}
-use Rattle.carlson.specs.Answer.{infinite_at, loop_at, settled, settled_late}
+use Rattle.carlson.specs.Answer.{infinite_at, loop_at, settled, settled_told, settled_late}
 use Rattle.carlson.specs.Loop.{capped_holds}
 use Rattle.carlson.proofs.Only.{asked, chosen, chosen_both}
 use Rattle.carlson.specs.declared.answer.Found.{Found}
@@ -68,7 +68,7 @@ module _ {m k n : ℕ} (f : Found) (h : k ≤ m) (i : Exactly k (Ok f) n) where
   plainly r = chosen (λ a. Begun m a n) (finite f.value) stands no
 
   late : (nan unbounded : Bool) (r : Refusal) → Begun m (settled_late f nan unbounded r) n
-  unfolding settled_late
+  unfolding settled_told
   late nan unbounded r =
       chosen (λ a. Begun m a n) (finite f.value) stands
       (chosen (λ a. Begun m a n) nan no (chosen (λ a. Begun m a n) unbounded zero_given no))

@@ -8,7 +8,7 @@ use Rattle.binary64.specs.Leaves.{minimum}
 use Rattle.refusals.specs.declared.Refusal.{Refusal}
 use Rattle.carlson.specs.Constants.{zero as +0}
 use Rattle.carlson_arguments.specs.Checks.{any_nan2, any_nan3, any_nan4, any_infinite2, any_infinite3, any_infinite4, below3, zeros_of3}
-use Rattle.carlson.specs.Answer.{infinite_at, loop_at, settled, settled_late}
+use Rattle.carlson.specs.Answer.{infinite_at, loop_at, settled, settled_told, settled_late}
 use Rattle.carlson.specs.Loop.{capped_holds}
 use Rattle.carlson.proofs.Only.{chosen}
 use Rattle.carlson.specs.Ways.{Within, Few}
@@ -57,7 +57,7 @@ module _ (m k : ℕ) (f : Found) (h : Within m k f.way) where
   settled_few n = chosen (Few m k) (finite f.value) h tt
 
   late_few : (nan unbounded : Bool) (n : Refusal) → Few m k (settled_late f nan unbounded n)
-  unfolding settled_late
+  unfolding settled_told
   late_few nan unbounded n =
       chosen (Few m k) (finite f.value) h (chosen (Few m k) nan tt (chosen (Few m k) unbounded (zero_few m k) tt))
 

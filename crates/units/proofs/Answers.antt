@@ -12,7 +12,7 @@ use Rattle.scaling.specs.Units.{Is}
 use Rattle.scaling.specs.Kind.{Kind}
 use Rattle.scaling.specs.Two.{Two}
 use Rattle.scaling.proofs.Plain.{cross, is_finite, units_times}
-use Rattle.carlson.specs.Answer.{settled, settled_late}
+use Rattle.carlson.specs.Answer.{settled, settled_told, settled_late}
 use Rattle.carlson.specs.declared.answer.Road.{Road}
 use Rattle.carlson.specs.declared.answer.Way.{Way}
 use Rattle.carlson.specs.declared.answer.Found.{Found}
@@ -38,7 +38,7 @@ settled_same r lost = no
 
 pub late_same : {k : ℕ} {K : Kind} {f g : Found} (r : Refusal) → Same k K f g
     → Pair k K (settled_late f false false r) (settled_late g false false r)
-unfolding settled_late
+unfolding settled_told
 late_same {k} {K} r (both {v = v} {w = w} {r = o} {c = c} a) =
     let f : Found = record { value = v; road = o; way = c } in
     let g : Found = record { value = w; road = o; way = c } in

@@ -1,4 +1,4 @@
--- `infinite` meets its contract, step by step as its definition. Assumes nothing.
+-- `infinite` meets its contract: what it hands out is the definition's. Assumes nothing.
 use Rattle.std.proofs.Common.{refl}
 use Rattle.carlson.specs.Answer.{infinite_at}
 use Rattle.carlson.proofs.answer.infinite.Goals as goal
@@ -6,4 +6,4 @@ use Rattle.carlson.proofs.answer.infinite.Goals as goal
 pub returns : goal.returns
 unfolding infinite_at
 returns c =
-    refl
+    rw c.infinite_found.ensures refl
