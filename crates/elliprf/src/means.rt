@@ -56,13 +56,15 @@ pub fn agm_of(x: f64, y: f64) -> Found
         yn: sqrt(y),
     };
     let mut k = ready(m.xn * m.yn);
-    for n in 0..CAP {
-        if !still_apart(m.xn, m.yn) {
-            return agm(value_of(m), n);
+    'passes: {
+        for n in 0..CAP {
+            if !still_apart(m.xn, m.yn) {
+                break 'passes agm(value_of(m), n);
+            }
+            let later = ready_next(m, k);
+            m = next_means(m, k);
+            k = later;
         }
-        let later = ready_next(m, k);
-        m = next_means(m, k);
-        k = later;
+        agm(value_of(m), CAP)
     }
-    agm(value_of(m), CAP)
 }

@@ -160,13 +160,15 @@ fn onward(x: f64, y: f64, a0: f64, s: Round, from: u32) -> Found
     ensures { result ≡ capped rf_step rf_close (rf_found x y a0) rf_spent (rf_cap - from) false s from }
 {
     let mut at = s;
-    for m in from..CAP {
-        at = step(at);
-        if close(at) {
-            return duplication(series(x, y, a0, at.an, at.fnval), m + 1);
+    'passes: {
+        for m in from..CAP {
+            at = step(at);
+            if close(at) {
+                break 'passes duplication(series(x, y, a0, at.an, at.fnval), m + 1);
+            }
         }
+        duplication(not_a_number(), CAP)
     }
-    duplication(not_a_number(), CAP)
 }
 
 // While the roots are told at once; the rest of the passes is made out of line, root by root.
@@ -175,14 +177,16 @@ pub fn duplicated(x: f64, y: f64, z: f64) -> Found
 {
     let mut at = begin(x, y, z);
     let a0 = at.an;
-    for n in 0..CAP {
-        let Some(by) = tried(at.xn, at.yn, at.zn, at.q * 0.25 < at.an) else {
-            return onward(x, y, a0, at, n);
-        };
-        at = moved(at, by);
-        if close(at) {
-            return duplication(series(x, y, a0, at.an, at.fnval), n + 1);
+    'passes: {
+        for n in 0..CAP {
+            let Some(by) = tried(at.xn, at.yn, at.zn, at.q * 0.25 < at.an) else {
+                break 'passes onward(x, y, a0, at, n);
+            };
+            at = moved(at, by);
+            if close(at) {
+                break 'passes duplication(series(x, y, a0, at.an, at.fnval), n + 1);
+            }
         }
+        duplication(not_a_number(), CAP)
     }
-    duplication(not_a_number(), CAP)
 }

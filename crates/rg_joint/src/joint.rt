@@ -293,13 +293,15 @@ fn elliprf_rd_unchecked(x: f64, y: f64, z: f64) -> RfRd
     let arf = rf_duplicate::duplicate::mean_of(x, y, z);
     let ard = rd_duplicate::duplicate::mean_of(x, y, z);
     let mut at = begin(x, y, z);
-    for n in 0..CAP {
-        at = step(at, x, y, arf, ard);
-        if all_done(at) {
-            return result(at, n + 1);
+    'passes: {
+        for n in 0..CAP {
+            at = step(at, x, y, arf, ard);
+            if all_done(at) {
+                break 'passes result(at, n + 1);
+            }
         }
+        result(at, CAP)
     }
-    result(at, CAP)
 }
 
 fn value_of(x: f64, y: f64, z: f64, rf: f64, rd: f64) -> f64

@@ -221,11 +221,13 @@ pub fn duplicated(x: f64, y: f64, z: f64, p: f64) -> Found
     let mut at = begin(x, y, z, p);
     let a0 = at.an;
     let q = start_of(a0, x, y, z, p);
-    for n in 0..CAP {
-        at = step(at);
-        if close(at, q) {
-            return duplication_over(series(x, y, z, a0, at), n + 1, at.rescalings);
+    'passes: {
+        for n in 0..CAP {
+            at = step(at);
+            if close(at, q) {
+                break 'passes duplication_over(series(x, y, z, a0, at), n + 1, at.rescalings);
+            }
         }
+        duplication_over(not_a_number(), CAP, at.rescalings)
     }
-    duplication_over(not_a_number(), CAP, at.rescalings)
 }

@@ -33,8 +33,8 @@ returns-then-not-still_apart c =
     ∙ whole b.x b.y _ (started b.x b.y _ _ c.sqrt.ensures c.sqrt-2.ensures)
 
 -- with no pass left it answers all the same
-pub returns : goal.returns
-returns c =
+pub returns-after-loop-n : goal.returns-after-loop-n
+returns-after-loop-n c =
     let l = c.loop-n in
     let b = c.args in
     c.agm-2.ensures ∙ ap (λ (v : Float). agm_at v rf_cap) c.value_of-2.ensures

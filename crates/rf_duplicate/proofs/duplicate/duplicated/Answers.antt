@@ -42,8 +42,8 @@ returns-then-close c =
     c.if-close.true
     ∙ whole c.args.x c.args.y c.args.z c.begin-at.result c.begin-at.ensures
 
-pub returns : goal.returns
-returns c =
+pub returns-after-loop-n : goal.returns-after-loop-n
+returns-after-loop-n c =
     c.duplication-2.ensures ∙ ap (λ (v : Float). duplication_at v rf_cap) c.not_a_number.ensures
     ∙ left_over c.loop-n.invariant refl (omega arith)
     ∙ whole c.args.x c.args.y c.args.z c.begin-at.result c.begin-at.ensures

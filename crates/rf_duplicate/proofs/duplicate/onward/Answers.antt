@@ -15,7 +15,7 @@ returns-then-close c =
     c.duplication.ensures ∙ ap (λ (v : Float). duplication_at v (l.m + 1)) c.series.ensures
     ∙ left_found (left_on l.invariant refl (omega arith) c.step-at.ensures c.close.ensures) c.if-close.true
 
-pub returns : goal.returns
-returns c =
+pub returns-after-loop-m : goal.returns-after-loop-m
+returns-after-loop-m c =
     c.duplication-2.ensures ∙ ap (λ (v : Float). duplication_at v rf_cap) c.not_a_number.ensures
     ∙ left_over c.loop-m.invariant refl (omega arith)

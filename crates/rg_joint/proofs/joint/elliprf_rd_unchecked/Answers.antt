@@ -23,8 +23,8 @@ returns-then-all_done c =
     ∙ left_found (left_on c.loop-n.invariant refl (omega arith) c.step-at.ensures c.all_done.ensures) c.if-all_done.true
     ∙ whole b.x b.y b.z _ _ c.begin-at.result c.mean_of-arf.ensures c.mean_of-ard.ensures c.begin-at.ensures
 
-pub returns : goal.returns
-returns c =
+pub returns-after-loop-n : goal.returns-after-loop-n
+returns-after-loop-n c =
     let b = c.args in
     c.result-2.ensures
     ∙ left_over c.loop-n.invariant refl (omega arith)

@@ -25,8 +25,8 @@ returns-then-close c =
     ∙ left_found (left_on l.invariant refl (omega arith) c.step-at.ensures c.close.ensures) c.if-close.true
     ∙ whole b.x b.y b.z b.p c.start_of-q.result g.result g.ensures c.start_of-q.ensures
 
-pub returns : goal.returns
-returns c =
+pub returns-after-loop-n : goal.returns-after-loop-n
+returns-after-loop-n c =
     let l = c.loop-n in
     let b = c.args in
     let g = c.begin-at in
