@@ -8,7 +8,7 @@ use Rattle.binary64.specs.Operators.{bits}
 use Rattle.root.specs.Root.{root}
 use Rattle.fused.specs.Fused.{fused}
 use Rattle.carlson.specs.Constants.{zero, one, two, three, four, half, infinity}
-use Rattle.carlson.specs.Answer.{way_of, closed_at, taylor_at, infinite_at, settled, settled_late}
+use Rattle.carlson.specs.Answer.{way_of, closed_at, taylor_at, infinite_at, settled, settled_told}
 use Rattle.carlson_arguments.specs.Rescaling.{rescaling2, rescaling3}
 use Rattle.carlson.specs.declared.answer.Road.{Road}
 use Rattle.carlson.specs.declared.answer.Road.TheVariants.{Closed, Infinite, Taylor}
@@ -34,27 +34,10 @@ unfolding rf rf_unchecked rf_steps rf_equal rf_zero
     rg rg_unchecked rg_steps rg_sorted rg_low rg_alone rg_settled fall_xy fall_xz rise_yz largest_first
     rj rj_signed rj_rest rj_unchecked rj_run rj_settled plan_of plan_near plan_scaled plan_unscaled rj_positive rj_all rising rise_xy
     near_zero taylor_of cubic_of quadratic_of error_of linear_of deltas_of distant largest_of
-    rescaling2 rescaling3 closed_at taylor_at infinite_at settled settled_late absolute maximum minimum root rounded value fused
+    rescaling2 rescaling3 closed_at taylor_at infinite_at settled settled_told absolute maximum minimum root rounded value fused
     of_bits add sub mul div neg lt le eq is_nan
-sixteen = (
-  refl,
-  (
-    refl,
-    (
-      refl,
-      (
-        refl,
-        (
-          refl,
-          (
-            refl,
-            (
-              refl,
-              (refl, (refl, (refl, (refl, (refl, (refl, (refl, (refl, (refl, tt))))))))),
-            ),
-          ),
-        ),
-      ),
-    ),
-  ),
-)
+sixteen =
+    (refl, (refl, ((refl, refl), (refl,
+    ((refl, refl), (refl, ((refl, refl), ((refl, refl),
+    (refl, ((refl, refl), ((refl, refl), (refl,
+    ((refl, refl), (refl, (refl, (refl, tt))))))))))))))))

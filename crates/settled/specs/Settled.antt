@@ -1,8 +1,10 @@
 -- Document 01's sixteen settled examples, in its order, the last as document 02, 2026-07, has it, as one table under one
 -- statement: antt computes each from the definitions. Assumes nothing.
-use Rattle.std.specs.Prelude.{◌≡◌, refl, List, [], ◌∷◌, Float, Ok, Err}
+use Rattle.std.specs.Prelude.{◌≡◌, refl, ℕ, List, [], ◌∷◌, Float, Ok, Err}
 use Rattle.std.specs.Float.Ieee.{of_bits, add, sub, mul, div, neg, lt, le, eq, is_nan}
+use Rattle.refusals.specs.declared.Refusal.{Refusal}
 use Rattle.refusals.specs.declared.Refusal.TheVariants.{NanGiven, BelowZero, Zeros, ZeroGiven, RgNoResult}
+use Rattle.refusals.specs.Numbers.{refusal_number}
 use Rattle.rounding.specs.Cut.{value, rounded}
 use Rattle.binary64.specs.Leaves.{absolute, maximum, minimum}
 use Rattle.binary64.specs.Operators.{bits}
@@ -25,28 +27,36 @@ use Rattle.rj_near_zero.specs.NearZero.{largest_of, distant, deltas_of, linear_o
 use Rattle.elliprj.specs.Rj.{rj, rj_signed, rj_rest, rj_settled}
 use Rattle.rj_calls.specs.Run.{rj_unchecked, rj_run, plan_of, plan_near, plan_scaled, plan_unscaled}
 
--- ---- a row: an entry, its arguments, and the answer
+-- ---- a row: an entry, its arguments, and what it answers: a value found on a road, or a refusal with its number
+pub data Said : Type 0 where
+  Value : Road → Float → Said
+  Refused : Refusal → ℕ → Said
+
 pub data Row : Type 0 where
-  RC : Float → Float → Answer → Row
-  RF RD RG : Float → Float → Float → Answer → Row
-  RJ : Float → Float → Float → Float → Answer → Row
+  RC : Float → Float → Said → Row
+  RF RD RG : Float → Float → Float → Said → Row
+  RJ : Float → Float → Float → Float → Said → Row
+
+-- a value found on a road, with no round and no rescaling
+abbrev pub is : Road → Float → Answer
+is r v = Ok (record { value = v; road = r; way = way_of 0 })
+
+abbrev pub Answers : Answer → Said → Type 0
+Answers a (Value r v) = a ≡ is r v
+Answers a (Refused r n) = (a ≡ Err r) × (refusal_number r ≡ n)
 
 abbrev pub Holds : Row → Type 0
-Holds (RC x y a) = rc x y ≡ a
-Holds (RF x y z a) = rf x y z ≡ a
-Holds (RD x y z a) = rd x y z ≡ a
-Holds (RG x y z a) = rg x y z ≡ a
-Holds (RJ x y z p a) = rj x y z p ≡ a
+Holds (RC x y said) = Answers (rc x y) said
+Holds (RF x y z said) = Answers (rf x y z) said
+Holds (RD x y z said) = Answers (rd x y z) said
+Holds (RG x y z said) = Answers (rg x y z) said
+Holds (RJ x y z p said) = Answers (rj x y z p) said
 
 abbrev pub All : List Row → Type 0
 All [] = Unit {0}
 All (row ∷ rest) = Holds row × All rest
 
 -- ---- the table's numbers; the others are the constants of the entries
--- a value found on a road, with no round and no rescaling
-abbrev pub is : Road → Float → Answer
-is r v = Ok (record { value = v; road = r; way = way_of 0 })
-
 -- all NaNs are one `Float`
 abbrev pub not_a_number : Float
 not_a_number = bits 0x7FF8_0000_0000_0000
@@ -66,20 +76,20 @@ eighth = bits 0x3FC0_0000_0000_0000
 -- ---- the table
 abbrev pub table : List Row
 table =
-    RF four four four (is Closed half)
-    ∷ RF four zero four (is Closed (bits 0x3FE9_21FB_5444_2D18))
-    ∷ RF infinity zero zero (Err Zeros)
-    ∷ RF infinity zero one (is Infinite zero)
-    ∷ RF not_a_number minus_one one (Err NanGiven)
-    ∷ RC zero minus_four (is Closed zero)
-    ∷ RC not_a_number zero (Err ZeroGiven)
-    ∷ RC minus_one zero (Err BelowZero)
-    ∷ RD four four four (is Closed eighth)
-    ∷ RD not_a_number minus_one one (Err BelowZero)
-    ∷ RD zero zero minus_one (Err Zeros)
-    ∷ RG zero zero four (is Closed one)
-    ∷ RG infinity zero zero (Err RgNoResult)
-    ∷ RJ four four four four (is Closed eighth)
-    ∷ RJ three two two minus_one (is Taylor zero)
-    ∷ RJ one one one minus_infinity (is Infinite zero)
+    RF four four four (Value Closed half)
+    ∷ RF four zero four (Value Closed (bits 0x3FE9_21FB_5444_2D18))
+    ∷ RF infinity zero zero (Refused Zeros 3)
+    ∷ RF infinity zero one (Value Infinite zero)
+    ∷ RF not_a_number minus_one one (Refused NanGiven 1)
+    ∷ RC zero minus_four (Value Closed zero)
+    ∷ RC not_a_number zero (Refused ZeroGiven 4)
+    ∷ RC minus_one zero (Refused BelowZero 2)
+    ∷ RD four four four (Value Closed eighth)
+    ∷ RD not_a_number minus_one one (Refused BelowZero 2)
+    ∷ RD zero zero minus_one (Refused Zeros 3)
+    ∷ RG zero zero four (Value Closed one)
+    ∷ RG infinity zero zero (Refused RgNoResult 8)
+    ∷ RJ four four four four (Value Closed eighth)
+    ∷ RJ three two two minus_one (Value Taylor zero)
+    ∷ RJ one one one minus_infinity (Value Infinite zero)
     ∷ []
