@@ -6,4 +6,6 @@ mod ends;
 mod rows;
 
 pub use crate::ends::{Knee, Peaks, knee_of, peaks_of};
-pub use crate::rows::{Field, Row, Stage, knee_start, naming, peaks_start, row_step, unbegun};
+pub use crate::rows::{
+    Field, Row, Stage, feed_row, knee_start, naming, peaks_start, row_step, unbegun,
+};

@@ -105,49 +105,40 @@ pub fn naming(r: Row, b: u8) -> bool
 }
 
 #[tactic(auto, unfolding(crate::specs::Rows::staged_of))]
-fn staged(r: Row, stage: Stage) -> Row
-    ensures { result ≡ staged_of r stage }
+fn staged(r: &mut Row, stage: Stage)
+    ensures { r.new ≡ staged_of r.old stage }
 {
-    Row { stage, ..r }
+    r.stage = stage;
 }
 
 #[tactic(auto, unfolding(crate::specs::Rows::field_at))]
-fn field_at(r: Row, field: Field) -> Row
-    ensures { result ≡ field_at r field }
+fn field_at(r: &mut Row, field: Field)
+    ensures { r.new ≡ field_at r.old field }
 {
-    Row {
-        stage: Stage::Begun,
-        field,
-        ..r
-    }
+    r.stage = Stage::Begun;
+    r.field = field;
 }
 
 #[tactic(auto, unfolding(crate::specs::Rows::swing_fed))]
-fn swing_fed(r: Row, b: u8) -> Row
-    ensures { result ≡ swing_fed r b }
+fn swing_fed(r: &mut Row, b: u8)
+    ensures { r.new ≡ swing_fed r.old b }
 {
-    Row {
-        stage: Stage::Begun,
-        swing: measure(r.swing, b),
-        ..r
-    }
+    r.stage = Stage::Begun;
+    r.swing = measure(r.swing, b);
 }
 
 #[tactic(auto, unfolding(crate::specs::Rows::times_fed))]
-fn times_fed(r: Row, b: u8) -> Row
-    ensures { result ≡ times_fed r b }
+fn times_fed(r: &mut Row, b: u8)
+    ensures { r.new ≡ times_fed r.old b }
 {
-    Row {
-        stage: Stage::Begun,
-        times: measure(r.times, b),
-        ..r
-    }
+    r.stage = Stage::Begun;
+    r.times = measure(r.times, b);
 }
 
 // The swing ends behind its third number, which is no length.
 #[tactic(auto, unfolding(crate::specs::Rows::swing_blank))]
-fn swing_blank(r: Row) -> Row
-    ensures { result ≡ swing_blank r }
+fn swing_blank(r: &mut Row)
+    ensures { r.new ≡ swing_blank r.old }
 {
     if last_begun(r.swing) {
         field_at(r, Field::Times)
@@ -158,8 +149,8 @@ fn swing_blank(r: Row) -> Row
 
 // The first blank ends the name.
 #[tactic(auto, unfolding(crate::specs::Rows::blank_after, crate::specs::Rows::blank_in))]
-fn blank(r: Row) -> Row
-    ensures { result ≡ blank_after r }
+fn blank(r: &mut Row)
+    ensures { r.new ≡ blank_after r.old }
 {
     match r.field {
         Field::Name => field_at(r, Field::Swing),
@@ -169,8 +160,8 @@ fn blank(r: Row) -> Row
 }
 
 #[tactic(auto, unfolding(crate::specs::Rows::other_after, crate::specs::Rows::other_in))]
-fn other(r: Row, b: u8) -> Row
-    ensures { result ≡ other_after r b }
+fn other(r: &mut Row, b: u8)
+    ensures { r.new ≡ other_after r.old b }
 {
     match r.field {
         Field::Name => field_at(r, Field::Name),
@@ -179,10 +170,10 @@ fn other(r: Row, b: u8) -> Row
     }
 }
 
-// One byte more of the line.
+// One byte more of the line, in its place: a row is long, and was copied for each byte.
 #[tactic(auto, unfolding(crate::specs::Rows::row_after))]
-pub fn row_step(r: Row, b: u8) -> Row
-    ensures { result ≡ row_after r b }
+pub fn feed_row(r: &mut Row, b: u8)
+    ensures { r.new ≡ row_after r.old b }
 {
     if open(r.stage) {
         match b {
@@ -193,4 +184,13 @@ pub fn row_step(r: Row, b: u8) -> Row
     } else {
         staged(r, Stage::Spoilt)
     }
+}
+
+// The same as a value.
+pub fn row_step(r: Row, b: u8) -> Row
+    ensures { result ≡ row_after r b }
+{
+    let mut after = r;
+    feed_row(&mut after, b);
+    after
 }

@@ -2,7 +2,7 @@
 ghost use Rattle.std.specs.Prelude.{◌≡◌, ◌≤◌, length, take};
 ghost use Rattle.bench_stream.specs.Lines.{start_row, state_from, state_after, state_heard, name_after, held_length};
 
-use bench_read::{Row, knee_start, naming, peaks_start, row_step};
+use bench_read::{Row, feed_row, knee_start, naming, peaks_start};
 use bench_replies::tallied;
 use bench_write::{Said, Tally};
 use writing::push;
@@ -40,14 +40,12 @@ pub fn begin(decays: bool) -> State
     }
 }
 
-// A byte that ends no line.
-pub fn after_byte(s: State, b: u8) -> State
-    ensures { result ≡ state_after s b }
+// A byte that ends no line, taken in the state's place: a state is long to copy.
+#[tactic(auto, unfolding(crate::specs::Lines::state_after))]
+pub fn after_byte(s: &mut State, b: u8)
+    ensures { s.new ≡ state_after s.old b }
 {
-    State {
-        row: row_step(s.row, b),
-        ..s
-    }
+    feed_row(&mut s.row, b);
 }
 
 // A line has ended, with that reply.

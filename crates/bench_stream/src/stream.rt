@@ -1,6 +1,7 @@
 // The input as it comes, in constant memory: each line is read byte by byte, its name held, and answered at its end.
 ghost use Rattle.std.specs.Prelude.{◌≡◌, ◌+◌, ◌*◌, ◌≤◌, length, take};
 ghost use Rattle.io.specs.Counts.{IsPrefixLen};
+ghost use Rattle.writing.specs.Fed.{Fed};
 ghost use Rattle.writing.specs.Written.{Put};
 ghost use Rattle.bench_write.specs.Texts.{longest_reply};
 ghost use Rattle.bench_stream.specs.Lines.{held_length, under, line_end, bench_byte, bench_from};
@@ -42,22 +43,33 @@ fn line_end(s: State, held: &[u8], n: usize, out: &mut [u8], used: usize) -> Pro
     }
 }
 
-fn byte(b: u8, s: State, held: &mut [u8], n: usize, out: &mut [u8], used: usize) -> Progress
+// How many bytes of the name are held, and how many were written.
+#[derive(Clone, Copy)]
+struct Place {
+    held: usize,
+    used: usize,
+}
+
+// One byte more, the state in its place.
+fn byte(b: u8, s: &mut State, held: &mut [u8], n: usize, out: &mut [u8], used: usize) -> Place
     requires held_len { length held.old ≡ held_length }
     requires n_le_held_length { n ≤ held_length }
     requires longest_reply_in_bounds { used + longest_reply ≤ length out.old }
-    ensures benches { Benches (bench_byte (under s (take n held.old)) b) held.new out.old used
-        out.new result }
+    ensures fed { Fed (bench_byte (under s.old (take n held.old)) b)
+        (under s.new (take result.held held.new)) out.old used out.new result.used 0 }
     ensures held_le_held_length { result.held ≤ held_length }
 {
     if b == b'\n' {
-        return line_end(s, held, n, out, used);
+        let told = line_end(*s, held, n, out, used);
+        *s = told.state;
+        return Place {
+            held: told.held,
+            used: told.used,
+        };
     }
-    Progress {
-        state: after_byte(s, b),
-        held: held_after(s, b, held, n),
-        used,
-    }
+    let after = held_after(*s, b, held, n);
+    after_byte(s, b);
+    Place { held: after, used }
 }
 
 fn feed_all(part: &[u8], s: State, held: &mut [u8], held_before: usize, out: &mut [u8]) -> Progress
@@ -73,8 +85,7 @@ fn feed_all(part: &[u8], s: State, held: &mut [u8], held_before: usize, out: &mu
     let mut n = held_before;
     let mut used: usize = 0;
     for b in part {
-        let told = byte(*b, state, held, n, out, used);
-        state = told.state;
+        let told = byte(*b, &mut state, held, n, out, used);
         n = told.held;
         used = told.used;
     }

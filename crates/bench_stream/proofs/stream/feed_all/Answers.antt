@@ -25,7 +25,7 @@ loop-b-preserved c =
     let l = c.loop-b in (
       c.byte-told.ensures.held_le_held_length,
       c.byte-told.auto.held ∙ l.invariant.1,
-      upto_byte l.invariant.2 c.loop-b-test.true refl byte_short c.byte-told.ensures.benches,
+      upto_byte l.invariant.2 c.loop-b-test.true refl byte_short c.byte-told.ensures.fed,
     )
 
 pub shape_of-held : goal.shape_of-held
