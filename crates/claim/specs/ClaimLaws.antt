@@ -3,7 +3,6 @@ use Rattle.std.specs.Prelude.{ℕ, ◌≤◌, ◌≡◌, true, Ok, Err}
 use Rattle.std.specs.Float.{binary64}
 use Rattle.std.specs.Float.Ieee.{to_bits}
 use Rattle.refusals.specs.Numbers.{refusal_number}
-use Rattle.refusals.specs.Numbers.{refusal_number}
 use Rattle.distance.specs.Steps.{apart_of, finite_pattern}
 use Rattle.carlson.specs.Answer.{Answer}
 use Rattle.claim.specs.declared.meeting.Claim.{Claim}

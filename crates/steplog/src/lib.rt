@@ -21,6 +21,7 @@ fn between(earlier: u16, later: u16) -> u64
 }
 
 // A sum that was refused stays so.
+#[tactic(auto, unfolding(crate::specs::Steps::added_to, crate::specs::Steps::added))]
 fn more(sum: Result<u64, Refusal>, n: u64) -> Result<u64, Refusal>
     ensures { result ≡ added_to sum n }
 {
