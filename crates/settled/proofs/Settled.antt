@@ -36,8 +36,40 @@ unfolding rf rf_unchecked rf_steps rf_equal rf_zero
     near_zero taylor_of cubic_of quadratic_of error_of linear_of deltas_of distant largest_of
     rescaling2 rescaling3 closed_at taylor_at infinite_at settled settled_told absolute maximum minimum root rounded value fused
     of_bits add sub mul div neg lt le eq is_nan
-sixteen =
-    (refl, (refl, ((refl, refl), (refl,
-    ((refl, refl), (refl, ((refl, refl), ((refl, refl),
-    (refl, ((refl, refl), ((refl, refl), (refl,
-    ((refl, refl), (refl, (refl, (refl, tt))))))))))))))))
+sixteen = (
+  refl,
+  (
+    refl,
+    (
+      (refl, refl),
+      (
+        refl,
+        (
+          (refl, refl),
+          (
+            refl,
+            (
+              (refl, refl),
+              (
+                (refl, refl),
+                (
+                  refl,
+                  (
+                    (refl, refl),
+                    (
+                      (refl, refl),
+                      (
+                        refl,
+                        ((refl, refl), (refl, (refl, (refl, tt)))),
+                      ),
+                    ),
+                  ),
+                ),
+              ),
+            ),
+          ),
+        ),
+      ),
+    ),
+  ),
+)
