@@ -1,5 +1,5 @@
--- Demand 1's two steps for a caller who has its refusal as a bare number, any that is in its list: what `settle` and `settle_late`
--- hand out then is a finite value or a number of the list. Assumes nothing.
+-- Demand 1's two steps for a caller who has its refusal as a bare number, any that is in its list: what `settle` and
+-- `settle_late` hand out then is a finite value or a number of the list. Assumes nothing.
 use Rattle.std.specs.Prelude.{◌≡◌, ℕ, Bool, true, false, cond, T, List, Result, Ok, Err, refl}
 use Rattle.std.specs.Float.Ieee.{of_bits}
 use Rattle.std.specs.Float.Ieee.Scale.{finite}

@@ -12,8 +12,8 @@ use Rattle.bench_stream.specs.declared.lines.State.{State}
 use Rattle.bench_stream.proofs.stream.byte.Goals as goal
 
 -- the line has ended
-ended : (s : State) (t : Open) (name before out : List ℕ) (b at used : ℕ) → b ≡ 10 → Fed (line_end (under s name)) t before at out used 0
-    → Fed (bench_byte (under s name) b) t before at out used 0
+ended : (s : State) (t : Open) (name before out : List ℕ) (b at used : ℕ) → b ≡ 10
+    → Fed (line_end (under s name)) t before at out used 0 → Fed (bench_byte (under s name) b) t before at out used 0
 unfolding bench_byte
 ended s t name before out b at used e f = rw (eq-eqb b 10 e) f
 
