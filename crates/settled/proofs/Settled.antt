@@ -23,7 +23,7 @@ use Rattle.rj_positive.specs.Positive.{rj_all, rj_positive}
 use Rattle.rj_near_zero.specs.NearZero.{largest_of, distant, deltas_of, linear_of, error_of, quadratic_of, cubic_of, taylor_of, near_zero}
 use Rattle.elliprj.specs.Rj.{rj, rj_signed, rj_rest, rj_settled}
 use Rattle.rj_calls.specs.Run.{rj_unchecked, rj_run, plan_of, plan_near, plan_scaled, plan_unscaled}
-use Rattle.settled.specs.Settled.{All, table}
+use Rattle.settled.specs.Settled.{RC, RF, RD, RG, RJ, Whole, Holds, All, table}
 
 -- ---- the statement
 -- what has to compute: the entries down the roads that the rows take, the leaves, and IEEE 754's operations
@@ -73,3 +73,9 @@ sixteen = (
     ),
   ),
 )
+
+-- ---- a row may have any answer, also one with rounds, and says that the entry gives it
+pub any_answer : (x y z p : Float) (a : Answer) → (Holds (RC x y (Whole a)) ≡ (rc x y ≡ a))
+    × (Holds (RF x y z (Whole a)) ≡ (rf x y z ≡ a)) × (Holds (RD x y z (Whole a)) ≡ (rd x y z ≡ a))
+    × (Holds (RG x y z (Whole a)) ≡ (rg x y z ≡ a)) × (Holds (RJ x y z p (Whole a)) ≡ (rj x y z p ≡ a))
+any_answer x y z p a = (refl, refl, refl, refl, refl)

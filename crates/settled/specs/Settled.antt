@@ -27,10 +27,12 @@ use Rattle.rj_near_zero.specs.NearZero.{largest_of, distant, deltas_of, linear_o
 use Rattle.elliprj.specs.Rj.{rj, rj_signed, rj_rest, rj_settled}
 use Rattle.rj_calls.specs.Run.{rj_unchecked, rj_run, plan_of, plan_near, plan_scaled, plan_unscaled}
 
--- ---- a row: an entry, its arguments, and what it answers: a value found on a road, or a refusal with its number
+-- ---- a row: an entry, its arguments, and what it answers: a value found on a road, a refusal with its number, or any answer
+-- as it is, with its rounds
 pub data Said : Type 0 where
   Value : Road → Float → Said
   Refused : Refusal → ℕ → Said
+  Whole : Answer → Said
 
 pub data Row : Type 0 where
   RC : Float → Float → Said → Row
@@ -44,6 +46,7 @@ is r v = Ok (record { value = v; road = r; way = way_of 0 })
 abbrev pub Answers : Answer → Said → Type 0
 Answers a (Value r v) = a ≡ is r v
 Answers a (Refused r n) = (a ≡ Err r) × (refusal_number r ≡ n)
+Answers a (Whole b) = a ≡ b
 
 abbrev pub Holds : Row → Type 0
 Holds (RC x y said) = Answers (rc x y) said
