@@ -1,17 +1,13 @@
 -- Document 01's sixteen settled examples, in its order, the last as document 02, 2026-07, has it, as one table under one
 -- statement: antt computes each from the definitions. Assumes nothing.
-use Rattle.std.specs.Prelude.{◌≡◌, refl, List, [], ◌∷◌, Float}
+use Rattle.std.specs.Prelude.{◌≡◌, refl, Float}
 use Rattle.std.specs.Float.Ieee.{of_bits, add, sub, mul, div, neg, lt, le, eq, is_nan}
 use Rattle.rounding.specs.Cut.{value, rounded}
 use Rattle.binary64.specs.Leaves.{absolute, maximum, minimum}
-use Rattle.binary64.specs.Operators.{bits}
 use Rattle.root.specs.Root.{root}
 use Rattle.fused.specs.Fused.{fused}
-use Rattle.carlson.specs.Constants.{zero, one, two, three, four, half, infinity}
-use Rattle.carlson.specs.Answer.{way_of, closed_at, taylor_at, infinite_at, settled, settled_told}
+use Rattle.carlson.specs.Answer.{closed_at, taylor_at, infinite_at, settled, settled_told}
 use Rattle.carlson_arguments.specs.Rescaling.{rescaling2, rescaling3}
-use Rattle.carlson.specs.declared.answer.Road.{Road}
-use Rattle.carlson.specs.declared.answer.Road.TheVariants.{Closed, Infinite, Taylor}
 use Rattle.carlson.specs.Answer.{Answer}
 use Rattle.elliprc.specs.Rc.{rc, rc_unchecked, rc_found}
 use Rattle.rc_cases.specs.Cases.{rc_steps, rc_cases, rc_at_equal}
@@ -20,7 +16,8 @@ use Rattle.elliprd.specs.Rd.{rd, rd_unchecked, rd_steps, rd_ordered, rd_equal, r
 use Rattle.sorting.specs.Sorting.{fall_xy, fall_xz, rise_xy, rise_yz, rising, largest_first}
 use Rattle.elliprg.specs.Rg.{rg, rg_unchecked, rg_steps, rg_sorted, rg_low, rg_alone, rg_settled}
 use Rattle.rj_positive.specs.Positive.{rj_all, rj_positive}
-use Rattle.rj_near_zero.specs.NearZero.{largest_of, distant, deltas_of, linear_of, error_of, quadratic_of, cubic_of, taylor_of, near_zero}
+use Rattle.rj_near_zero.specs.NearZero.{largest_of, distant, deltas_of, linear_of}
+use Rattle.rj_near_zero.specs.NearZero.{error_of, quadratic_of, cubic_of, taylor_of, near_zero}
 use Rattle.elliprj.specs.Rj.{rj, rj_signed, rj_rest, rj_settled}
 use Rattle.rj_calls.specs.Run.{rj_unchecked, rj_run, plan_of, plan_near, plan_scaled, plan_unscaled}
 use Rattle.settled.specs.Settled.{RC, RF, RD, RG, RJ, Whole, Holds, All, table}
@@ -32,7 +29,8 @@ unfolding rf rf_unchecked rf_steps rf_equal rf_zero
     rc rc_unchecked rc_found rc_steps rc_cases rc_at_equal
     rd rd_unchecked rd_steps rd_ordered rd_equal rd_settled
     rg rg_unchecked rg_steps rg_sorted rg_low rg_alone rg_settled fall_xy fall_xz rise_yz largest_first
-    rj rj_signed rj_rest rj_unchecked rj_run rj_settled plan_of plan_near plan_scaled plan_unscaled rj_positive rj_all rising rise_xy
+    rj rj_signed rj_rest rj_unchecked rj_run rj_settled plan_of plan_near plan_scaled plan_unscaled rj_positive rj_all
+    rising rise_xy
     near_zero taylor_of cubic_of quadratic_of error_of linear_of deltas_of distant largest_of
     rescaling2 rescaling3 closed_at taylor_at infinite_at settled settled_told absolute maximum minimum root rounded value fused
     of_bits add sub mul div neg lt le eq is_nan

@@ -1,31 +1,20 @@
 -- Document 01's sixteen settled examples, in its order, the last as document 02, 2026-07, has it, as one table under one
 -- statement: antt computes each from the definitions. Assumes nothing.
-use Rattle.std.specs.Prelude.{◌≡◌, refl, ℕ, List, [], ◌∷◌, Float, Ok, Err}
-use Rattle.std.specs.Float.Ieee.{of_bits, add, sub, mul, div, neg, lt, le, eq, is_nan}
+use Rattle.std.specs.Prelude.{◌≡◌, ℕ, List, [], ◌∷◌, Float, Ok, Err}
 use Rattle.refusals.specs.declared.Refusal.{Refusal}
 use Rattle.refusals.specs.declared.Refusal.TheVariants.{NanGiven, BelowZero, Zeros, ZeroGiven, RgNoResult}
 use Rattle.refusals.specs.Numbers.{refusal_number}
-use Rattle.rounding.specs.Cut.{value, rounded}
-use Rattle.binary64.specs.Leaves.{absolute, maximum, minimum}
 use Rattle.binary64.specs.Operators.{bits}
-use Rattle.root.specs.Root.{root}
-use Rattle.fused.specs.Fused.{fused}
 use Rattle.carlson.specs.Constants.{zero, one, two, three, four, half, infinity}
-use Rattle.carlson.specs.Answer.{way_of, closed_at, taylor_at, infinite_at, settled, settled_late}
-use Rattle.carlson_arguments.specs.Rescaling.{rescaling2, rescaling3}
+use Rattle.carlson.specs.Answer.{way_of}
 use Rattle.carlson.specs.declared.answer.Road.{Road}
 use Rattle.carlson.specs.declared.answer.Road.TheVariants.{Closed, Infinite, Taylor}
 use Rattle.carlson.specs.Answer.{Answer}
-use Rattle.elliprc.specs.Rc.{rc, rc_unchecked, rc_found}
-use Rattle.rc_cases.specs.Cases.{rc_steps, rc_cases, rc_at_equal}
-use Rattle.elliprf.specs.Rf.{rf, rf_unchecked, rf_steps, rf_equal, rf_zero}
-use Rattle.elliprd.specs.Rd.{rd, rd_unchecked, rd_steps, rd_ordered, rd_equal, rd_settled}
-use Rattle.sorting.specs.Sorting.{fall_xy, fall_xz, rise_xy, rise_yz, rising, largest_first}
-use Rattle.elliprg.specs.Rg.{rg, rg_unchecked, rg_steps, rg_sorted, rg_low, rg_alone, rg_settled}
-use Rattle.rj_positive.specs.Positive.{rj_all, rj_positive}
-use Rattle.rj_near_zero.specs.NearZero.{largest_of, distant, deltas_of, linear_of, error_of, quadratic_of, cubic_of, taylor_of, near_zero}
-use Rattle.elliprj.specs.Rj.{rj, rj_signed, rj_rest, rj_settled}
-use Rattle.rj_calls.specs.Run.{rj_unchecked, rj_run, plan_of, plan_near, plan_scaled, plan_unscaled}
+use Rattle.elliprc.specs.Rc.{rc}
+use Rattle.elliprf.specs.Rf.{rf}
+use Rattle.elliprd.specs.Rd.{rd}
+use Rattle.elliprg.specs.Rg.{rg}
+use Rattle.elliprj.specs.Rj.{rj}
 
 -- ---- a row: an entry, its arguments, and what it answers: a value found on a road, a refusal with its number, or any answer
 -- as it is, with its rounds
